@@ -14,7 +14,6 @@ pub struct LineToRead {
 }
 
 impl LineToRead {
-    /// Returns a line that is to be read.
     fn of(line: &Line, levels: usize) -> Self
         ensures { result ≡ to_read levels line.now }
     {
@@ -25,7 +24,6 @@ impl LineToRead {
     }
 }
 
-/// Returns lines that are to be read.
 fn lines_to_read<A: Allocator + Copy>(
     alloc: A,
     lines: &[Line],

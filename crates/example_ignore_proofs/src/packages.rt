@@ -28,7 +28,6 @@ pub type Found<A> = Answer<DirEntry<PackageStates<A>, A>, A>;
 #[derive(Clone, Copy, Debug)]
 pub struct MarksPackages;
 
-/// Returns whether an item is the manifest of a package.
 fn is_manifest<A: Allocator + Copy>(found: &Found<A>) -> bool
     ensures { result ≡ is_manifest (item found.now) }
 {
@@ -38,21 +37,18 @@ fn is_manifest<A: Allocator + Copy>(found: &Found<A>) -> bool
     }
 }
 
-/// Returns whether a list holds the manifest of a package.
 fn holds_manifest<A: Allocator + Copy>(list: &[Found<A>]) -> bool
     ensures { result ≡ list_any is_manifest (map item list.now) }
 {
     list.iter().any(|found| is_manifest(found))
 }
 
-/// Returns whether a list lies in a package, where its directory did before.
 fn lies_inside<A: Allocator + Copy>(before: bool, list: &[Found<A>]) -> bool
     ensures { result ≡ (before || list_any is_manifest (map item list.now)) }
 {
     before || holds_manifest(list)
 }
 
-/// Marks an item that is an entry.
 fn mark<A: Allocator + Copy>(found: &mut Found<A>, inside: bool)
     ensures { item found.new ≡ with_mark inside (item found.old) }
 {
@@ -61,7 +57,6 @@ fn mark<A: Allocator + Copy>(found: &mut Found<A>, inside: bool)
     }
 }
 
-/// Marks each entry of a list.
 fn mark_all<A: Allocator + Copy>(list: &mut Vec<Found<A>, A>, inside: bool)
     ensures { map item list.new.items ≡ map (with_mark inside) (map item list.old.items) }
 {

@@ -44,7 +44,6 @@ pub type Found = Answer<DirEntry<Texts>>;
 #[derive(Clone, Copy, Debug)]
 pub struct HandsOnNames;
 
-/// Whether an item is an entry that has a directory.
 fn leads_on(found: &Found) -> bool
     ensures { result ≡ has_directory (item found.now) }
 {
@@ -54,7 +53,6 @@ fn leads_on(found: &Found) -> bool
     }
 }
 
-/// Drops all but the entries that have a directory.
 fn keep_directories(list: &mut Vec<Found>)
     ensures { list.new.items ≡ filter (λ x. has_directory (item x)) list.old.items }
 {
@@ -73,7 +71,6 @@ fn hand_on(found: &mut DirEntry<Texts>, state: &Option<String>) -> Result<(), Al
     Ok(())
 }
 
-/// The same of an item.
 fn hand_on_item(found: &mut Found, state: &Option<String>) -> Result<(), AllocError>
     ensures { OnOk result (counted_item names_handed_on (item found.new)
         ≡ handed (worth_of state.now) (counted_item names_handed_on (item found.old))) }
@@ -84,7 +81,6 @@ fn hand_on_item(found: &mut Found, state: &Option<String>) -> Result<(), AllocEr
     }
 }
 
-/// The same of each item of a list.
 fn hand_on_all(list: &mut Vec<Found>, state: &Option<String>) -> Result<(), AllocError>
     ensures { OnOk result (counted_list names_handed_on list.new.items
         ≡ map (handed (worth_of state.now)) (counted_list names_handed_on list.old.items)) }

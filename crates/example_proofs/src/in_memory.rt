@@ -58,7 +58,6 @@ pub fn walk_tree_on_threads<R: Threads + Sync>(
     Ok(found)
 }
 
-/// A walk from a root that a crew is to read for, if it has a place in time.
 fn by_crew<R: Wait + Clock + Drop>(
     pool: Arc<Crew<R>>,
     busy_timeout: Option<Duration>,

@@ -45,11 +45,6 @@ impl<S: FileSystem> Drop for OwnReaders<S> {
     }
 }
 
-/// Puts directories on the stack, at the addresses of the children of `above`, the first of them on top.
-///
-/// # Errors
-///
-/// If memory runs out.
 fn put_below(
     waiting: &mut Stack,
     above: &IndexPath,
@@ -94,6 +89,8 @@ impl<S: FileSystem> Readers<States, S, NoProcess, Global> for OwnReaders<S> {
 
     ghost most = { λ _. 0 };
 
+    ghost counts = { λ _ count. count ≡ 0 };
+
     fn next(&mut self, wanted: &Wanted) -> Result<Ordered<Message<States, S, NoProcess>>, Missed> {
         let job = self.job.clone()?;
         let Some((address, of)) = self.waiting.pop() else {
@@ -118,11 +115,6 @@ impl<S: FileSystem> Readers<States, S, NoProcess, Global> for OwnReaders<S> {
     }
 }
 
-/// The readers of a walk by this job that begins with these directories.
-///
-/// # Errors
-///
-/// If memory runs out.
 fn made_for<S: FileSystem>(
     job: &Arc<TreeJob<S>>,
     roots: &Vec<ReadDirSpec<States>>,

@@ -31,7 +31,6 @@ pub fn walk_skipping<C: ClientState, S: FileSystem, A: Allocator + Copy>(
     walk_given(alloc, walk)
 }
 
-/// Returns the callback that doesn't enter `group 1`.
 fn no_group_1(alloc: Global) -> Result<SkipNames, AllocError>
     ensures { IfOk result (λ it. names_of it ≡ codes "group 1" ∷ []) }
 {

@@ -16,7 +16,6 @@ use std::alloc::Global;
 /// A line of a tree: a path, and the length of the file there, or none if it is a directory.
 type Line<'a> = (&'a str, Option<u64>);
 
-/// Adds what a line says. If the tree has room for it, only memory can run out.
 fn add_line(fs: &mut MemoryFs, path: &str, len: Option<u64>) -> Result<(), BuildError>
     ensures added { OnOk result (IsBuilt (step_at path.now len (tree_of fs.old)) (tree_of fs.new)) }
     ensures refused { IsOk (step_at path.now len (tree_of fs.old))
@@ -28,7 +27,6 @@ fn add_line(fs: &mut MemoryFs, path: &str, len: Option<u64>) -> Result<(), Build
     }
 }
 
-/// Returns the tree that lines build. If each has its place, only memory can run out.
 fn tree_by(alloc: Global, lines: &[Line<'_>]) -> Result<MemoryFs, BuildError>
     ensures built { IfOk result (λ fs. IsBuiltBy (map step_of lines.now) (tree_of fs)) }
     ensures refused { all_go only_root (map step_of lines.now) ≡ true

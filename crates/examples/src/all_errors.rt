@@ -16,7 +16,6 @@ fn small_tree(alloc: Global) -> Result<MemoryFs, BuildError> {
     Ok(tree)
 }
 
-/// Returns of what sort an error is.
 fn sort_of(error: &Error) -> &'static str {
     match error.io_error() {
         Some(cause) if cause.kind() == ErrorKind::NotFound => "not there",
@@ -37,7 +36,6 @@ fn error_of(answer: &jwalk::Result<DirEntry<((), ())>>) -> Option<&Error> {
     }
 }
 
-/// Prints each error of a walk.
 fn print_errors<S: FileSystem, W: Write>(
     alloc: Global,
     fs: &S,

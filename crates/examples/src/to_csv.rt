@@ -6,7 +6,6 @@ use jwalk::{DirEntry, Host, WalkDirGeneric};
 use std::alloc::Global;
 use std::io::Write;
 
-/// Returns the fields of a file's line.
 fn fields_of<D: FileSystem>(
     alloc: Global,
     disk: &D,

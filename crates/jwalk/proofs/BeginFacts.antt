@@ -13,3 +13,7 @@ held_view view v held (Err e) given is some value = absurd (rw is at some)
 pub by_flag : {Refused Held : Type 0} (flag : Bool) → (flag ≡ true → Refused) → (flag ≡ false → Held) → Refused ⊎ Held
 by_flag true refused held = inl (refused refl)
 by_flag false refused held = inr (held refl)
+
+pub either : {Held : Type 0} (flag : Bool) → (flag ≡ true → Held) → (flag ≡ false → Held) → Held
+either true refused held = refused refl
+either false refused held = held refl

@@ -1,5 +1,5 @@
 -- How a builder's walk begins where a crew may read for it.
-use Rattle.std.proofs.Common.{◌≡◌, ◌≤◌, ◌∙◌, ◌⊎◌, ◌+◌, ℕ, true, List, Option, Some, None, Result, Ok, Err, IfOk, IfSome, IsSome, IsSomeAnd, inl, inr, refl, sym, ap, subst, arith}
+use Rattle.std.proofs.Common.{◌≡◌, ◌≤◌, ◌∙◌, ◌⊎◌, ◌+◌, ℕ, true, List, length, Option, Some, None, Result, Ok, Err, IfOk, IfSome, IsSome, IsSomeAnd, inl, inr, refl, sym, ap, subst, arith}
 use Rattle.std.specs.Prelude.{option_map}
 use Rattle.std.specs.Result.{result_ok}
 use Rattle.std.specs.declared.clone.Clone as Clone
@@ -17,7 +17,7 @@ use Rattle.jwalk_job.specs.declared.job.Job.{Job}
 use Rattle.jwalk_job.specs.declared.read_dir.ReadDir.{ReadDir}
 use Rattle.jwalk_job.specs.ReadDir.{reading}
 use Rattle.jwalk_job.specs.Options.{width_of}
-use Rattle.jwalk_job.specs.Given.{Given, counted_reading}
+use Rattle.jwalk_job.specs.Given.{Given, counted_reading, KeepsLists}
 use Rattle.jwalk_job.specs.Job as job
 use Rattle.jwalk_job.specs.Job.{file_system, callback, job_by, IsSteady}
 use Rattle.tree_crew.specs.declared.crew.NotStarted.{NotStarted}
@@ -25,7 +25,7 @@ use Rattle.tree_crew.specs.declared.crew.NotStarted.TheVariants.{Busy, Memory}
 use Rattle.jwalk_core.specs.DirEntryIter.{by_crew, held_by}
 use Rattle.jwalk_core.specs.CrewReads.{start_failure}
 use Rattle.jwalk.specs.CrewStart.{HoldsList, IsFromRoot}
-use Rattle.jwalk.specs.WalkDir.{file_system_of, callback_of, root_of, state_of, options_of, job_for, Starts, HoldsBusy, HoldsUnless, Begins}
+use Rattle.jwalk.specs.WalkDir.{file_system_of, callback_of, root_of, state_of, options_of, job_for, Starts, HoldsOne, HoldsBusy, HoldsUnless, Begins}
 use Rattle.jwalk_core.specs.declared.dir_entry_iter.DirEntryIter.{DirEntryIter}
 use Rattle.jwalk.specs.declared.walk_dir.WalkDirGeneric.{WalkDirGeneric}
 
@@ -96,6 +96,10 @@ module _ {C S P A W L R E : Type 0} (files : FileSystem.Ghosts S) (process : Pro
       width = is.width ∙ ap (λ o. width_of o.parallelism) options;
       ahead = is.ahead;
     }
+
+    -- it holds one item where the callback keeps lists
+    pub one_from_root : (made : (given : Given R E) → process.Makes (callback begun) given → KeepsLists given.processed → IfSome read (λ r. length r.list ≡ 1)) → HoldsOne process walk it
+    one_from_root made given makes keeps = is.one (made given (rw by makes) keeps)
 
     -- and begins with its root's list
     pub begins_from_root : IsRootList read → ((options_of walk).parallelism ≡ crew → IsSome walk.crew → (why_not ≡ Some Memory) ⊎ (by_crew it ≡ true)) → Begins files process clone defaults walk why_not it

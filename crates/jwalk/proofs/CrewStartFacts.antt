@@ -1,7 +1,8 @@
 -- How a walk over a crew begins.
-use Rattle.std.proofs.Common.{◌≡◌, ◌≤◌, ◌∙◌, ◌⊎◌, ℕ, max, Bool, true, false, List, [], ◌∷◌, map, length, Option, Some, None, is_some, Result, Ok, Err, OnOk, OnErr, IfSome, IsSomeAnd, inl, inr, refl, sym, ap, subst, arith}
+use Rattle.std.proofs.Common.{◌≡◌, ◌≤◌, ◌∙◌, ◌⊎◌, ℕ, suc, max, Bool, true, false, List, [], ◌∷◌, map, length, Option, Some, None, is_some, Result, Ok, Err, OnOk, OnErr, IfSome, IsSomeAnd, inl, inr, refl, sym, ap, subst, arith}
 use Rattle.std.specs.Prelude.{option_map, if◌then◌else◌}
 use Rattle.std.specs.Result.{result_err}
+use Rattle.std.proofs.lemmas.List.{length-map}
 use Rattle.std.specs.declared.clone.Clone as Clone
 use Rattle.std.specs.declared.default.Default as Default
 use Rattle.jwalk_model.specs.Error.{memory, busy}
@@ -71,6 +72,11 @@ module _ {R E : Type 0} where
         | false ↦ ap (λ t. record { item = x; source = nothing } ∷ t) (unread_pairs l)
       ]
 
+  -- each item is in one pair
+  pub pairs_count : (l : List (Item R E)) (specs : List (Spec R)) → length (pair_up l specs) ≡ length l
+  pairs_count [] specs = refl
+  pairs_count (x ∷ l) specs = ap suc (pairs_count l (after_first (has_directory x) specs))
+
   busy_pairs : (l : List (Item R E)) → ◌≡◌ {A = List (Pair R E)} (map (λ x. record { item = x; source = nothing }) (map busied l)) (map busy_pair l)
   busy_pairs [] = refl
   busy_pairs (x ∷ l) = ap (λ t. busy_pair x ∷ t) (busy_pairs l)
@@ -114,6 +120,13 @@ module _ {C S P A L R E : Type 0} where
     begun_refused None it begun = record { tells = holds_refusal it begun.1 begun.2; nothing_unread = begun.3 }
     begun_refused (Some r) it begun = record { tells = holds_refusal it begun.0 begun.1; nothing_unread = begun.2 }
 
+    -- a list of one item leaves one item
+    begun_one : (read : Option (Reading R E)) (why_not : Option NotStarted) (it : DirEntryIter C S P A L R E) → IsBegun clone read why_not it → IfSome read (λ r. length r.list ≡ 1) → length (held it) ≡ 1
+    begun_one None why_not it begun one = ap length (holds_refusal it begun.1 begun.2)
+    begun_one (Some r) None it begun one = ap length (holds_started it begun.0) ∙ pairs_count (items_of it) (unread_of it) ∙ ap length begun.1 ∙ one
+    begun_one (Some r) (Some Busy) it begun one = ap length (holds_started it begun.0) ∙ pairs_count (items_of it) (unread_of it) ∙ ap length begun.1 ∙ length-map r.list busied ∙ one
+    begun_one (Some r) (Some Memory) it begun one = ap length (holds_refusal it begun.0 begun.1)
+
     -- where the readings began, it holds the root's list
     pub begun_holds : (given : Given R E) (read : Option (Reading R E)) (it : DirEntryIter C S P A L R E) → ClonesCount clone given → IsBegun clone read None it → IsSomeAnd read (λ r. held_by given it ≡ paired (counted_reading given r))
     begun_holds given None it counts begun = absurd (let no : ◌≡◌ {A = Option NotStarted} None (Some Memory) = begun.0 in cc)
@@ -154,6 +167,7 @@ module _ {C S P A L R E : Type 0} where
           width = width;
           ahead = λ alone. ahead;
           holds = refusal;
+          one = λ one. ap length refusal.tells;
           busy = λ is. absurd cc;
           by = λ is. absurd (let no : false ≡ true = sym own ∙ is in cc);
         }
@@ -168,13 +182,14 @@ module _ {C S P A L R E : Type 0} where
       width = crew_width it by ∙ sym (ap options.width_of mode);
       ahead = λ alone. absurd (let no : false ≡ true = sym alone ∙ by in cc);
       holds = begun_list clone read why_not it depth is;
+      one = begun_one clone read why_not it is;
       busy = λ busy. mode;
       by = λ by. mode;
     }
 
     -- one that reads by itself
-    pub alone_from_root : (why_not : Option NotStarted) → by_crew it ≡ false → ¬ (why_not ≡ Some Busy) → job_of it ≡ begun → IsWithin it → IsSourced it → IsRefused it ⊎ AtDepth 0 (items_of it) → width_of it ≡ options.width_of (options_of begun).parallelism → BeginsWith (unread_of it) (frontier_of it) (read_ahead it) → HoldsList clone read why_not it → IsFromRoot clone read begun why_not it
-    alone_from_root why_not own not_busy job within sourced start width ahead holds = record {
+    pub alone_from_root : (why_not : Option NotStarted) → by_crew it ≡ false → ¬ (why_not ≡ Some Busy) → job_of it ≡ begun → IsWithin it → IsSourced it → IsRefused it ⊎ AtDepth 0 (items_of it) → width_of it ≡ options.width_of (options_of begun).parallelism → BeginsWith (unread_of it) (frontier_of it) (read_ahead it) → HoldsList clone read why_not it → (IfSome read (λ r. length r.list ≡ 1) → length (held it) ≡ 1) → IsFromRoot clone read begun why_not it
+    alone_from_root why_not own not_busy job within sourced start width ahead holds one = record {
       job = job;
       within = within;
       sourced = sourced;
@@ -182,6 +197,7 @@ module _ {C S P A L R E : Type 0} where
       width = width;
       ahead = λ alone. ahead;
       holds = holds;
+      one = one;
       busy = λ is. absurd (not_busy is);
       by = λ is. absurd (let no : false ≡ true = sym own ∙ is in cc);
     }
@@ -194,6 +210,14 @@ if_some_map view P (Some x) h = h
 some_and_map : {X Y : Type 0} (view : X → Y) (P : Y → Type 0) (o : Option X) → IsSomeAnd o (λ x. P (view x)) → IsSomeAnd (option_map view o) P
 some_and_map view P None h = h
 some_and_map view P (Some x) h = h
+
+-- a walk that reads by itself and didn't run out of memory holds as many items as the root's list has
+pub held_count : {C S P A L R E : Type 0} (read : Option (Reading R E)) (it : DirEntryIter C S P A L R E) → is_refused it ≡ false → IsSomeAnd read (λ r. items_of it ≡ r.list) → IfSome read (λ r. length r.list ≡ 1) → length (held it) ≡ 1
+held_count None it started is one = absurd is
+held_count (Some r) it started is one = ap length (holds_started it started) ∙ pairs_count (items_of it) (unread_of it) ∙ ap length is ∙ one
+
+pub list_of : {C S P A L R E : Type 0} (read : Option (ReadDir C A R E)) (it : DirEntryIter C S P A L R E) → IsSomeAnd read (λ r. items_of it ≡ (reading r).list) → IsSomeAnd (option_map reading read) (λ r. items_of it ≡ r.list)
+list_of read it h = some_and_map reading (λ r. items_of it ≡ r.list) read h
 
 pub held_of : {C S P A L R E : Type 0} (given : Given R E) (read : Option (ReadDir C A R E)) (it : DirEntryIter C S P A L R E) → IsSomeAnd read (λ r. held_by given it ≡ paired (counted_reading given (reading r))) → IsSomeAnd (option_map reading read) (λ r. held_by given it ≡ paired (counted_reading given r))
 held_of given read it h = some_and_map reading (λ r. held_by given it ≡ paired (counted_reading given r)) read h

@@ -1,5 +1,5 @@
 -- How a walk over a crew begins.
-use Rattle.std.specs.Prelude.{◌≡◌, ◌⊎◌, Bool, true, false, is_some, if◌then◌else◌, List, [], map, Option, Some, None, IsSomeAnd, MatchOption, Ok, Err}
+use Rattle.std.specs.Prelude.{◌≡◌, ◌⊎◌, Bool, true, false, is_some, if◌then◌else◌, List, [], map, length, Option, Some, None, IfSome, IsSomeAnd, MatchOption, Ok, Err}
 use Rattle.std.specs.declared.clone.Clone as Clone
 use Rattle.jwalk_model.specs.Error.{busy}
 use Rattle.jwalk_model.specs.Entry.{Item, AtDepth}
@@ -56,7 +56,7 @@ module _ {C S P A L R E : Type 0} (clone : Clone.Ghosts R) (read : Option (Readi
   HoldsList (Some Busy) it = IsSomeAnd read (λ r. AtDepth 0 r.list × (held it ≡ map busy_pair r.list))
   HoldsList (Some Memory) it = IsRefused it
 
-  -- The walk of a job that begins with a root's list. It holds no entry that is too deep, and what it has to read are the directories of what it holds. Where no crew reads, only these are queued, in order, and are to be entered, and none is read yet. Only a walk that a crew is to read for finds the crew busy.
+  -- The walk of a job that begins with a root's list. It holds no entry that is too deep, and what it has to read are the directories of what it holds. Where no crew reads, only these are queued, in order, and are to be entered, and none is read yet. Only a walk that a crew is to read for finds the crew busy. Where the list has one item, it holds one: that, or an error.
   pub record IsFromRoot (begun : Job C S P A R E) (why_not : Option NotStarted) (it : DirEntryIter C S P A L R E) : Type 0 where
     pub job : job_of it ≡ begun
     pub within : IsWithin it
@@ -65,5 +65,6 @@ module _ {C S P A L R E : Type 0} (clone : Clone.Ghosts R) (read : Option (Readi
     pub width : width_of it ≡ options.width_of (options_of begun).parallelism
     pub ahead : by_crew it ≡ false → BeginsWith (unread_of it) (frontier_of it) (read_ahead it)
     pub holds : HoldsList why_not it
+    pub one : IfSome read (λ r. length r.list ≡ 1) → length (held it) ≡ 1
     pub busy : why_not ≡ Some Busy → (options_of begun).parallelism ≡ crew
     pub by : by_crew it ≡ true → (options_of begun).parallelism ≡ crew

@@ -1,5 +1,5 @@
 -- A walk as its builder describes it.
-use Rattle.std.specs.Prelude.{◌≡◌, ◌⊎◌, ◌≤◌, ◌+◌, ℕ, true, false, List, [], ◌∷◌, map, Option, Some, None, IfSome, IsSome, Result, Ok, Err, string_bytes}
+use Rattle.std.specs.Prelude.{◌≡◌, ◌⊎◌, ◌≤◌, ◌+◌, ℕ, true, false, List, [], ◌∷◌, map, length, Option, Some, None, IfSome, IsSome, Result, Ok, Err, string_bytes}
 use Rattle.std.specs.Arc.{arc_value}
 use Rattle.std.specs.declared.clone.Clone as Clone
 use Rattle.std.specs.declared.default.Default as Default
@@ -17,7 +17,7 @@ use Rattle.jwalk_job.specs.declared.error.Error.{Error}
 use Rattle.jwalk_job.specs.declared.dir_entry.DirEntry.{DirEntry}
 use Rattle.jwalk_job.specs.Entry.{item}
 use Rattle.jwalk_job.specs.Options.{options_value, width_of}
-use Rattle.jwalk_job.specs.Given.{Given, counted_item}
+use Rattle.jwalk_job.specs.Given.{Given, counted_item, KeepsLists}
 use Rattle.jwalk_job.specs.Job as job
 use Rattle.jwalk_job.specs.Job.{file_system, callback, IsSteady}
 use Rattle.jwalk_core.specs.ReadAhead.{BeginsWith}
@@ -158,6 +158,10 @@ module _ {C S P A W R E : Type 0} where
 -- A walk's crew keeps its bound: at most one reading more is made and not handed on.
 abbrev pub KeepsBound : {H C S P A L R E : Type 0} → Readers.Ghosts L C S P A R E → WalkDirGeneric C S P A (Crew H) R E → DirEntryIter C S P A L R E → Type 0
 KeepsBound readers walk it = IfSome walk.crew (λ own. iter.most_ahead readers it ≤ limit_of (arc_value own.0) + 1)
+
+-- The callback leaves lists as they are, so that the walk holds one item: the root's, or the error that it began with.
+abbrev pub HoldsOne : {C S P A W L R E : Type 0} → ProcessReadDir.Ghosts P C A R E → WalkDirGeneric C S P A W R E → DirEntryIter C S P A L R E → Type 0
+HoldsOne {R = R} {E = E} process walk it = (given : Given R E) → process.Makes (callback_of walk) given → KeepsLists given.processed → length (held it) ≡ 1
 
 module _ {C S P A W L R E : Type 0} (files : FileSystem.Ghosts S) (process : ProcessReadDir.Ghosts P C A R E) (clone : Clone.Ghosts R) (defaults : Default.Ghosts E) where
   -- The iterator holds the root's list.

@@ -7,6 +7,7 @@ pub use jwalk_callbacks::size::Size;
 pub use jwalk_callbacks::skip_names::SkipNames;
 pub use jwalk_callbacks::with_sizes::WithSizes;
 pub use jwalk_job::ancestors::Ancestors;
+pub use jwalk_job::item::{Item, List};
 pub use jwalk_job::job::Job;
 pub use jwalk_job::mode::Mode;
 pub use jwalk_job::options::Options;

@@ -19,6 +19,7 @@ use jwalk_fs::file_system::FileSystem;
 use jwalk_job::client_state::ClientState;
 use jwalk_job::dir_entry::DirEntry;
 use jwalk_job::error::Error;
+use jwalk_job::item::Item;
 use jwalk_job::job::Job;
 use jwalk_job::options::Options;
 use jwalk_job::process_read_dir::{NoProcess, ProcessReadDir};
@@ -80,7 +81,6 @@ impl<C: ClientState, S: FileSystem, A: Allocator + Copy, W: Drop> WalkDirGeneric
     ghost use Rattle.jwalk_model.specs.Options.{defaults};
     ghost use Rattle.jwalk.specs.WalkDir.{file_system_of, root_of, state_of, options_of};
 
-    /// Returns a walk whose crew, if it has one, is set later.
     fn with_no_options(fs: S, root: String<A>) -> Self
         ensures file_system { file_system_of result ≡ fs }
         ensures root { root_of result ≡ string_bytes root }
@@ -279,10 +279,9 @@ impl<C: ClientState, S: FileSystem, P: ProcessReadDir<C, A>, A: Allocator + Copy
     A,
     NoCrew,
 > {
-    ghost use Rattle.jwalk.specs.WalkDir.{callback_of, Starts, Holds};
+    ghost use Rattle.jwalk.specs.WalkDir.{callback_of, Starts, Holds, HoldsOne};
     ghost use Rattle.jwalk_core.specs.DirEntryIter.{by_crew, is_refused, IsRefused};
 
-    /// Begins the walk, whether memory runs out or not.
     fn begin(self) -> DirEntryIter<C, S, P, A>
         requires { P.IsLawful (callback_of self) }
         ensures own { by_crew result ≡ false }
@@ -290,6 +289,7 @@ impl<C: ClientState, S: FileSystem, P: ProcessReadDir<C, A>, A: Allocator + Copy
         ensures holds { is_refused result ≡ false
             → Holds S.FileSystem P.ProcessReadDir C.ReadDirState.Clone C.DirEntryState.Default self result }
         ensures refused { is_refused result ≡ true → IsRefused result }
+        ensures one { HoldsOne P.ProcessReadDir self result }
     {
         let alloc = *self.root.allocator();
         let WalkDirGeneric {
@@ -316,6 +316,7 @@ impl<C: ClientState, S: FileSystem, P: ProcessReadDir<C, A>, A: Allocator + Copy
         ensures starts { IfOk result (Starts self) }
         ensures holds { IfOk result (Holds S.FileSystem P.ProcessReadDir C.ReadDirState.Clone
             C.DirEntryState.Default self) }
+        ensures one { IfOk result (HoldsOne P.ProcessReadDir self) }
         ensures memory { IfErr result (λ error. failure error ≡ memory) }
     {
         let walk = self.begin();
@@ -334,6 +335,7 @@ impl<C: ClientState, S: FileSystem, P: ProcessReadDir<C, A>, A: Allocator + Copy
         ensures starts { Starts self result }
         ensures holds { IsRefused result
             ⊎ Holds S.FileSystem P.ProcessReadDir C.ReadDirState.Clone C.DirEntryState.Default self result }
+        ensures one { HoldsOne P.ProcessReadDir self result }
     {
         self.begin()
     }
@@ -386,7 +388,7 @@ impl<C: ClientState, S: FileSystem, P: ProcessReadDir<C, Global>, W: Drop> WalkD
 
 impl<C: ClientState, S: FileSystem, A: Allocator + Copy> IntoIterator
     for WalkDirGeneric<C, S, NoProcess, A> {
-    type Item = Result<DirEntry<C, A>, Error<A>>;
+    type Item = Item<C, A>;
 
     type IntoIter = DirEntryIter<C, S, NoProcess, A>;
 

@@ -1,7 +1,6 @@
 //! Two callbacks, one after the other.
 use jwalk_job::client_state::ClientState;
-use jwalk_job::dir_entry::DirEntry;
-use jwalk_job::error::Error;
+use jwalk_job::item::List;
 use jwalk_job::process_read_dir::ProcessReadDir;
 use std::alloc::{AllocError, Allocator};
 
@@ -54,7 +53,7 @@ impl<
         depth: Option<usize>,
         path: &str,
         state: &mut C::ReadDirState,
-        list: &mut Vec<Result<DirEntry<C, A>, Error<A>>, A>,
+        list: &mut List<C, A>,
     ) -> Result<(), AllocError> {
         let Both { first, second } = self;
         first.process(depth, path, state, list)?;

@@ -6,8 +6,7 @@ ghost use Rattle.jwalk_callbacks.specs.ByFn.{is_at};
 
 use crate::calls::{Calls, Closure};
 use jwalk_job::client_state::ClientState;
-use jwalk_job::dir_entry::DirEntry;
-use jwalk_job::error::Error;
+use jwalk_job::item::{Item, List};
 use jwalk_job::process_read_dir::ProcessReadDir;
 use std::alloc::{AllocError, Allocator};
 
@@ -53,10 +52,7 @@ fn depth_below(depth: Option<usize>) -> usize
 }
 
 /// Returns whether an item is an error or an entry at this depth.
-fn stands_at<C: ClientState, A: Allocator + Copy>(
-    depth: usize,
-    found: &Result<DirEntry<C, A>, Error<A>>,
-) -> bool
+fn stands_at<C: ClientState, A: Allocator + Copy>(depth: usize, found: &Item<C, A>) -> bool
     ensures { result ≡ is_at depth (item found.now) }
 {
     match found {
@@ -65,21 +61,16 @@ fn stands_at<C: ClientState, A: Allocator + Copy>(
     }
 }
 
-/// Drops the entries at other depths.
-fn keep_depth<C: ClientState, A: Allocator + Copy>(
-    list: &mut Vec<Result<DirEntry<C, A>, Error<A>>, A>,
-    depth: usize,
-)
+fn keep_depth<C: ClientState, A: Allocator + Copy>(list: &mut List<C, A>, depth: usize)
     ensures { list.new.items ≡ filter (λ x. is_at depth (item x)) list.old.items }
 {
     list.retain(|found| stands_at(depth, found));
 }
 
-impl<
-    C: ClientState,
-    A: Allocator + Copy,
-    K: Calls<C::ReadDirState, Vec<Result<DirEntry<C, A>, Error<A>>, A>>,
-> ProcessReadDir<C, A> for ByFn<K> {
+impl<C: ClientState, A: Allocator + Copy, K: Calls<C::ReadDirState, List<C, A>>> ProcessReadDir<
+    C,
+    A,
+> for ByFn<K> {
     ghost use Rattle.std.specs.Prelude.{map, OnOk};
     ghost use Rattle.jwalk_model.specs.Entry.{AtDepth};
     ghost use Rattle.jwalk_job.specs.Given.{IsProcessed};
@@ -94,7 +85,7 @@ impl<
         depth: Option<usize>,
         path: &str,
         state: &mut C::ReadDirState,
-        list: &mut Vec<Result<DirEntry<C, A>, Error<A>>, A>,
+        list: &mut List<C, A>,
     ) -> Result<(), AllocError>
         requires lawful { K.IsCallable (call_of self.now) }
         requires fits { list_depth depth < 2 ^ 64 }

@@ -34,7 +34,6 @@ pub struct Closure<F> {
 impl<F> Closure<F> {
     ghost use Rattle.std.specs.Prelude.{◌≡◌};
 
-    /// Returns this closure, kept.
     pub(crate) fn new(f: F) -> Self
         ensures { result.f ≡ f }
     {

@@ -4,8 +4,7 @@ ghost use Rattle.jwalk_job.specs.Entry.{item};
 ghost use Rattle.jwalk_callbacks.specs.FilterEntry.{IsAnswered, IsFilteredBy};
 
 use jwalk_job::client_state::ClientState;
-use jwalk_job::dir_entry::DirEntry;
-use jwalk_job::error::Error;
+use jwalk_job::item::{Item, List};
 use jwalk_job::process_read_dir::ProcessReadDir;
 use jwalk_model::file_type::FileType;
 use std::alloc::{AllocError, Allocator};
@@ -49,7 +48,7 @@ impl<F> FilterEntry<F> {
 /// Returns whether an item is an error, or an entry that passes.
 fn passes<C: ClientState, A: Allocator + Copy, F: Fn(usize, &str, FileType) -> bool>(
     test: &F,
-    found: &Result<DirEntry<C, A>, Error<A>>,
+    found: &Item<C, A>,
 ) -> bool
     requires { F.IsAlwaysCallable test.now }
     ensures { IsAnswered (F.post test.now) (item found.now) result }
@@ -60,10 +59,9 @@ fn passes<C: ClientState, A: Allocator + Copy, F: Fn(usize, &str, FileType) -> b
     }
 }
 
-/// Drops the entries that don't pass.
 fn keep<C: ClientState, A: Allocator + Copy, F: Fn(usize, &str, FileType) -> bool>(
     test: &F,
-    list: &mut Vec<Result<DirEntry<C, A>, Error<A>>, A>,
+    list: &mut List<C, A>,
 )
     requires { F.IsAlwaysCallable test.now }
     ensures { IsFilteredBy (F.post test.now) (map item list.old.items) (map item list.new.items) }
@@ -88,7 +86,7 @@ impl<
         depth: Option<usize>,
         _path: &str,
         _state: &mut C::ReadDirState,
-        list: &mut Vec<Result<DirEntry<C, A>, Error<A>>, A>,
+        list: &mut List<C, A>,
     ) -> Result<(), AllocError>
         requires { F.IsAlwaysCallable (test_of self.now) }
         ensures never_refuses { IsOk result }

@@ -4,8 +4,7 @@ ghost use Rattle.jwalk_job.specs.Entry.{item};
 ghost use Rattle.jwalk_callbacks.specs.SkipNames.{is_one_of, skipped_item};
 
 use jwalk_job::client_state::ClientState;
-use jwalk_job::dir_entry::DirEntry;
-use jwalk_job::error::Error;
+use jwalk_job::item::{Item, List};
 use jwalk_job::process_read_dir::ProcessReadDir;
 use std::alloc::{AllocError, Allocator, Global};
 
@@ -42,7 +41,6 @@ impl<A: Allocator + Copy> SkipNames<A> {
     }
 }
 
-/// Returns whether a name is one of these.
 fn is_listed<A: Allocator + Copy>(names: &[String<A>], name: &str) -> bool
     ensures { result ≡ is_one_of (map string_bytes names.now) name.now }
 {
@@ -50,10 +48,7 @@ fn is_listed<A: Allocator + Copy>(names: &[String<A>], name: &str) -> bool
 }
 
 /// Takes the directory away from an entry of one of these names.
-fn skip<C: ClientState, A: Allocator + Copy>(
-    names: &[String<A>],
-    found: &mut Result<DirEntry<C, A>, Error<A>>,
-)
+fn skip<C: ClientState, A: Allocator + Copy>(names: &[String<A>], found: &mut Item<C, A>)
     ensures { item found.new ≡ skipped_item (map string_bytes names.now) (item found.old) }
 {
     if let Ok(entry) = found
@@ -63,11 +58,7 @@ fn skip<C: ClientState, A: Allocator + Copy>(
     }
 }
 
-/// Takes the directories away from all entries of these names.
-fn skip_all<C: ClientState, A: Allocator + Copy>(
-    names: &[String<A>],
-    list: &mut Vec<Result<DirEntry<C, A>, Error<A>>, A>,
-)
+fn skip_all<C: ClientState, A: Allocator + Copy>(names: &[String<A>], list: &mut List<C, A>)
     ensures { map item list.new.items ≡ map (skipped_item (map string_bytes names.now)) (map item list.old.items) }
 {
     for found in list.iter_mut() {
@@ -88,7 +79,7 @@ impl<C: ClientState, A: Allocator + Copy> ProcessReadDir<C, A> for SkipNames<A> 
         depth: Option<usize>,
         _path: &str,
         _state: &mut C::ReadDirState,
-        list: &mut Vec<Result<DirEntry<C, A>, Error<A>>, A>,
+        list: &mut List<C, A>,
     ) -> Result<(), AllocError>
         ensures never_refuses { IsOk result }
         ensures state { _state.new ≡ _state.old }

@@ -45,7 +45,6 @@ impl<S: FileSystem> WithSizes<S> {
     }
 }
 
-/// Returns what a file system has of the length of the file at an entry's path.
 fn size_of<C: ClientState, A: Allocator + Copy, S: FileSystem>(
     fs: &S,
     file: &DirEntry<C, A>,
@@ -77,7 +76,6 @@ fn ask<B: Clone + Default + Debug + Drop, A: Allocator + Copy, S: FileSystem>(
     Ok(())
 }
 
-/// Asks for the length of each file of a list.
 fn ask_all<B: Clone + Default + Debug + Drop, A: Allocator + Copy, S: FileSystem>(
     fs: &S,
     list: &mut Vec<Result<DirEntry<(B, Size), A>, Error<A>>, A>,

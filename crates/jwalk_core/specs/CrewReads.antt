@@ -94,6 +94,11 @@ abbrev pub most_ready : {L : Type 0} → (L → ℕ) → Option L → ℕ
 most_ready most None = 0
 most_ready most (Some readers) = most readers
 
+-- what is known of a number of readings that readers have made and not handed on: there are none where there are no readers
+abbrev pub CountsReady : {L : Type 0} → (L → ℕ → Type 0) → Option L → ℕ → Type 0
+CountsReady counts None count = count ≡ 0
+CountsReady counts (Some readers) count = counts readers count
+
 -- Readers are made for a walk, and still have to give the readings at these addresses.
 abbrev pub IsMadeFor : {C S P A L R E : Type 0} → Readers.Ghosts L C S P A R E → L → Origin C S P A R E → List (List ℕ) → Type 0
 IsMadeFor readers p origin addresses = readers.comes_from p origin × (readers.awaits p ≡ addresses)
@@ -106,6 +111,10 @@ pub record BeginsBy {C S P A L R E : Type 0} (made : L → Origin C S P A R E �
 -- at most how many of a crew's readings are made and not handed on: none once they were stopped
 abbrev pub most_ahead : {C S P A L R E : Type 0} → Readers.Ghosts L C S P A R E → CrewReads C S P A L R E → ℕ
 most_ahead readers it = most_ready readers.most it.readers
+
+-- the number of them is what the readers counted
+abbrev pub CountsAhead : {C S P A L R E : Type 0} → Readers.Ghosts L C S P A R E → CrewReads C S P A L R E → ℕ → Type 0
+CountsAhead readers it count = CountsReady readers.counts it.readers count
 
 module _ {C S P A L R E : Type 0} (files : FileSystem.Ghosts S) (process : ProcessReadDir.Ghosts P C A R E) (clone : Clone.Ghosts R) (defaults : Default.Ghosts E) (readers : Readers.Ghosts L C S P A R E) where
   -- What readers give at these addresses are readings of these directories, over what is given. The job is steady and makes the readers' readings, which come at these addresses. These directories are there, below those that the readers began with.

@@ -192,6 +192,10 @@ module _ {C S P A L R E : Type 0} where
 abbrev pub most_ahead : {C S P A L R E : Type 0} → Readers.Ghosts L C S P A R E → DirEntryIter C S P A L R E → ℕ
 most_ahead readers it = readings.most_ahead readers it.reads
 
+-- a crew's number of them is what its readers counted
+abbrev pub CountsAhead : {C S P A L R E : Type 0} → Readers.Ghosts L C S P A R E → DirEntryIter C S P A L R E → ℕ → Type 0
+CountsAhead readers it count = readings.CountsAhead readers it.reads count
+
 module _ {C S P A L R E : Type 0} (files : FileSystem.Ghosts S) (process : ProcessReadDir.Ghosts P C A R E) (clone : Clone.Ghosts R) (defaults : Default.Ghosts E) (readers : Readers.Ghosts L C S P A R E) where
   -- A walk is steady over what is given: its job is, and what it read ahead, or its crew gives, is what the definition gives. A crew's readings are those of the directories below its items.
   pub record IsSteadyWalk (it : DirEntryIter C S P A L R E) (given : Given R E) : Type 0 where

@@ -1,5 +1,6 @@
 pub mod Message
 pub mod Wanted
+pub mod Arrival
 pub mod Origin
 pub mod Due
 pub mod Session

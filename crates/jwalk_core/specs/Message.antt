@@ -1,5 +1,5 @@
 -- A reading by a worker as a value, and what holds of it.
-use Rattle.std.specs.Prelude.{Result, IfOk}
+use Rattle.std.specs.Prelude.{Bool, Result, is_err, IfOk}
 use Rattle.std.specs.declared.alloc.AllocError.{AllocError}
 use Rattle.std.specs.declared.clone.Clone as Clone
 use Rattle.std.specs.declared.default.Default as Default
@@ -19,6 +19,10 @@ pub record Message (C S P A R E : Type 0) : Type 0 where
   pub job : Job C S P A R E
   pub of : ReadDirSpec C A R E
   pub outcome : Result (Result (ReadDir C A R E) (Error A)) AllocError
+
+-- whether memory ran out for it
+abbrev pub ran_out : {C S P A R E : Type 0} → Message C S P A R E → Bool
+ran_out m = is_err m.outcome
 
 -- a message of a crew whose plan is a job
 abbrev pub Told : (C S P A R E : Type 0) → Type 0

@@ -72,6 +72,11 @@ abbrev pub most_ahead : {C S P A L R E : Type 0} → Readers.Ghosts L C S P A R 
 most_ahead readers (Walk walk) = 0
 most_ahead readers (CrewWalk reads) = crew.most_ahead readers reads
 
+-- a crew's number of them is what its readers counted
+abbrev pub CountsAhead : {C S P A L R E : Type 0} → Readers.Ghosts L C S P A R E → ReadDirIter C S P A L R E → ℕ → Type 0
+CountsAhead readers (Walk walk) count = Unit {0}
+CountsAhead readers (CrewWalk reads) count = crew.CountsAhead readers reads count
+
 -- The error says why the readings end early: memory ran out, or a crew's reading won't come.
 abbrev pub Tells : Bool → Failure → Type 0
 Tells false f = f ≡ memory

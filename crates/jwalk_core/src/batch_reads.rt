@@ -49,7 +49,6 @@ impl<C: ClientState, S: FileSystem, P: ProcessReadDir<C, A>, A: Allocator + Copy
 > {
     ghost use Rattle.jwalk_core.specs.BatchReads.{to_read, early_of, read_ahead, frontier_of, next_of, PassesAddress, IsSteadyBatches, StaysSteady};
 
-    /// Returns readings with nothing to read yet, which are to be made of that many directories together.
     pub(crate) fn new(alloc: A, job: Job<C, S, P, A>, width: usize) -> Self
         requires { 1 ≤ width }
         ensures job { result.job ≡ job }
@@ -64,11 +63,6 @@ impl<C: ClientState, S: FileSystem, P: ProcessReadDir<C, A>, A: Allocator + Copy
         }
     }
 
-    /// Begins anew, with these directories to read and what is below them.
-    ///
-    /// # Errors
-    ///
-    /// If memory runs out. Then nothing is left to be read.
     pub(crate) fn begin(&mut self, roots: Vec<ReadDirSpec<C, A>, A>) -> Result<(), AllocError>
         ensures job { self.new.job ≡ self.old.job }
         ensures width { self.new.width ≡ self.old.width }
@@ -106,7 +100,6 @@ impl<C: ClientState, S: FileSystem, P: ProcessReadDir<C, A>, A: Allocator + Copy
         Ok(reads)
     }
 
-    /// Returns the job that reads.
     pub(crate) fn job(&self) -> &Job<C, S, P, A>
         ensures { result.now ≡ self.now.job }
     {
@@ -149,7 +142,6 @@ impl<C: ClientState, S: FileSystem, P: ProcessReadDir<C, A>, A: Allocator + Copy
         self.walk.ahead()
     }
 
-    /// Drops what is not read yet, and what was read early.
     pub(crate) fn stop(&mut self)
         ensures job { self.new.job ≡ self.old.job }
         ensures width { self.new.width ≡ self.old.width }

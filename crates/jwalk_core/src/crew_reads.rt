@@ -9,7 +9,7 @@ ghost use Rattle.jwalk_job.specs.ReadDirSpec.{spec};
 ghost use Rattle.jwalk_job.specs.ReadDir.{outcome};
 ghost use Rattle.jwalk_core.specs.Reads.{StacksChildren};
 ghost use Rattle.jwalk_core.specs.BatchReads.{PassesAddress};
-ghost use Rattle.jwalk_core.specs.CrewReads.{job_of, to_read, frontier_of, next_address, IsBelow, IsNextBelow, IsTold, BeginsBy, NotLost, most_ahead, IsSteadyBefore, IsSteadyCrew, StartsSteady, StaysSteady, ReadsSteadily, IsReportedFor, IsGivenFor, StaysSteadyAfter, IsNotLostFirst, failure_of};
+ghost use Rattle.jwalk_core.specs.CrewReads.{job_of, to_read, frontier_of, next_address, IsBelow, IsNextBelow, IsTold, BeginsBy, NotLost, most_ahead, CountsAhead, IsSteadyBefore, IsSteadyCrew, StartsSteady, StaysSteady, ReadsSteadily, IsReportedFor, IsGivenFor, StaysSteadyAfter, IsNotLostFirst, failure_of};
 ghost use Rattle.jwalk_core.specs.ReadDirIter.{CrewReadsNext};
 
 pub mod started;
@@ -58,7 +58,6 @@ impl<C: ClientState, S: FileSystem, P: ProcessReadDir<C, A>, A: Allocator + Copy
     }
 }
 
-/// Returns the error that reports why a reading didn't come.
 pub(crate) fn error_of<A: Allocator + Copy>(missed: Missed) -> Error<A>
     ensures { failure result ≡ failure_of missed }
 {
@@ -68,7 +67,6 @@ pub(crate) fn error_of<A: Allocator + Copy>(missed: Missed) -> Error<A>
     }
 }
 
-/// Returns whether a directory is the one below an entry: by its path, its depth, and the directories above it.
 fn is_below<C: ClientState, A: Allocator + Copy>(
     of: &ReadDirSpec<C, A>,
     found: &DirEntry<C, A>,
@@ -113,7 +111,6 @@ impl<
         }
     }
 
-    /// Returns the readings of these directories, and of those below them, as its readers give them.
     pub(crate) fn over(
         job: Arc<Job<C, S, P, A>, A>,
         mut roots: Vec<ReadDirSpec<C, A>, A>,
@@ -134,14 +131,12 @@ impl<
         })
     }
 
-    /// Returns the job that the workers read with.
     pub(crate) fn job(&self) -> &Job<C, S, P, A>
         ensures { result.now ≡ job_of self.now }
     {
         &*self.job
     }
 
-    /// Returns whether the directory that comes next is the one below an entry, or none is left.
     pub(crate) fn is_next(&self, found: &DirEntry<C, A>) -> bool
         ensures some { result ≡ false → to_read self.now ≢ [] }
         ensures below { result ≡ true → IsNextBelow true (Ok (entry found.now)) (to_read self.now) }
@@ -181,7 +176,6 @@ impl<
         Ok((message.into_outcome()?, count))
     }
 
-    /// Puts directories in front of those that are still to be read.
     fn put_in_front(&mut self, mut specs: Vec<ReadDirSpec<C, A>, A>) -> Result<(), AllocError>
         ensures others { self.new ≡ record self.old { unread = self.new.unread } }
         ensures to_read { OnOk result (to_read self.new ≡ map spec specs.items ++ to_read self.old) }
@@ -191,8 +185,7 @@ impl<
         Ok(())
     }
 
-    /// Returns the reading of the directory that comes next, and puts those below it in its place. It is lost where its
-    /// message has another count than the number of directories in it.
+    /// The reading is lost where its message has another count than the number of directories in it.
     fn enter(&mut self, of: ReadDirSpec<C, A>) -> Result<Outcome<C, A>, Missed>
         ensures job { job_of self.new ≡ job_of self.old }
         ensures most { most_ahead L.Readers self.new ≡ most_ahead L.Readers self.old }
@@ -218,12 +211,6 @@ impl<
         Ok(outcome)
     }
 
-    /// Returns the next reading, or none if all were handed on.
-    ///
-    /// # Errors
-    ///
-    /// If memory runs out, or the reading is lost. No reading is lost if the job is steady. After an error nothing is
-    /// left to be read.
     pub(crate) fn read_next(&mut self) -> Result<Option<Outcome<C, A>>, Missed>
         ensures job { job_of self.new ≡ job_of self.old }
         ensures comes { IfErr result (NotLost (IsSteadyCrew S.FileSystem P.ProcessReadDir C.ReadDirState.Clone
@@ -252,7 +239,8 @@ impl<
 
     /// Returns how many readings were made and not handed on.
     pub(crate) fn ahead(&self) -> usize
-        ensures { result ≤ most_ahead L.Readers self.now }
+        ensures counted { CountsAhead L.Readers self.now result }
+        ensures most { result ≤ most_ahead L.Readers self.now }
     {
         match &self.readers {
             Some(readers) => readers.ahead(),

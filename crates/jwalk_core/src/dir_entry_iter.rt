@@ -12,6 +12,7 @@ use jwalk_fs::file_system::FileSystem;
 use jwalk_job::client_state::ClientState;
 use jwalk_job::dir_entry::DirEntry;
 use jwalk_job::error::Error;
+use jwalk_job::item::{Item, List};
 use jwalk_job::job::Job;
 use jwalk_job::process_read_dir::ProcessReadDir;
 use jwalk_job::read_dir::{Outcome, ReadDir};
@@ -37,7 +38,7 @@ pub struct DirEntryIter<
 > {
     reads: ReadDirIter<C, S, P, A, L>,
     // What was received and not yet passed on, the next one last.
-    items: Vec<Result<DirEntry<C, A>, Error<A>>, A>,
+    items: List<C, A>,
     // Memory ran out at the start, and the error was not yielded yet.
     refused: bool,
 }
@@ -69,7 +70,7 @@ impl<
     ghost use Rattle.jwalk_job.specs.Options as options;
     ghost use Rattle.jwalk_job.specs.Job.{options_of};
     ghost use Rattle.jwalk_core.specs.ReadAhead.{nothing_ahead, BeginsWith};
-    ghost use Rattle.jwalk_core.specs.DirEntryIter.{reads_of, by_crew, is_refused, job_of, min_depth_of, items_of, unread_of, width_of, frontier_of, read_ahead, early_of, held_by, IsWithin, IsSourced, IsRefused, most_ahead, ReadsStaySteady, Passes, GoesOn, Answers, AnswersWhatCame, Fills, Counts};
+    ghost use Rattle.jwalk_core.specs.DirEntryIter.{reads_of, by_crew, is_refused, job_of, min_depth_of, items_of, unread_of, width_of, frontier_of, read_ahead, early_of, held_by, IsWithin, IsSourced, IsRefused, most_ahead, CountsAhead, ReadsStaySteady, Passes, GoesOn, Answers, AnswersWhatCame, Fills, Counts};
     ghost use Rattle.jwalk_core.specs.Step.{Receives};
 
     /// Returns a walk whose start ran out of memory: it yields the error that reports it, and nothing else. The call
@@ -93,11 +94,7 @@ impl<
 
     /// Returns the walk over these readings that holds a root's list. If `refused`, memory ran out: the walk first
     /// yields the error that reports it.
-    pub fn with_list(
-        reads: ReadDirIter<C, S, P, A, L>,
-        list: Vec<Result<DirEntry<C, A>, Error<A>>, A>,
-        refused: bool,
-    ) -> Self
+    pub fn with_list(reads: ReadDirIter<C, S, P, A, L>, list: List<C, A>, refused: bool) -> Self
         ensures reads { reads_of result ≡ reads }
         ensures items { items_of result ≡ map item list.items }
         ensures refused { is_refused result ≡ refused }
@@ -111,7 +108,6 @@ impl<
         }
     }
 
-    /// Takes over the root's list.
     fn begin(&mut self, read: ReadDir<C, A>) -> Result<(), AllocError>
         requires { by_crew self.old ≡ false }
         ensures own { by_crew self.new ≡ false }
@@ -138,6 +134,7 @@ impl<
         ensures within { IsWithin result }
         ensures sourced { IsSourced result }
         ensures depth { is_refused result ≡ false → AtDepth 0 (items_of result) }
+        ensures list { is_refused result ≡ false → IsSomeAnd read (λ r. items_of result ≡ (reading r).list) }
         ensures width { width_of result ≡ options.width_of (options_of job).parallelism }
         ensures ahead { BeginsWith (unread_of result) (frontier_of result) (read_ahead result) }
         ensures held { (g : _) → ClonesCount C.ReadDirState.Clone g → is_refused result ≡ false
@@ -154,7 +151,6 @@ impl<
         walk
     }
 
-    /// Puts the items of a reading in front of those that were received before.
     fn receive(&mut self, read: ReadDir<C, A>) -> Result<(), AllocError>
         ensures reads { self.new.reads ≡ self.old.reads }
         ensures refused { self.new.refused ≡ self.old.refused }
@@ -169,7 +165,6 @@ impl<
         self.items.append(&mut items)
     }
 
-    /// Drops all that is still to come.
     fn stop(&mut self)
         ensures crew { by_crew self.new ≡ by_crew self.old }
         ensures job { job_of self.new ≡ job_of self.old }
@@ -187,7 +182,6 @@ impl<
         self.reads.stop();
     }
 
-    /// Returns the entry of a directory with the outcome of its reading, and receives the items of the reading.
     fn entered(
         &mut self,
         found: DirEntry<C, A>,
@@ -210,8 +204,7 @@ impl<
         }
     }
 
-    /// Passes the next item on.
-    fn pass(&mut self) -> Result<Option<Result<DirEntry<C, A>, Error<A>>>, Missed>
+    fn pass(&mut self) -> Result<Option<Item<C, A>>, Missed>
         requires { P.IsLawful (callback (job_of self.old)) }
         ensures { Passes S.FileSystem P.ProcessReadDir C.ReadDirState.Clone C.DirEntryState.Default L.Readers
             self.old result self.new }
@@ -232,30 +225,25 @@ impl<
         }
     }
 
-    /// Returns what was passed on, unless the least depth leaves it out.
-    fn kept(
-        &self,
-        passed: Result<DirEntry<C, A>, Error<A>>,
-    ) -> Option<Result<DirEntry<C, A>, Error<A>>>
+    fn unless_too_shallow(&self, passed: Item<C, A>) -> Option<Item<C, A>>
         ensures some { IfSome result (λ answer. (answer
             ≡ passed) × (is_answered (min_depth_of self.now) (item passed) ≡ true)) }
         ensures none { IfNone result (is_answered (min_depth_of self.now) (item passed) ≡ false) }
     {
-        if self.reads.job().options().keeps(&passed) {
+        if self.reads.job().options().is_deep_enough(&passed) {
             Some(passed)
         } else {
             None
         }
     }
 
-    /// Returns the next item that is yielded.
-    fn next_kept(&mut self) -> Result<Option<Result<DirEntry<C, A>, Error<A>>>, Missed>
+    fn next_kept(&mut self) -> Result<Option<Item<C, A>>, Missed>
         requires { P.IsLawful (callback (job_of self.old)) }
         ensures { GoesOn S.FileSystem P.ProcessReadDir C.ReadDirState.Clone C.DirEntryState.Default L.Readers
             self.old result self.new }
     {
         while let Some(passed) = self.pass()? {
-            if let Some(answer) = self.kept(passed) {
+            if let Some(answer) = self.unless_too_shallow(passed) {
                 return Ok(Some(answer));
             }
         }
@@ -263,10 +251,7 @@ impl<
     }
 
     /// Returns what came; or the error that reports why nothing did, and then nothing is left.
-    fn answer(
-        &mut self,
-        came: Result<Option<Result<DirEntry<C, A>, Error<A>>>, Missed>,
-    ) -> Option<Result<DirEntry<C, A>, Error<A>>>
+    fn answer(&mut self, came: Result<Option<Item<C, A>>, Missed>) -> Option<Item<C, A>>
         ensures { AnswersWhatCame S.FileSystem P.ProcessReadDir C.ReadDirState.Clone C.DirEntryState.Default L.Readers
             came self.old result self.new }
     {
@@ -279,8 +264,7 @@ impl<
         }
     }
 
-    /// Returns the next answer; or the error that reports why it won't come, and then nothing is left.
-    fn next_answer(&mut self) -> Option<Result<DirEntry<C, A>, Error<A>>>
+    fn next_answer(&mut self) -> Option<Item<C, A>>
         requires { P.IsLawful (callback (job_of self.old)) }
         ensures { Answers S.FileSystem P.ProcessReadDir C.ReadDirState.Clone C.DirEntryState.Default L.Readers
             self.old result self.new }
@@ -302,11 +286,7 @@ impl<
     ///
     /// If memory runs out for the place. No answer is lost then: `out` has those that were appended, and another call
     /// appends the next ones. If the walk itself runs out of memory, the error is one of the answers.
-    pub fn fill(
-        &mut self,
-        n: usize,
-        out: &mut Vec<Result<DirEntry<C, A>, Error<A>>, A>,
-    ) -> Result<usize, AllocError>
+    pub fn fill(&mut self, n: usize, out: &mut List<C, A>) -> Result<usize, AllocError>
         requires { P.IsLawful (callback (job_of self.old)) }
         ensures { Fills S.FileSystem P.ProcessReadDir C.ReadDirState.Clone C.DirEntryState.Default L.Readers
             n self.old out.old.items result out.new.items self.new }
@@ -335,6 +315,7 @@ impl<
     /// the call may block for a lock.
     pub fn ahead(&self) -> usize
         ensures alone { by_crew self.now ≡ false → result ≡ length (early_of self.now) }
+        ensures counted { CountsAhead L.Readers self.now result }
         ensures crew { by_crew self.now ≡ true → result ≤ most_ahead L.Readers self.now }
     {
         self.reads.ahead()
@@ -361,7 +342,7 @@ impl<
     A: Allocator + Copy,
     L: Readers<C, S, P, A>,
 > Iterator for DirEntryIter<C, S, P, A, L> {
-    type Item = Result<DirEntry<C, A>, Error<A>>;
+    type Item = Item<C, A>;
 
     ghost use Rattle.std.specs.Iterator.{at_most};
     ghost use Rattle.jwalk_core.specs.DirEntryIter.{job_of, weight_of, Answers};
@@ -372,7 +353,7 @@ impl<
 
     ghost remaining = { λ s. at_most (weight_of s) };
 
-    fn next(&mut self) -> Option<Result<DirEntry<C, A>, Error<A>>> {
+    fn next(&mut self) -> Option<Item<C, A>> {
         self.next_answer()
     }
 }

@@ -2,10 +2,12 @@
 //!
 //! - Readings in order: `read_dir_iter`, over `batch_reads`, which are made in turn or on threads, or over `crew_reads`,
 //!   which others make ahead and `readers` give. Those of a crew are its `session`: its workers hand in each reading as
-//!   a `message`, and `wanted` says which one a walk waits for. `parallelism` says which of them reads.
+//!   a `message`, `wanted` says which one a walk waits for, and `arrival` asks a board for it. `parallelism` says which
+//!   of them reads.
 //! - Entries in order: `dir_entry_iter`.
 #![tactic(auto)]
 
+pub mod arrival;
 pub mod batch_reads;
 pub mod crew_reads;
 pub mod dir_entry_iter;

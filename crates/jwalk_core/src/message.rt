@@ -16,6 +16,7 @@ use jwalk_job::read_dir_spec::ReadDirSpec;
 use std::alloc::{AllocError, Allocator, Global};
 use std::marker::Model;
 use std::sync::Arc;
+use tree_crew::arrival::Reported;
 use tree_crew::message as tree;
 
 /// What a crew whose plan is a job calls a message.
@@ -50,6 +51,17 @@ impl<C: ClientState, S: FileSystem, P: ProcessReadDir<C, A>, A: Allocator + Copy
         C.DirEntryState.Default (told m.reading) };
 }
 
+impl<C: ClientState, S: FileSystem, P: ProcessReadDir<C, A>, A: Allocator + Copy> Reported
+    for Message<C, S, P, A> {
+    ghost use Rattle.jwalk_core.specs.Message.{ran_out};
+
+    ghost refused = { ran_out };
+
+    fn is_refused(&self) -> bool {
+        Reported::is_refused(&self.reading)
+    }
+}
+
 impl<C: ClientState, S: FileSystem, P: ProcessReadDir<C, A>, A: Allocator + Copy> Message<
     C,
     S,
@@ -76,7 +88,6 @@ impl<C: ClientState, S: FileSystem, P: ProcessReadDir<C, A>, A: Allocator + Copy
         (Message { reading }, below)
     }
 
-    /// Returns a crew's message as a walk's.
     pub(crate) fn of_crew(reading: CrewMessage<C, S, P, A>) -> Self
         requires { IsLawfulMessage S.FileSystem P.ProcessReadDir C.ReadDirState.Clone C.DirEntryState.Default
             (told reading) }

@@ -74,9 +74,8 @@ impl<
     ghost use Rattle.jwalk_core.specs.ReadAhead.{nothing_ahead, BeginsWith};
     ghost use Rattle.jwalk_core.specs.BatchReads.{PassesAddress};
     ghost use Rattle.jwalk_core.specs.CrewReads.{failure_of, IsNextBelow, NotLost};
-    ghost use Rattle.jwalk_core.specs.ReadDirIter.{by_crew, job_of, to_read, width_of, read_ahead, early_of, frontier_of, next_address, Tells, most_ahead, IsSteadyReads, StaysSteady, Known, EntersNextBy, Gives, GivesOf};
+    ghost use Rattle.jwalk_core.specs.ReadDirIter.{by_crew, job_of, to_read, width_of, read_ahead, early_of, frontier_of, next_address, Tells, most_ahead, CountsAhead, IsSteadyReads, StaysSteady, Known, EntersNextBy, Gives, GivesOf};
 
-    /// Returns readings with nothing to read yet, by no crew.
     pub(crate) fn new(alloc: A, job: Job<C, S, P, A>, mode: Mode) -> Self
         ensures own { by_crew result ≡ false }
         ensures job { job_of result ≡ job }
@@ -88,12 +87,6 @@ impl<
         ReadDirIter::Walk(BatchReads::new(alloc, job, mode.width()))
     }
 
-    /// Puts these directories in place of what was to be read, if no crew reads. They alone are queued, in their order,
-    /// and none is read yet.
-    ///
-    /// # Errors
-    ///
-    /// If memory runs out. Then nothing is left to be read, and nothing is ahead.
     pub(crate) fn begin(&mut self, roots: Vec<ReadDirSpec<C, A>, A>) -> Result<(), AllocError>
         requires { by_crew self.old ≡ false }
         ensures own { by_crew self.new ≡ false }
@@ -111,7 +104,6 @@ impl<
         }
     }
 
-    /// Returns the readings of these directories and of all that is below them, by no crew.
     fn alone(
         job: Job<C, S, P, A>,
         roots: Vec<ReadDirSpec<C, A>, A>,
@@ -132,7 +124,6 @@ impl<
         }
     }
 
-    /// Returns the next reading.
     pub(crate) fn read_next(&mut self) -> Result<Option<Outcome<C, A>>, Missed>
         requires { P.IsLawful (callback (job_of self.old)) }
         ensures crew { by_crew self.new ≡ by_crew self.old }
@@ -163,8 +154,6 @@ impl<
         }
     }
 
-    /// Returns whether the directory that comes next is the one below an entry, or none is left. Where no crew reads,
-    /// the entry isn't looked at, and it is always true.
     pub(crate) fn is_next(&self, found: &DirEntry<C, A>) -> bool
         ensures own { result ≡ false → by_crew self.now ≡ true }
         ensures some { result ≡ false → to_read self.now ≢ [] }
@@ -208,7 +197,6 @@ impl<
         self.next_or_stop()
     }
 
-    /// Returns the job that it reads with.
     pub(crate) fn job(&self) -> &Job<C, S, P, A>
         ensures { result.now ≡ job_of self.now }
     {
@@ -222,6 +210,7 @@ impl<
     /// most one more than the crew's bound, and the call may block for a lock.
     pub fn ahead(&self) -> usize
         ensures alone { by_crew self.now ≡ false → result ≡ length (early_of self.now) }
+        ensures counted { CountsAhead L.Readers self.now result }
         ensures crew { by_crew self.now ≡ true → result ≤ most_ahead L.Readers self.now }
     {
         match self {
@@ -230,7 +219,6 @@ impl<
         }
     }
 
-    /// Drops what is not read yet, and what was read early.
     pub(crate) fn stop(&mut self)
         ensures crew { by_crew self.new ≡ by_crew self.old }
         ensures job { job_of self.new ≡ job_of self.old }

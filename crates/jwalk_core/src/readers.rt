@@ -52,6 +52,9 @@ pub trait Readers<
     /// At most how many readings are made and not handed on. It stays the same.
     ghost most: { Self → ℕ };
 
+    /// What is known of a number of readings that were made and not handed on, when it was counted.
+    ghost counts: { Self → ℕ → Type 0 };
+
     /// Returns the reading that is wanted, once it is there. Over a crew it may block for the reading or for a lock.
     /// The addresses of the directories below it are awaited from then on, in place of its own.
     ///
@@ -73,7 +76,8 @@ pub trait Readers<
 
     /// Returns how many readings were made and not handed on. Over a crew it may block for a lock.
     fn ahead(&self) -> usize
-        ensures { result ≤ Self.most self.now };
+        ensures counted { Self.counts self.now result }
+        ensures most { result ≤ Self.most self.now };
 }
 
 /// No crew. Nothing makes a value of it, so no walk is over one.
@@ -91,6 +95,8 @@ impl<C: ClientState, S: FileSystem, P: ProcessReadDir<C, A>, A: Allocator + Copy
     ghost awaits = { λ _. [] };
 
     ghost most = { λ _. 0 };
+
+    ghost counts = { λ _ count. count ≡ 0 };
 
     fn next(&mut self, _wanted: &Wanted<A>) -> Result<Ordered<Message<C, S, P, A>, A>, Missed>
         ensures { result ≡ Err Missed.Lost }

@@ -66,6 +66,8 @@ impl<
 
     ghost most = { λ session. read_ahead_of session + 1 };
 
+    ghost counts = { λ session count. count ≤ read_ahead_of session + 1 };
+
     fn next(&mut self, wanted: &Wanted<A>) -> Result<Ordered<Message<C, S, P, A>, A>, Missed> {
         let Some(item) = self.readings.next()? else {
             return Err(Missed::Lost);

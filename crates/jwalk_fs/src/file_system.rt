@@ -13,7 +13,6 @@ use std::alloc::{AllocError, Allocator};
 use std::io;
 use std::sync::Arc;
 
-/// Gives a sink one item of a list.
 fn take_item<A: Allocator + Copy, K: Sink>(
     sink: &mut K,
     item: io::Result<Listed<A>>,

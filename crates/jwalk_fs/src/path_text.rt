@@ -12,7 +12,6 @@ fn is_absolute(path: &str) -> bool
     matches!(path.as_bytes(), [b'/', ..])
 }
 
-/// Returns what is put between a path and a name below it.
 #[tactic(auto, using(jwalk_model::proofs::PathJoins::with_slash_kept, jwalk_model::proofs::PathJoins::with_slash_added))]
 fn separator(path: &str) -> &'static str
     ensures text { path.now ++ result.now ≡ with_slash path.now }

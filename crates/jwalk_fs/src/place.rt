@@ -7,7 +7,6 @@ ghost use Rattle.jwalk_fs.specs.Place.{IsCountable, left_of, place_seen};
 use std::alloc::{AllocError, Allocator, Global};
 use std::path::{Component, Components, Path};
 
-/// Returns whether two components are the same.
 fn is_same(a: Component<'_>, b: Component<'_>) -> bool
     ensures { result ≡ component_eq (component_seen a.entry) (component_seen b.entry) }
 {
@@ -29,7 +28,6 @@ struct Rest<'p> {
 }
 
 impl<'p> Rest<'p> {
-    /// Returns a whole path.
     fn new(path: &'p str) -> Self
         ensures countable { IsCountable result }
         ensures value { left_of result ≡ normalised path.now }
@@ -40,7 +38,6 @@ impl<'p> Rest<'p> {
         }
     }
 
-    /// Takes off the last component of the normalised path and returns it, or `None` if there is none.
     fn take_last(&mut self) -> Option<Component<'p>>
         requires { IsCountable self.old }
         ensures countable { IsCountable self.new }

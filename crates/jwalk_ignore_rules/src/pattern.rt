@@ -50,14 +50,12 @@ pub fn without_first_slash(text: &[u8]) -> &[u8]
     }
 }
 
-/// Returns whether a text ends with a slash.
 fn ends_with_slash(text: &[u8]) -> bool
     ensures { result ≡ ends_with_slash text.now }
 {
     !text.is_empty() && text[text.len() - 1] == b'/'
 }
 
-/// Returns a text without the slash that it ends with.
 fn without_last_slash(text: &[u8]) -> &[u8]
     ensures { result.now ≡ without_last_slash text.now }
 {
@@ -68,7 +66,6 @@ fn without_last_slash(text: &[u8]) -> &[u8]
     }
 }
 
-/// Returns whether a text has a slash.
 fn has_slash(text: &[u8]) -> bool
     ensures { result ≡ list_any is_slash text.now }
 {
@@ -89,7 +86,6 @@ fn first_parts<A: Allocator + Copy>(
     Ok(parts)
 }
 
-/// Returns the byte with which each path ends that fits these parts, if they end with one.
 fn last_byte_of<A: Allocator + Copy>(parts: &[Part<Glob<A>>]) -> Option<u8>
     ensures { ForSome result (λ byte. LastByteIs (globs_value parts.now) byte) }
 {
@@ -99,7 +95,6 @@ fn last_byte_of<A: Allocator + Copy>(parts: &[Part<Glob<A>>]) -> Option<u8>
     }
 }
 
-/// Has the letters of a part match in either case.
 fn ignore_case_of<A: Allocator + Copy>(part: &mut Part<Glob<A>>)
     ensures { part_map glob_value part.new ≡ part_map glob_in_either_case (part_map glob_value part.old) }
 {
@@ -111,7 +106,7 @@ fn ignore_case_of<A: Allocator + Copy>(part: &mut Part<Glob<A>>)
 impl<A: Allocator + Copy> Pattern<A> {
     ghost use Rattle.jwalk_ignore_rules.specs.Pattern.{EndsWith, Matches, decision_of, pattern_in, pattern_in_either_case, pattern_of_text, pattern_value};
 
-    /// Reads the pattern of a text. None if it is malformed.
+    /// None if it is malformed.
     fn of_text(alloc: A, keeps: bool, text: &[u8]) -> Result<Option<Self>, AllocError>
         ensures { IfOk result (λ r. option_map pattern_value r ≡ pattern_of_text keeps text.now) }
     {

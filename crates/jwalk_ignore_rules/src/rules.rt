@@ -32,7 +32,6 @@ pub struct Rules<A: Allocator + Copy = Global> {
     patterns: Patterns<A>,
 }
 
-/// Returns what the last of these patterns says that matches a path.
 fn last_decision<A: Allocator + Copy>(
     patterns: &[Pattern<A>],
     path: &[u8],
@@ -50,7 +49,6 @@ fn last_decision<A: Allocator + Copy>(
     Decision::Unsaid
 }
 
-/// Puts a pattern behind others, if there is one.
 fn push_some<A: Allocator + Copy>(
     alloc: A,
     patterns: &mut Patterns<A>,

@@ -54,8 +54,6 @@ fn identity_after<S: FileSystem>(
     }
 }
 
-/// Returns whether a directory above is what a link leads to: the same file, if both are known, or else the place that
-/// the link's text leads to.
 fn is_target<A: Allocator + Copy>(
     target: Option<Identity>,
     place: &Place<'_, A>,
@@ -71,7 +69,6 @@ fn is_target<A: Allocator + Copy>(
     }
 }
 
-/// Returns the last of some identities and those before it.
 fn split_identity(known: &[Option<Identity>]) -> (Option<Identity>, &[Option<Identity>])
     ensures { (before : _) (last : _) → known.now ≡ before ++ last ∷ []
         → (result.0 ≡ last) × (result.1.now ≡ before) }
@@ -90,7 +87,6 @@ impl<A: Allocator + Copy> Ancestors<A> {
         Ancestors { paths: None }
     }
 
-    /// Returns their paths, that of the root first.
     fn paths(&self) -> &[Arc<String<A>, A>]
         ensures { map text result.now ≡ texts self.now }
     {
@@ -140,12 +136,7 @@ impl<A: Allocator + Copy> Ancestors<A> {
         })
     }
 
-    /// Returns which files they are, that of the root first, as far as the file system knows it. The root stands twice
-    /// among the directories above what is in it, and is asked for once.
-    ///
-    /// # Errors
-    ///
-    /// If memory runs out.
+    /// The root stands twice among the directories above what is in it, and is asked for once.
     pub(crate) fn identities<S: FileSystem>(
         &self,
         alloc: A,
@@ -166,12 +157,8 @@ impl<A: Allocator + Copy> Ancestors<A> {
         Ok(known)
     }
 
-    /// Returns a handle of the nearest of these paths that a link leads to. `target` is which file the link leads to, if
-    /// it is known: then `known` are the identities of these directories. `path` is where its text leads to.
-    ///
-    /// # Errors
-    ///
-    /// If memory runs out.
+    /// Returns a handle of the nearest of these paths that a link leads to. `target` is which file the link leads to,
+    /// if it is known: then `known` are the identities of these directories. `path` is where its text leads to.
     pub(crate) fn nearest(
         &self,
         alloc: A,

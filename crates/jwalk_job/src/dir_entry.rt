@@ -42,7 +42,6 @@ pub struct DirEntry<C: ClientState, A: Allocator + Copy = Global> {
     pub(crate) ancestors: Ancestors<A>,
 }
 
-/// Returns the result of a file system's call at a path; an error gets this depth and the path.
 fn asked<S: FileSystem, A: Allocator + Copy>(
     fs: &S,
     depth: usize,
@@ -213,7 +212,6 @@ impl<C: ClientState, A: Allocator + Copy> DirEntry<C, A> {
         }
     }
 
-    /// Returns the entry with the directory at this path to be read, if what is there is one. `target` is its metadata.
     pub(crate) fn with_directory(mut self, path: Arc<String<A>, A>, target: Metadata) -> Self
         ensures { entry result
             ≡ (if is_dir (type_of target) then record (entry self) { read_children = children_at true (text path) }

@@ -86,7 +86,6 @@ impl<A: Allocator + Copy> Error<A> {
         }
     }
 
-    /// Returns the error of a link, the child, at a depth, that leads back to an ancestor.
     pub(crate) fn from_loop(
         depth: usize,
         ancestor: Arc<String<A>, A>,

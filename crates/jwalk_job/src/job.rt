@@ -26,6 +26,7 @@ use crate::ancestors::identity_at;
 use crate::client_state::ClientState;
 use crate::dir_entry::DirEntry;
 use crate::error::Error;
+use crate::item::{Item, List};
 use crate::options::Options;
 use crate::process_read_dir::ProcessReadDir;
 use crate::read_children::ReadChildren;
@@ -66,7 +67,6 @@ impl<C: ClientState, S: Drop, P: Drop, A: Allocator + Copy> Drop for Job<C, S, P
     }
 }
 
-/// Returns the directory that an entry of this name in a directory is to be read from, if it is entered.
 fn children_in<C: ClientState, A: Allocator + Copy>(
     alloc: A,
     directory: &str,
@@ -82,7 +82,6 @@ fn children_in<C: ClientState, A: Allocator + Copy>(
     Ok(Some(ReadChildren::new(joined(alloc, directory, name)?)))
 }
 
-/// Returns the metadata that an entry keeps.
 fn kept<A: Allocator + Copy>(
     alloc: A,
     options: Options,
@@ -124,12 +123,7 @@ impl<C: ClientState, S: FileSystem, P: ProcessReadDir<C, A>, A: Allocator + Copy
         self.options
     }
 
-    /// Returns what the entries of a directory share. The file system is asked which file the directory is if the walk
-    /// stays on one file system.
-    ///
-    /// # Errors
-    ///
-    /// If memory runs out.
+    /// The file system is asked which file the directory is if the walk stays on one file system.
     fn inside(&self, of: &ReadDirSpec<C, A>) -> Result<Inside<A>, AllocError>
         ensures { ByValue S.FileSystem C.DirEntryState.Default self.now (λ g job.
             IfOk result (λ inside. IsInside job (counted_spec g (spec of.now)) inside)) }
@@ -143,7 +137,6 @@ impl<C: ClientState, S: FileSystem, P: ProcessReadDir<C, A>, A: Allocator + Copy
         Ok(Inside::new(ancestors, within))
     }
 
-    /// Returns the entry of a name in a directory.
     fn entry_in(
         &self,
         of: &ReadDirSpec<C, A>,
@@ -178,14 +171,13 @@ impl<C: ClientState, S: FileSystem, P: ProcessReadDir<C, A>, A: Allocator + Copy
         ))
     }
 
-    /// Returns what a name in a directory gives: nothing if it is hidden and skipped.
     fn named(
         &self,
         of: &ReadDirSpec<C, A>,
         inside: &mut Inside<A>,
         name: &str,
         seen: io::Result<Seen>,
-    ) -> Result<Option<Result<DirEntry<C, A>, Error<A>>>, AllocError>
+    ) -> Result<Option<Item<C, A>>, AllocError>
         requires fits { (spec of.now).depth + 1 < 2 ^ 64 }
         ensures depth { IfOk result (λ o. AtDepth ((spec of.now).depth + 1) (map item (option_to_list o))) }
         ensures asks { S.IsFixed (file_system self.now)
@@ -212,11 +204,7 @@ impl<C: ClientState, S: FileSystem, P: ProcessReadDir<C, A>, A: Allocator + Copy
     }
 
     /// Lists a directory: returns its items in the file system's order.
-    ///
-    /// # Errors
-    ///
-    /// If it can't be listed, or if memory runs out.
-    fn raw(&self, of: &ReadDirSpec<C, A>) -> Result<Vec<Result<DirEntry<C, A>, Error<A>>, A>, Fault>
+    fn list_items(&self, of: &ReadDirSpec<C, A>) -> Result<List<C, A>, Fault>
         requires { (spec of.now).depth + 1 < 2 ^ 64 }
         ensures depth { IfOk result (λ v. AtDepth ((spec of.now).depth + 1) (map item v.items)) }
         ensures value { ByValue S.FileSystem C.DirEntryState.Default self.now (λ g job.
@@ -232,12 +220,11 @@ impl<C: ClientState, S: FileSystem, P: ProcessReadDir<C, A>, A: Allocator + Copy
         Ok(gathering.into_items())
     }
 
-    /// Returns the list of a directory that could be listed, in the order that is asked for, after the callback. The
-    /// callback is called with a clone of the directory's state.
-    fn processed(
+    /// The callback is called with a clone of the directory's state.
+    fn run_callback(
         &self,
         of: &ReadDirSpec<C, A>,
-        items: Vec<Result<DirEntry<C, A>, Error<A>>, A>,
+        items: List<C, A>,
     ) -> Result<ReadDir<C, A>, AllocError>
         requires lawful { P.IsLawful (callback self.now) }
         requires fits { (spec of.now).depth + 1 < 2 ^ 64 }
@@ -275,8 +262,8 @@ impl<C: ClientState, S: FileSystem, P: ProcessReadDir<C, A>, A: Allocator + Copy
             let state = of.client_read_state.clone()?;
             return Ok(Ok(ReadDir::new(state, Vec::new(self.alloc))));
         }
-        match self.raw(of) {
-            Ok(items) => Ok(Ok(self.processed(of, items)?)),
+        match self.list_items(of) {
+            Ok(items) => Ok(Ok(self.run_callback(of, items)?)),
             Err(Fault::Io(err)) => Ok(Err(Error::from_path(of.depth(), of.path.clone()?, err))),
             Err(Fault::Memory) => Err(AllocError),
         }

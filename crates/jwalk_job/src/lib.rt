@@ -7,6 +7,7 @@ pub mod ancestors;
 pub mod client_state;
 pub mod dir_entry;
 pub mod error;
+pub mod item;
 pub mod job;
 pub mod laws;
 mod metadata;

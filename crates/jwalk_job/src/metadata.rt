@@ -6,7 +6,6 @@ use jwalk_fs::fault::Fault;
 use jwalk_fs::file_system::FileSystem;
 use jwalk_model::metadata::Metadata;
 
-/// Returns what a file system knows of a path: through its last link, or of that link itself.
 pub(crate) fn metadata_at<S: FileSystem>(
     fs: &S,
     path: &str,

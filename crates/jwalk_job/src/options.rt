@@ -3,8 +3,7 @@ ghost use Rattle.std.specs.Prelude.{◌≡◌, ◌+◌, ◌^◌, ◌<◌, ◌≤
 ghost use Rattle.jwalk_model.specs.Entry.{is_hidden};
 
 use crate::client_state::ClientState;
-use crate::dir_entry::DirEntry;
-use crate::error::Error;
+use crate::item::Item;
 use crate::mode::Mode;
 use std::alloc::Allocator;
 
@@ -23,7 +22,6 @@ pub struct Options {
     ghost in_order: { min_depth ≤ max_depth },
 }
 
-/// Returns whether a name starts with a dot.
 fn is_hidden(name: &str) -> bool
     ensures { result ≡ is_hidden name.now }
 {
@@ -131,8 +129,6 @@ impl Options {
             && self.max_depth == other.max_depth
     }
 
-    /// Returns whether a directory at this depth is read: one at the greatest depth isn't. If it is, the depth below it
-    /// fits in a `usize`.
     pub(crate) fn reads(self, depth: usize) -> bool
         ensures above { IsTrue result ↔ (depth < (options_value self).max_depth) }
         ensures fits { IsTrue result → depth + 1 < 2 ^ 64 }
@@ -140,7 +136,6 @@ impl Options {
         depth < self.max_depth
     }
 
-    /// Returns whether a name is left out.
     pub(crate) fn skips(self, name: &str) -> bool
         ensures { result ≡ ((options_value self).skip_hidden && is_hidden name.now) }
     {
@@ -148,10 +143,7 @@ impl Options {
     }
 
     /// Returns whether an item that a walk reaches is yielded: an entry from the least depth on, and every error.
-    pub fn keeps<C: ClientState, A: Allocator + Copy>(
-        self,
-        passed: &Result<DirEntry<C, A>, Error<A>>,
-    ) -> bool
+    pub fn is_deep_enough<C: ClientState, A: Allocator + Copy>(self, passed: &Item<C, A>) -> bool
         ensures { result ≡ is_answered (options_value self).min_depth (item passed.now) }
     {
         match passed {
@@ -160,21 +152,18 @@ impl Options {
         }
     }
 
-    /// Returns whether links are followed.
     pub(crate) fn follow_links(self) -> bool
         ensures { result ≡ (options_value self).follow_links }
     {
         self.follow_links
     }
 
-    /// Returns whether a walk stays on one file system.
     pub(crate) fn same_file_system(self) -> bool
         ensures { result ≡ (options_value self).same_file_system }
     {
         self.same_file_system
     }
 
-    /// Returns whether metadata is kept.
     pub(crate) fn keep_metadata(self) -> bool
         ensures { result ≡ (options_value self).keep_metadata }
     {

@@ -6,8 +6,7 @@ ghost use Rattle.jwalk_job.specs.Entry.{item};
 ghost use Rattle.jwalk_job.specs.Given.{Given, IsProcessed, KeepsLists};
 
 use crate::client_state::ClientState;
-use crate::dir_entry::DirEntry;
-use crate::error::Error;
+use crate::item::List;
 use std::alloc::{AllocError, Allocator};
 
 /// A callback that is called with each list before the walk goes on with it.
@@ -35,7 +34,7 @@ pub trait ProcessReadDir<C: ClientState, A: Allocator + Copy>: Drop {
         depth: Option<usize>,
         path: &str,
         state: &mut C::ReadDirState,
-        list: &mut Vec<Result<DirEntry<C, A>, Error<A>>, A>,
+        list: &mut List<C, A>,
     ) -> Result<(), AllocError>
         requires lawful { IsLawful self.now }
         requires fits { list_depth depth < 2 ^ 64 }
@@ -60,7 +59,7 @@ impl<C: ClientState, A: Allocator + Copy> ProcessReadDir<C, A> for NoProcess {
         _depth: Option<usize>,
         _path: &str,
         _state: &mut C::ReadDirState,
-        _list: &mut Vec<Result<DirEntry<C, A>, Error<A>>, A>,
+        _list: &mut List<C, A>,
     ) -> Result<(), AllocError>
         ensures never_refuses { IsOk result }
         ensures state { _state.new ≡ _state.old }

@@ -9,8 +9,8 @@ ghost use Rattle.jwalk_job.specs.ReadDirSpec.{spec};
 ghost use Rattle.jwalk_job.specs.ReadDir.{outcome, reading};
 
 use crate::client_state::ClientState;
-use crate::dir_entry::DirEntry;
 use crate::error::Error;
+use crate::item::{Item, List};
 use crate::read_dir_spec::ReadDirSpec;
 use jwalk_order::index_path::IndexPath;
 use jwalk_order::ordered::Ordered;
@@ -19,7 +19,7 @@ use std::alloc::{AllocError, Allocator, Global};
 /// What a directory's reading gave: its list, and the state that it left.
 pub struct ReadDir<C: ClientState, A: Allocator + Copy = Global> {
     read_dir_state: C::ReadDirState,
-    results_list: Vec<Result<DirEntry<C, A>, Error<A>>, A>,
+    results_list: List<C, A>,
 }
 
 impl<C: ClientState, A: Allocator + Copy> Drop for ReadDir<C, A> {
@@ -52,11 +52,10 @@ pub fn directories_of<C: ClientState, A: Allocator + Copy>(
     }
 }
 
-/// Adds the specification of an item's directory, if it has one.
 fn push_spec<C: ClientState, A: Allocator + Copy>(
     specs: &mut Vec<ReadDirSpec<C, A>, A>,
     state: &C::ReadDirState,
-    found: &Result<DirEntry<C, A>, Error<A>>,
+    found: &Item<C, A>,
 ) -> Result<(), AllocError>
     ensures { (asked : List (Spec C.ReadDirState)) → AreClones C.ReadDirState.is_clone asked (map spec specs.old.items)
         → OnOk result (AreClones C.ReadDirState.is_clone
@@ -71,7 +70,6 @@ fn push_spec<C: ClientState, A: Allocator + Copy>(
     }
 }
 
-/// Returns these values, each at its address: child `i` of the directory at `address`. Each has the child count 0.
 fn addressed<T: Drop, A: Allocator + Copy>(
     address: &IndexPath<A>,
     values: Vec<T, A>,
@@ -90,11 +88,7 @@ fn addressed<T: Drop, A: Allocator + Copy>(
 }
 
 impl<C: ClientState, A: Allocator + Copy> ReadDir<C, A> {
-    /// Returns the reading that left this state and this list.
-    pub(crate) fn new(
-        read_dir_state: C::ReadDirState,
-        results_list: Vec<Result<DirEntry<C, A>, Error<A>>, A>,
-    ) -> Self
+    pub(crate) fn new(read_dir_state: C::ReadDirState, results_list: List<C, A>) -> Self
         ensures { reading result ≡ record { state = read_dir_state; list = map item results_list.items } }
     {
         ReadDir {
@@ -104,14 +98,14 @@ impl<C: ClientState, A: Allocator + Copy> ReadDir<C, A> {
     }
 
     /// Returns the list, in its order.
-    pub fn results_list(&self) -> &[Result<DirEntry<C, A>, Error<A>>]
+    pub fn results_list(&self) -> &[Item<C, A>]
         ensures { map item result.now ≡ (reading self.now).list }
     {
         &self.results_list
     }
 
     /// Returns the list, in its order, taken out of the reading.
-    pub fn into_results_list(self) -> Vec<Result<DirEntry<C, A>, Error<A>>, A>
+    pub fn into_results_list(self) -> List<C, A>
         ensures { map item result.items ≡ (reading self).list }
     {
         let ReadDir {

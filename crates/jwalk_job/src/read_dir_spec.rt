@@ -7,8 +7,7 @@ ghost use Rattle.jwalk_job.specs.ReadDirSpec.{spec};
 
 use crate::ancestors::Ancestors;
 use crate::client_state::ClientState;
-use crate::dir_entry::DirEntry;
-use crate::error::Error;
+use crate::item::Item;
 use std::alloc::{AllocError, Allocator, Global};
 use std::sync::Arc;
 
@@ -33,7 +32,6 @@ impl<C: ClientState, A: Allocator + Copy> Drop for ReadDirSpec<C, A> {
     }
 }
 
-/// Returns the state that a directory begins with: its own if it was given one, else that of its parent's reading.
 fn first_state<C: ClientState>(
     own: &Option<C::ReadDirState>,
     parent: &C::ReadDirState,
@@ -61,15 +59,9 @@ impl<C: ClientState, A: Allocator + Copy> ReadDirSpec<C, A> {
         &self.ancestors
     }
 
-    /// Returns the specification of an item's directory, if it has one. `state` is what the reading of its list left;
-    /// the specification's own state is a clone.
-    ///
-    /// # Errors
-    ///
-    /// If memory runs out.
     pub(crate) fn of_item(
         state: &C::ReadDirState,
-        found: &Result<DirEntry<C, A>, Error<A>>,
+        found: &Item<C, A>,
     ) -> Result<Option<Self>, AllocError>
         ensures { IfOk result (λ o. AreClones C.ReadDirState.is_clone
             (option_to_list (spec_of state.now (item found.now))) (map spec (option_to_list o))) }

@@ -7,19 +7,14 @@ ghost use Rattle.jwalk_job.specs.Entry.{item};
 ghost use Rattle.jwalk_job.specs.Sorting.{number, key_of};
 
 use crate::client_state::ClientState;
-use crate::dir_entry::DirEntry;
-use crate::error::Error;
+use crate::item::{Item, List};
 use std::alloc::{AllocError, Allocator};
 use std::cmp::Ordering;
 
 /// A list of at most this many items is sorted by its names alone.
 const FEW: usize = 20;
 
-/// Compares entries by the bytes of their names, and puts them before errors.
-fn by_name<C: ClientState, A: Allocator + Copy>(
-    a: &Result<DirEntry<C, A>, Error<A>>,
-    b: &Result<DirEntry<C, A>, Error<A>>,
-) -> Ordering
+fn by_name<C: ClientState, A: Allocator + Copy>(a: &Item<C, A>, b: &Item<C, A>) -> Ordering
     ensures { is_lt result ≡ stands_before (item a.now) (item b.now) }
 {
     match (a, b) {
@@ -30,10 +25,7 @@ fn by_name<C: ClientState, A: Allocator + Copy>(
     }
 }
 
-/// Returns the name of the first entry of a list.
-fn first_name<C: ClientState, A: Allocator + Copy>(
-    list: &[Result<DirEntry<C, A>, Error<A>>],
-) -> Option<&str> {
+fn first_name<C: ClientState, A: Allocator + Copy>(list: &[Item<C, A>]) -> Option<&str> {
     for found in list {
         if let Ok(entry) = found {
             return Some(entry.file_name.as_str());
@@ -56,9 +48,7 @@ fn common_length(a: &str, b: &str) -> usize {
 }
 
 /// Returns how many bytes all names of a list begin with in common.
-fn shared_length<C: ClientState, A: Allocator + Copy>(
-    list: &[Result<DirEntry<C, A>, Error<A>>],
-) -> usize {
+fn shared_length<C: ClientState, A: Allocator + Copy>(list: &[Item<C, A>]) -> usize {
     let Some(first) = first_name(list) else {
         return 0;
     };
@@ -71,7 +61,6 @@ fn shared_length<C: ClientState, A: Allocator + Copy>(
     shared
 }
 
-/// Returns the bytes of a name from a place on.
 fn rest_of(name: &str, from: usize) -> &[u8]
     ensures { result.now ≡ drop from name.now }
 {
@@ -93,10 +82,7 @@ fn number(bytes: &[u8]) -> u64
 
 /// Returns the number by which an item is first sorted: that of its name from a place on, and the greatest for an
 /// error.
-fn key_of<C: ClientState, A: Allocator + Copy>(
-    found: &Result<DirEntry<C, A>, Error<A>>,
-    from: usize,
-) -> u64
+fn key_of<C: ClientState, A: Allocator + Copy>(found: &Item<C, A>, from: usize) -> u64
     ensures { result ≡ key_of from (item found.now) }
 {
     match found {
@@ -108,7 +94,7 @@ fn key_of<C: ClientState, A: Allocator + Copy>(
 /// Sorts a long list by eight bytes of each name, the first in which names differ. This is for speed: the sort by names
 /// then finds most of them in order. Entries of equal name, and errors, keep their order.
 fn sort_by_beginnings<C: ClientState, A: Allocator + Copy>(
-    list: &mut Vec<Result<DirEntry<C, A>, Error<A>>, A>,
+    list: &mut List<C, A>,
 ) -> Result<(), AllocError>
     ensures { OnOk result (IsStableBy (λ a b. stands_before (item a) (item b)) list.old.items list.new.items) }
 {
@@ -119,9 +105,8 @@ fn sort_by_beginnings<C: ClientState, A: Allocator + Copy>(
     list.sort_by_cached_key(|found| key_of(found, from))
 }
 
-/// Sorts a list by name, with the errors last. Entries of equal name, and errors, keep their order.
 fn sort_by_name<C: ClientState, A: Allocator + Copy>(
-    list: &mut Vec<Result<DirEntry<C, A>, Error<A>>, A>,
+    list: &mut List<C, A>,
 ) -> Result<(), AllocError>
     ensures { OnOk result (map item list.new.items ≡ arranged (map item list.old.items)) }
 {
@@ -129,11 +114,10 @@ fn sort_by_name<C: ClientState, A: Allocator + Copy>(
     list.sort_by(by_name)
 }
 
-/// Returns a list sorted by name if that is asked for, and else unchanged.
 pub(crate) fn in_order<C: ClientState, A: Allocator + Copy>(
     sort: bool,
-    mut list: Vec<Result<DirEntry<C, A>, Error<A>>, A>,
-) -> Result<Vec<Result<DirEntry<C, A>, Error<A>>, A>, AllocError>
+    mut list: List<C, A>,
+) -> Result<List<C, A>, AllocError>
     ensures { IfOk result (λ v. map item v.items
         ≡ (if sort then arranged (map item list.items) else map item list.items)) }
 {

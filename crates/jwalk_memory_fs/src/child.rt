@@ -18,7 +18,7 @@ impl<A: Allocator + Copy> Child<A> {
     ghost use Rattle.jwalk_memory_fs.specs.Child.{child_seen, metadata_of};
     ghost use Rattle.jwalk_memory_fs.specs.Hit.{hit_seen, hit_of};
 
-    /// Returns the type and the length that a listing shows. A directory has length 0, a link as many bytes as its target.
+    /// A directory has length 0, a link as many bytes as its target.
     pub(crate) fn metadata(&self) -> Metadata
         ensures { result ≡ metadata_of (child_seen self.now) }
     {
@@ -29,7 +29,6 @@ impl<A: Allocator + Copy> Child<A> {
         }
     }
 
-    /// Returns what a look-up reaches if this child is in a directory.
     pub(crate) fn hit(&self, holder: usize) -> Hit<'_>
         ensures { hit_seen result ≡ hit_of holder (child_seen self.now) }
     {

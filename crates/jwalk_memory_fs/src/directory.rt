@@ -33,7 +33,6 @@ impl<A: Allocator + Copy> Drop for Directory<A> {
 }
 
 impl<A: Allocator + Copy> Directory<A> {
-    /// Returns a directory with no children, which may be read.
     pub(crate) fn new(alloc: A, parent: usize) -> Self
         ensures { branch result ≡ record { parent = parent; children = []; denied = None } }
     {
@@ -44,14 +43,12 @@ impl<A: Allocator + Copy> Directory<A> {
         }
     }
 
-    /// Returns the child of this name.
     pub(crate) fn child(&self, name: &str) -> Option<&Child<A>>
         ensures { option_map (λ c. child_seen c.now) result ≡ child_named (branch self.now).children name.now }
     {
         self.children.get(name)
     }
 
-    /// Appends a new child. If memory runs out, nothing changes.
     pub(crate) fn add(&mut self, name: &str, child: Child<A>) -> Result<(), AllocError>
         requires { child_named (branch self.old).children name.now ≡ None }
         ensures ok { OnOk result (branch self.new ≡ with_child name.now (child_seen child) (branch self.old)) }
@@ -62,7 +59,6 @@ impl<A: Allocator + Copy> Directory<A> {
         Ok(())
     }
 
-    /// Removes the child of this name; the others keep their order.
     pub(crate) fn remove(&mut self, name: &str) -> Option<Child<A>>
         ensures value { option_map child_seen result ≡ child_named (branch self.old).children name.now }
         ensures others { branch self.new ≡ without_name name.now (branch self.old) }
@@ -70,7 +66,6 @@ impl<A: Allocator + Copy> Directory<A> {
         self.children.shift_remove(name)
     }
 
-    /// Removes the last child.
     pub(crate) fn pop(&mut self) -> Option<(String<A>, Child<A>)>
         ensures cases { MatchOption result
             (((branch self.old).children ≡ []) × (branch self.new ≡ branch self.old))
@@ -79,21 +74,18 @@ impl<A: Allocator + Copy> Directory<A> {
         self.children.pop()
     }
 
-    /// Sets the directory that holds this one.
     pub(crate) fn set_parent(&mut self, parent: usize)
         ensures { branch self.new ≡ with_parent parent (branch self.old) }
     {
         self.parent = parent;
     }
 
-    /// Makes reading the directory fail with this kind from now on.
     pub(crate) fn deny(&mut self, kind: ErrorKind)
         ensures { branch self.new ≡ with_denied kind (branch self.old) }
     {
         self.denied = Some(kind);
     }
 
-    /// Gives the children to `sink` in order of creation, each with its metadata. Each name is that of one child.
     pub(crate) fn list_into<K: Sink>(&self, sink: &mut K) -> Result<(), AllocError>
         ensures items { OnOk result (TakesAll K.Took (listing_of (branch self.now).children) sink.old sink.new) }
         ensures found { AreFound (branch self.now).children (branch self.now).children }

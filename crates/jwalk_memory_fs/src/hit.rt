@@ -15,7 +15,7 @@ pub enum Hit<'a> {
 impl<'a> Hit<'a> {
     ghost use Rattle.jwalk_memory_fs.specs.Hit.{hit_seen, metadata_of};
 
-    /// Returns the type and the length in bytes. A directory has length 0, a link as many bytes as its target.
+    /// A directory has length 0, a link as many bytes as its target.
     pub(crate) fn metadata(self) -> Metadata
         ensures { result ≡ metadata_of (hit_seen self.entry) }
     {

@@ -30,7 +30,6 @@ impl<A: Allocator + Copy> Drop for Table<A> {
 }
 
 impl<A: Allocator + Copy> Table<A> {
-    /// Returns the root alone, which needs no memory.
     pub(crate) fn new(alloc: A) -> Self
         ensures root { branches result ≡ empty_branch 0 ∷ [] }
         ensures free { free_places result ≡ [] }
@@ -48,7 +47,6 @@ impl<A: Allocator + Copy> Table<A> {
         self.others.len() + 1
     }
 
-    /// Returns the directory at an index.
     pub(crate) fn directory(&self, index: usize) -> &Directory<A>
         requires { index < length (branches self.now) }
         ensures { branch result.now ≡ branch_at (branches self.now) index }
@@ -60,7 +58,6 @@ impl<A: Allocator + Copy> Table<A> {
         }
     }
 
-    /// Appends a new child to a directory. If memory runs out, nothing changes.
     pub(crate) fn add(
         &mut self,
         holder: usize,
@@ -82,7 +79,6 @@ impl<A: Allocator + Copy> Table<A> {
         }
     }
 
-    /// Appends a new link to a directory. If memory runs out, nothing changes.
     pub(crate) fn add_link(
         &mut self,
         holder: usize,
@@ -101,8 +97,7 @@ impl<A: Allocator + Copy> Table<A> {
         self.add(holder, name, Child::Link(target))
     }
 
-    /// Appends a new directory to a directory, at a free place of the table if there is one. If memory runs out,
-    /// nothing changes.
+    /// Appends a new directory to a directory, at a free place of the table if there is one.
     pub(crate) fn add_directory(&mut self, holder: usize, name: &str) -> Result<(), AllocError>
         requires within { holder < length (branches self.old) }
         requires free { child_named (children_at (branches self.old) holder) name.now ≡ None }
@@ -162,7 +157,7 @@ impl<A: Allocator + Copy> Table<A> {
         }
     }
 
-    /// Removes a child, and what it holds with it; their places are free then. If memory runs out, nothing changes.
+    /// Removes a child, and what it holds with it; their places are free then.
     pub(crate) fn remove(&mut self, holder: usize, name: &str) -> Result<(), AllocError>
         requires within { holder < length (branches self.old) }
         requires sound { IsSound (branches self.old) }
@@ -280,7 +275,6 @@ impl<A: Allocator + Copy> Table<A> {
         }
     }
 
-    /// Makes reading a directory fail with this kind from now on.
     pub(crate) fn deny(&mut self, index: usize, kind: ErrorKind)
         requires { index < length (branches self.old) }
         ensures denied { branches self.new ≡ with_denial (branches self.old) index kind }

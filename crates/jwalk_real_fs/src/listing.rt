@@ -152,7 +152,7 @@ impl<A: Allocator + Copy> Listing<A> {
     }
 }
 
-/// Opens a directory. An open that was interrupted is made again.
+/// An open that was interrupted is made again.
 fn open<R: Files>(rt: &R, dir: &str) -> io::Result<R::Dir> {
     for _ in 1..MOST_OPENS {
         match rt.open_dir(dir) {

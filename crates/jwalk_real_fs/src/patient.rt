@@ -40,7 +40,6 @@ pub struct Patient<S: FileSystem, R: Clock + Drop> {
     has_failed: AtomicBool,
 }
 
-/// Whether no descriptor was left for a call.
 fn lacks_descriptor<T>(found: &Result<T, Fault>) -> bool
     ensures { result ≡ patient.lacks_descriptor found.now }
 {

@@ -21,7 +21,6 @@ pub fn fault(error: io::Error) -> Fault
     }
 }
 
-/// Returns the type that was found.
 fn file_type(found: &fs::Metadata) -> FileType
     ensures { result ≡ type_seen found.now }
 {
@@ -37,7 +36,7 @@ fn file_type(found: &fs::Metadata) -> FileType
     }
 }
 
-/// Returns a point in time. A nanosecond count that is none is 0.
+/// A nanosecond count that is none is 0.
 fn moment(seconds: i64, nanoseconds: i64) -> Moment {
     Moment {
         seconds,
@@ -45,7 +44,7 @@ fn moment(seconds: i64, nanoseconds: i64) -> Moment {
     }
 }
 
-/// Returns when it was created. A time before 1970 counts as unknown, since the standard library has none.
+/// A time before 1970 counts as unknown, since the standard library has none.
 fn created(found: &fs::Metadata) -> Option<Moment> {
     let since_1970 = found.created().ok()?.duration_since(UNIX_EPOCH).ok()?;
     Some(Moment {

@@ -24,7 +24,6 @@ pub fn is_child(name: &[u8]) -> bool
     !matches!(name, [] | [b'.'] | [b'.', b'.'])
 }
 
-/// Returns where the first of names that were read together ends.
 fn name_end(names: &[u8]) -> Option<usize>
     ensures { result ≡ position is_nul names.now }
 {

@@ -73,7 +73,6 @@ pub(crate) fn own<C: ClientState, A: Allocator + Copy>(
     }
 }
 
-/// Returns what an entry of this type counts by its type alone.
 fn of_type(file_type: FileType) -> Subtotal
     ensures { result ≡ counted_by_type file_type }
 {
@@ -95,7 +94,6 @@ fn of_type(file_type: FileType) -> Subtotal
     }
 }
 
-/// Returns what an error counts.
 pub(crate) fn one_error() -> Subtotal
     ensures { result ≡ one_error }
 {

@@ -28,7 +28,6 @@ impl<A: Allocator + Copy> Files<A> {
         }
     }
 
-    /// Returns these files, and leaves none.
     pub(crate) fn take(&mut self) -> Self
         ensures taken { result ≡ self.old }
         ensures none { files_of self.new ≡ [] }
@@ -37,7 +36,6 @@ impl<A: Allocator + Copy> Files<A> {
         mem::replace(self, none)
     }
 
-    /// Adds a file, if it is known, and returns whether it was there before. If memory runs out, nothing is changed.
     pub(crate) fn insert(&mut self, file: Option<Identity>) -> Result<bool, AllocError>
         ensures before { IfOk result (λ before. before ≡ is_repeated (files_of self.old) file) }
         ensures added { OnOk result (AreWith file (files_of self.old) (files_of self.new)) }

@@ -58,7 +58,6 @@ impl<C: ClientState, A: Allocator + Copy, I: Drop> Drop for Subtotals<C, A, I> {
     }
 }
 
-/// Returns an entry, if its subtotal is asked for.
 fn asked<C: ClientState, A: Allocator + Copy>(
     options: &SubtotalOptions,
     found: DirEntry<C, A>,
@@ -86,7 +85,6 @@ impl<C: ClientState, A: Allocator + Copy, I: Iterator<Item = Answer<DirEntry<C, 
     ghost use Rattle.jwalk_subtotals.specs.Files.{files_of};
     ghost use Rattle.jwalk_subtotals.specs.Turns.{Closes, Opens, Turns};
 
-    /// Returns the subtotals of these answers, beside files that were counted before.
     pub(crate) fn new(alloc: A, files: Files<A>, answers: I, options: SubtotalOptions) -> Self
         ensures fresh { IsFreshBeside (files_of files) result }
         ensures answers { answers_of result ≡ answers }
@@ -112,7 +110,6 @@ impl<C: ClientState, A: Allocator + Copy, I: Iterator<Item = Answer<DirEntry<C, 
         self.files.take()
     }
 
-    /// Yields an error behind which nothing comes.
     fn stop(&mut self, error: SubtotalError<A>) -> Turn<C, A>
         ensures yields { result ≡ Yields (Err error) }
         ensures stopped { self.new ≡ record self.old { stopped = true } }
@@ -121,7 +118,6 @@ impl<C: ClientState, A: Allocator + Copy, I: Iterator<Item = Answer<DirEntry<C, 
         Turn::Yields(Err(error))
     }
 
-    /// Takes the next answer.
     fn take(&mut self)
         requires can { I.can_next (answers_of self.old) }
         requires ends { IsFinite (I.remaining (answers_of self.old)) }
@@ -135,7 +131,6 @@ impl<C: ClientState, A: Allocator + Copy, I: Iterator<Item = Answer<DirEntry<C, 
         }
     }
 
-    /// Closes the last open entry.
     fn close(&mut self) -> Turn<C, A>
         requires runs { is_stopped self.old ≡ false }
         ensures { Closes self.old result self.new }
@@ -147,7 +142,6 @@ impl<C: ClientState, A: Allocator + Copy, I: Iterator<Item = Answer<DirEntry<C, 
         }
     }
 
-    /// Opens an entry below the last open one.
     fn enter(&mut self, found: DirEntry<C, A>) -> Result<(), AllocError>
         ensures rest { self.new ≡ record self.old { stack = self.new.stack; files = self.new.files } }
         ensures opened { OnOk result (Opens (options_of self.old) (held self.old) (entry found) (held self.new)) }
@@ -198,7 +192,6 @@ impl<C: ClientState, A: Allocator + Copy, I: Iterator<Item = Answer<DirEntry<C, 
         }
     }
 
-    /// Closes the last open entry of a walk that has ended.
     fn close_last(&mut self) -> Turn<C, A>
         requires runs { is_stopped self.old ≡ false }
         requires over { self.old.ahead ≡ Over }

@@ -35,7 +35,6 @@ pub(crate) struct Stack<C: ClientState, A: Allocator + Copy> {
 impl<C: ClientState, A: Allocator + Copy> Stack<C, A> {
     ghost use Rattle.jwalk_subtotals.specs.Stack.{frames_of, is_above, added, left_of, closed, closed_of, AreTooMany, CannotClose};
 
-    /// Returns no entries.
     pub(crate) fn new(alloc: A) -> Self
         ensures { frames_of result ≡ [] }
     {
@@ -44,14 +43,12 @@ impl<C: ClientState, A: Allocator + Copy> Stack<C, A> {
         }
     }
 
-    /// Returns whether nothing is open.
     pub(crate) fn is_empty(&self) -> bool
         ensures { IsTrue result ↔ (frames_of self.now ≡ []) }
     {
         self.open.is_empty()
     }
 
-    /// Returns whether the last entry, if there is one, is less deep than this.
     pub(crate) fn is_above(&self, depth: usize) -> bool
         ensures { result ≡ is_above depth (frames_of self.now) }
     {
@@ -61,7 +58,6 @@ impl<C: ClientState, A: Allocator + Copy> Stack<C, A> {
         }
     }
 
-    /// Counts this below the last entry, if there is one.
     pub(crate) fn count(&mut self, more: &Subtotal) -> Result<(), UsageFault>
         ensures counted { OnOk result (frames_of self.new ≡ added more.now (frames_of self.old)) }
         ensures too_many { IfErr result (λ fault. (fault ≡ TooMany) × AreTooMany more.now (frames_of self.old)) }
@@ -72,7 +68,6 @@ impl<C: ClientState, A: Allocator + Copy> Stack<C, A> {
         }
     }
 
-    /// Opens an entry below the last.
     pub(crate) fn push(
         &mut self,
         depth: usize,
@@ -89,7 +84,6 @@ impl<C: ClientState, A: Allocator + Copy> Stack<C, A> {
         Ok(())
     }
 
-    /// Closes the last entry, whose subtotal counts below the one before. Returns it, if it is asked for.
     pub(crate) fn close(&mut self) -> Result<Option<WithSubtotal<C, A>>, UsageFault>
         ensures left { OnOk result (frames_of self.new ≡ left_of (frames_of self.old)) }
         ensures closed { IfOk result (λ last. closed last ≡ closed_of (frames_of self.old)) }

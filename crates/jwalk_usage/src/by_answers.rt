@@ -27,8 +27,6 @@ pub(crate) trait Counted<C: ClientState, A: Allocator + Copy> {
         ensures faults { IfErr result (CannotAdd (with_answer errors bytes (item answer.now) usage.old) (item answer.now)) };
 }
 
-/// Returns what the answers of an iterator come to, counted so. The iterator is left where it ended or where the
-/// counting did.
 pub(crate) fn usage_by<
     N: Counted<C, A>,
     C: ClientState,

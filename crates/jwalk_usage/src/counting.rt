@@ -12,7 +12,6 @@ use jwalk::file_system::{FileSystem, FileType, Metadata};
 use jwalk::{ClientState, DirEntry, Error};
 use std::alloc::Allocator;
 
-/// Returns whether the directory below an entry could not be read.
 pub(crate) fn has_failed<C: ClientState, A: Allocator + Copy>(
     below: &Option<ReadChildren<C, A>>,
 ) -> bool
@@ -31,7 +30,6 @@ fn is_asked<C: ClientState, A: Allocator + Copy>(found: &DirEntry<C, A>) -> bool
     found.file_type().is_file() && found.metadata_seen().is_none()
 }
 
-/// Returns the length in the metadata that an entry keeps, and 0 if it keeps none.
 fn length_kept<C: ClientState, A: Allocator + Copy>(found: &DirEntry<C, A>) -> u128
     ensures { result ≡ length_kept (entry found.now).seen }
 {
@@ -50,7 +48,6 @@ impl Usage {
     ghost use Rattle.jwalk_usage.specs.Counts.{nothing, with_type, with_length, with_one, CountsType, IsTooGreat, CannotCount};
     ghost use Rattle.jwalk_usage.specs.Kept.{is_known, with_kept};
 
-    /// Returns the usage of no answers.
     pub(crate) fn nothing() -> Self
         ensures { result ≡ nothing }
     {
@@ -64,7 +61,6 @@ impl Usage {
         }
     }
 
-    /// Counts an entry by its type.
     pub(crate) fn add_type(&mut self, file_type: FileType) -> Result<(), UsageFault>
         ensures counted { OnOk result (self.new ≡ with_type file_type self.old) }
         ensures too_many { IfErr result (λ fault. (fault ≡ UsageFault.TooMany)
@@ -79,7 +75,6 @@ impl Usage {
         Ok(())
     }
 
-    /// Counts an error, unless it reports that memory ran out.
     pub(crate) fn add_error<A: Allocator + Copy>(
         &mut self,
         error: &Error<A>,
@@ -96,7 +91,6 @@ impl Usage {
         Ok(())
     }
 
-    /// Counts the bytes of a file by its metadata, or the error in their place.
     fn add_length<A: Allocator + Copy>(
         &mut self,
         metadata: Result<Metadata, Error<A>>,
@@ -155,7 +149,6 @@ impl Usage {
         Ok(())
     }
 
-    /// Counts one answer.
     pub(crate) fn add<S: FileSystem, C: ClientState, A: Allocator + Copy>(
         &mut self,
         fs: &S,

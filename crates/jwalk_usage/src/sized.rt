@@ -22,7 +22,6 @@ impl Usage {
     ghost use Rattle.jwalk_usage.specs.Counts.{IsTooGreat};
     ghost use Rattle.jwalk_usage.specs.Sized.{with_size, with_sized};
 
-    /// Counts the size of a file, or the error in its place.
     fn add_size(&mut self, size: Size) -> Result<(), UsageFault>
         ensures counted { OnOk result (self.new ≡ with_size size self.old) }
         ensures too_many { IfErr result (λ fault. (fault ≡ UsageFault.TooMany)
@@ -36,7 +35,6 @@ impl Usage {
         Ok(())
     }
 
-    /// Counts an entry by its type, the error of a directory, and the size of a file.
     fn add_sized_entry<B: Clone + Default + Debug + Drop, A: Allocator + Copy>(
         &mut self,
         found: &DirEntry<(B, Size), A>,

@@ -5,7 +5,7 @@ use mathlib.Core.Option.{some, some-injective, some-ne-none}
 use native.Mathlib.Decide.{ℕ_discrete}
 use lib.ListN.{get_elem?}
 use Rattle.atomic_table.specs.Table.{State, Me, keeps, takes, gives, opening, rest, Allows, Arrives}
-use Rattle.atomic_table.proofs.Lists.{at_set, set_here, set_again}
+use Rattle.atomic_table.proofs.Lists.{at_set, set_here}
 use Rattle.keyed_slot.specs.declared.rule.Known.{Known}
 use Rattle.keyed_slot.specs.Keyed.{Carries}
 use Rattle.keyed_slot.specs.Rule.{with_key, without_key, IsSo, IsKept, Takes, Puts, TakesWith, PutsWith}
@@ -186,8 +186,9 @@ module _ {X T M : Type 0} (fits : T → X → Type 0) (mark_of : X → M) (tag :
           λ away. absurd (away free),
         ),
       ))
-      (λ away. (
-        v,
+      (λ away.
+      let seat : Known T M X = with_key false v.tag v.mark None None in (
+        seat,
         keeps,
         tt,
         record {
@@ -195,9 +196,14 @@ module _ {X T M : Type 0} (fits : T → X → Type 0) (mark_of : X → M) (tag :
           holder = kept.holder;
           one = length-set s.words 0 1 ∙ kept.one;
           home = λ z. absurd (omega arith);
-          each = λ j u at.
-              let so = kept.each j u (subst (λ (l : List (Known T M X)). get_elem? l j ≡ some u) (set_again s.views id v me) at) in
-              record { key = so.key; out = λ h. ((so.out h).0, (so.out h).1, λ z. absurd (omega arith)) };
+          each = λ j u at. ⊎_elim
+              (λ (t : (j ≡ id) × (seat ≡ u)).
+              subst (λ (w : Known T M X). IsSo kept.mark kept.holder (get_or (set s.words 0 1) 0 0) j w) t.1
+              (record { key = λ _. (t.0 ∙ key.0, key.1); out = λ h. absurd (let no : false ≡ true = h in cc) }))
+              (λ (t : (j ≢ id) × (get_elem? s.views j ≡ some u)).
+              let so = kept.each j u t.1 in
+              record { key = so.key; out = λ h. ((so.out h).0, (so.out h).1, λ z. absurd (omega arith)) })
+              (at_set s.views id j seat u at);
         },
         (λ free. absurd (away free), λ _. refl),
       )))

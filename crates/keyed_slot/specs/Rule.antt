@@ -45,9 +45,9 @@ module _ {X T M : Type 0} (fits : T → X → Type 0) (mark_of : X → M) where
   abbrev pub Takes : Me (Option X) (Known T M X) → ℕ → Me (Option X) (Known T M X) → Type 0
   Takes before found after = (found ≡ 0 → HasTaken false before.0.tag after) × (found ≢ 0 → after.0.took ≡ None)
 
-  -- Where the value was at home, the key's seat has taken it, and it has the mark that this seat knew. Else nothing changed.
+  -- Where the value was at home, the key's seat has taken it, and it has the mark that this seat knew. Else the seat knows that it took nothing.
   abbrev pub TakesWith : Me (Option X) (Known T M X) → ℕ → Me (Option X) (Known T M X) → Type 0
-  TakesWith before found after = (found ≡ 0 → HasTaken true before.0.tag after × (after.0.mark ≡ before.0.mark)) × (found ≢ 0 → after ≡ before)
+  TakesWith before found after = (found ≡ 0 → HasTaken true before.0.tag after × (after.0.mark ≡ before.0.mark)) × (found ≢ 0 → after ≡ (with_key false before.0.tag before.0.mark None None, []))
 
 module _ {X T M : Type 0} where
   -- A seat has put back what it had.

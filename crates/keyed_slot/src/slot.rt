@@ -130,7 +130,7 @@ impl<X: Marked + Drop, A: Allocator + Copy> KeyedSlot<X, A> {
         ensures fits { IfSome result (X.fits (tag_of self.now)) }
         ensures mark { IfSome result (λ value. X.mark value ≡ key_mark key.old) }
         ensures taken { IfSome result (λ value. handled key.new ≡ (Some value, None)) }
-        ensures same { result ≡ None → handled key.new ≡ handled key.old }
+        ensures none { result ≡ None → handled key.new ≡ (None, None) }
     {
         let shared = &self.table.shared;
         if shared.swap::<TakeWith<X>>(&mut key.seat, 0, 1) != 0 {

@@ -1,6 +1,7 @@
 //! Messages of workers, and the reading that is waited for.
 use crate::given::{self, Refusing, States, address, roots_of};
-use jwalk_board::board::{Board, HandOutRefusal};
+use jwalk_board::board::Board;
+use jwalk_core::arrival::arrive;
 use jwalk_core::message::Message;
 use jwalk_core::wanted::Wanted;
 use jwalk_job::ancestors::Ancestors;
@@ -15,6 +16,7 @@ use jwalk_order::ordered::Ordered;
 use std::alloc::Global;
 use std::io::ErrorKind;
 use std::sync::Arc;
+use tree_crew::arrival::Arrival;
 
 type Spec = ReadDirSpec<States>;
 
@@ -172,24 +174,13 @@ fn begin<'f>(alloc: Global, job: &TreeJob<'f>, other: Other) -> Option<(Reads<'f
     Some((Board::new(roots).ok()?, wanted))
 }
 
-/// What a message that was handed out is to a walk that waits.
-fn checked(item: &Ordered<Told<'_>>, wanted: &Wanted) -> &'static str {
-    if item.value.is_refused() {
-        "memory"
-    } else if wanted.fits(item) {
-        "entered"
-    } else {
-        "lost"
-    }
-}
-
 /// The outcome of the reading that is wanted.
 fn asks(board: &mut Reads<'_>, wanted: &Wanted) -> &'static str {
-    match board.hand_out() {
-        Ok(item) => checked(&item, wanted),
-        Err(HandOutRefusal::Stopped | HandOutRefusal::Memory) => "memory",
-        Err(HandOutRefusal::Done) => "lost",
-        Err(HandOutRefusal::NotReady) => "wait",
+    match arrive(board, wanted) {
+        Arrival::Entered(_) => "entered",
+        Arrival::Memory => "memory",
+        Arrival::Lost => "lost",
+        Arrival::Wait => "wait",
     }
 }
 

@@ -7,6 +7,7 @@ use std::time::{Clock, Duration};
 use test_fixtures::family::Family;
 use tree_crew::crew::{Crew, NotStarted, Place};
 use tree_crew::origin::Origin;
+use tree_crew::places::Places;
 use tree_crew::session::Session;
 use tree_crew::whole::read_all;
 
@@ -93,6 +94,22 @@ fn readings_of_two_families_by_a_crew_one_at_a_time(rt: HostRuntime) {
 }
 
 // Places.
+
+/// Whether there is one place, which is free, and which is taken once until it is given back.
+fn is_one(mut places: Places) -> bool {
+    if !places.take() {
+        return false;
+    }
+    let again = places.take();
+    places.give_back();
+    !again && places.in_use() == 0 && places.take() && places.places() == 1
+}
+
+#[test]
+fn one_place_is_free_until_it_is_taken(rt: HostRuntime) {
+    assert!(rt; is_one(Places::new(1)));
+    assert!(rt; is_one(Places::new(0)));
+}
 
 /// Whether a crew has one place, which is taken once until it is given back.
 fn is_taken_once<R: Wait + Clock + Drop>(crew: &Arc<Crew<R>>) -> bool {

@@ -5,9 +5,9 @@ use Rattle.keyed_slot.specs.declared.slot.KeyedSlot.{KeyedSlot}
 use Rattle.keyed_slot.specs.declared.slot.Receipt.{Receipt}
 use Rattle.jwalk_board.specs.Board.{Board, Finishes}
 use Rattle.tree_crew.specs.declared.arrival.Arrival.{Arrival}
-use Rattle.tree_crew.specs.declared.arrival.Arrival.TheVariants.{Entered, Done, Memory, Wait}
+use Rattle.tree_crew.specs.declared.arrival.Arrival.TheVariants.{Entered, Lost, Memory, Wait}
 use Rattle.tree_crew.specs.Arrival.{Arrives}
-use Rattle.tree_crew.specs.Message.{Message}
+use Rattle.tree_crew.specs.Message.{Message, ran_out}
 use Rattle.jwalk_order.specs.declared.ordered.Ordered.{Ordered}
 use Rattle.tree_crew.specs.declared.sleepers.Sleepers.{Sleepers}
 use Rattle.tree_crew.specs.declared.steps.Called.{Called}
@@ -30,7 +30,7 @@ takers_of_noted limit board before after calls told = record { takers = told.tak
 
 module _ {T U J A : Type 0} where
   -- whom the walk calls where a reading came
-  pub calls_entered : (limit own : ℕ) (arrival : Arrival T U J A) (item : Ordered (Message T U J) A) (this board : Board T (Message T U J)) (noted before after : Sleepers) (calls : Called)
+  pub calls_entered : (limit own : ℕ) (arrival : Arrival (Message T U J) A) (item : Ordered (Message T U J) A) (this board : Board T (Message T U J)) (noted before after : Sleepers) (calls : Called)
       → arrival ≡ Entered item → limit ≡ own → this ≡ board → noted ≡ not_overslept before → CallsTakers limit this noted after calls → CallsIfEntered own arrival board before after calls
   calls_entered limit own arrival item this board noted before after calls came is same note told =
       subst (λ x. CallsIfEntered own x board before after calls) (sym came)
@@ -38,11 +38,11 @@ module _ {T U J A : Type 0} where
       (subst (λ s. CallsTakers own board s after calls) note (subst (λ b. CallsTakers own b noted after calls) same (subst (λ l. CallsTakers l this noted after calls) is told))))
 
   -- where none came
-  pub calls_nobody : (limit : ℕ) (arrival : Arrival T U J A) → ((item : Ordered (Message T U J) A) → ¬ (arrival ≡ Entered item)) → (board : Board T (Message T U J)) (before after : Sleepers) (calls : Called)
+  pub calls_nobody : (limit : ℕ) (arrival : Arrival (Message T U J) A) → ((item : Ordered (Message T U J) A) → ¬ (arrival ≡ Entered item)) → (board : Board T (Message T U J)) (before after : Sleepers) (calls : Called)
       → CallsNobody calls → CallsIfEntered limit arrival board before after calls
   calls_nobody limit (Entered item) other board before after calls nobody = absurd (other item refl)
   calls_nobody limit Memory other board before after calls nobody = nobody
-  calls_nobody limit Done other board before after calls nobody = nobody
+  calls_nobody limit Lost other board before after calls nobody = nobody
   calls_nobody limit Wait other board before after calls nobody = nobody
 
   -- one step on a board that was taken and put back by the key
@@ -56,12 +56,12 @@ module _ {T U J A : Type 0} where
     steps = steps;
   }
 
-  pub arrives_on : (arrival : Arrival T U J A) (before was after : Option (Work T U J A) × Option (Work T U J A)) (taken put : Work T U J A) (old new : Board T (Message T U J))
-      → was ≡ (Some taken, None) → after ≡ (was.0, Some put) → old ≡ box_value taken.board → box_value put.board ≡ new → Arrives old arrival new → ArrivesOrIsOut arrival before after
-  arrives_on arrival before was after taken put old new take give from to steps =
-      inl (handled_on (λ old new. Arrives old arrival new) was after taken put old new take give from to steps)
+  pub arrives_on : (arrival : Arrival (Message T U J) A) (was after : Option (Work T U J A) × Option (Work T U J A)) (taken put : Work T U J A) (old new : Board T (Message T U J))
+      → was ≡ (Some taken, None) → after ≡ (was.0, Some put) → old ≡ box_value taken.board → box_value put.board ≡ new → Arrives ran_out old arrival new → ArrivesOrIsOut arrival after
+  arrives_on arrival was after taken put old new take give from to steps =
+      inl (handled_on (λ old new. Arrives ran_out old arrival new) was after taken put old new take give from to steps)
 
-  pub calls_on : (limit : ℕ) (arrival : Arrival T U J A) (before after : Sleepers) (calls : Called) (was works : Option (Work T U J A) × Option (Work T U J A)) (taken put : Work T U J A) (old new : Board T (Message T U J))
+  pub calls_on : (limit : ℕ) (arrival : Arrival (Message T U J) A) (before after : Sleepers) (calls : Called) (was works : Option (Work T U J A) × Option (Work T U J A)) (taken put : Work T U J A) (old new : Board T (Message T U J))
       → was ≡ (Some taken, None) → works ≡ (was.0, Some put) → old ≡ box_value taken.board → box_value put.board ≡ new → CallsIfEntered limit arrival new before after calls → CallsOrIsOut limit arrival before after calls works
   calls_on limit arrival before after calls was works taken put old new take give from to told =
       inl (handled_on (λ _ board. CallsIfEntered limit arrival board before after calls) was works taken put old new take give from to told)

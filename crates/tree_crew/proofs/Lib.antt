@@ -1,5 +1,5 @@
 pub mod OriginFacts
-mod ArrivalFacts
+pub mod ArrivalFacts
 mod HandledFacts
 mod SharedFacts
 mod PaceFacts

@@ -4,15 +4,16 @@ use Rattle.jwalk_order.specs.declared.ordered.Ordered.{Ordered}
 use Rattle.jwalk_board.specs.Board.{Board, HandsOut, Finishes}
 use Rattle.jwalk_board.specs.declared.board.plan.Plan as Plan
 use Rattle.tree_crew.specs.declared.arrival.Arrival.{Arrival}
-use Rattle.tree_crew.specs.declared.arrival.Arrival.TheVariants.{Entered, Memory, Done, Wait}
+use Rattle.tree_crew.specs.declared.arrival.Arrival.TheVariants.{Entered, Memory, Lost, Wait}
 use Rattle.tree_crew.specs.declared.steps.Turn.{Turn}
 use Rattle.tree_crew.specs.declared.steps.Turn.TheVariants as turn
 use Rattle.tree_crew.specs.Arrival.{Arrives}
-use Rattle.tree_crew.specs.Message.{Message}
+use Rattle.tree_crew.specs.Message.{Message, ran_out}
 use Rattle.tree_crew.specs.Origin.{Origin, IsBoardOf, IsMadeAt}
 use Rattle.tree_crew.specs.Shared.{IsTurnOf, IsArrivalOf}
 use Rattle.tree_crew.specs.Steps.{Turns}
 use Rattle.tree_crew.specs.Pace.{IsWithin}
+use Rattle.tree_crew.proofs.ArrivalFacts.{made_of}
 use Rattle.tree_crew.proofs.PaceFacts.{handed_within, same_within}
 use Rattle.tree_crew.proofs.OriginFacts.{ChildrenAreGiven, taken_of, handed_of, finished_of, stopped_of}
 
@@ -50,7 +51,7 @@ module _ {J A T U : Type 0} (p : Plan.Ghosts J A T U) (origin : Origin T J) (old
   handed_board : (item : Ordered (Message T U J) A) → HandsOut item old new → IsBoardOf p origin new
   handed_board item out = (handed_of p origin old new of item out).1
 
-  pub arrived_board : (a : Arrival T U J A) → Arrives old a new → IsBoardOf p origin new
+  pub arrived_board : (a : Arrival (Message T U J) A) → Arrives ran_out old a new → IsBoardOf p origin new
   arrived_board (Entered item) comes = handed_board item comes.0
   arrived_board Memory comes = elim comes [
     | inl refused ↦ same_of refused.unchanged
@@ -59,10 +60,10 @@ module _ {J A T U : Type 0} (p : Plan.Ghosts J A T U) (origin : Origin T J) (old
       | inr gives ↦ handed_board gives.item gives.hands_out
     ]
   ]
-  arrived_board Done comes = same_of comes.unchanged
+  arrived_board Lost comes = same_of comes.unchanged
   arrived_board Wait comes = same_of comes.unchanged
 
-  pub arrived_within : (limit : ℕ) (a : Arrival T U J A) → Arrives old a new → IsWithin limit old → IsWithin limit new
+  pub arrived_within : (limit : ℕ) (a : Arrival (Message T U J) A) → Arrives ran_out old a new → IsWithin limit old → IsWithin limit new
   arrived_within limit (Entered item) comes within = handed_within limit old new item comes.0 within
   arrived_within limit Memory comes within = elim comes [
     | inl refused ↦ same_within limit old new refused.unchanged within
@@ -71,18 +72,18 @@ module _ {J A T U : Type 0} (p : Plan.Ghosts J A T U) (origin : Origin T J) (old
       | inr gives ↦ handed_within limit old new gives.item gives.hands_out within
     ]
   ]
-  arrived_within limit Done comes within = same_within limit old new comes.unchanged within
+  arrived_within limit Lost comes within = same_within limit old new comes.unchanged within
   arrived_within limit Wait comes within = same_within limit old new comes.unchanged within
 
-  pub arrived_of : (a : Arrival T U J A) → Arrives old a new → IsArrivalOf p origin old.frontier a new.frontier
+  pub arrived_of : (a : Arrival (Message T U J) A) → Arrives ran_out old a new → IsArrivalOf p origin old.frontier a new.frontier
   arrived_of (Entered item) comes = record {
     next = comes.0.next;
-    made = comes.1;
+    made = made_of item.value.outcome comes.1;
     of = (handed_of p origin old new of item comes.0).0;
     further = ap (λ b. b.frontier) comes.0.others;
   }
   arrived_of Memory comes = tt
-  arrived_of Done comes = (comes.refused.1, ap (λ b. b.frontier) comes.unchanged)
+  arrived_of Lost comes = (comes.refused.1, ap (λ b. b.frontier) comes.unchanged)
   arrived_of Wait comes = ap (λ b. b.frontier) comes.unchanged
 
   pub handed_in_of : {D F : Type 0} (r : Result D F) → ChildrenAreGiven p → (a : List ℕ) (message : Message T U J) (children : List T) → IsMadeAt p origin a message children

@@ -7,9 +7,9 @@ use Rattle.keyed_slot.specs.declared.slot.Receipt.{Receipt}
 use Rattle.jwalk_order.specs.IndexPath.{address}
 use Rattle.jwalk_board.specs.Board.{Board, Finishes, IsNextReady}
 use Rattle.tree_crew.specs.declared.arrival.Arrival.{Arrival}
-use Rattle.tree_crew.specs.declared.arrival.Arrival.TheVariants.{Entered, Done, Memory, Wait}
+use Rattle.tree_crew.specs.declared.arrival.Arrival.TheVariants.{Entered, Lost, Memory, Wait}
 use Rattle.tree_crew.specs.Arrival.{Arrives}
-use Rattle.tree_crew.specs.Message.{Message}
+use Rattle.tree_crew.specs.Message.{Message, ran_out}
 use Rattle.tree_crew.specs.declared.hand_in.HandIn.{HandIn}
 use Rattle.tree_crew.specs.declared.sleepers.Sleepers.{Sleepers}
 use Rattle.tree_crew.specs.declared.steps.Called.{Called}
@@ -54,18 +54,26 @@ module _ {T U J A : Type 0} where
     pub steps : step old new
 
   -- Whom the walk calls: where a reading came, as many workers as may take something then, and otherwise nobody.
-  abbrev pub CallsIfEntered : ℕ → Arrival T U J A → Board T (Message T U J) → Sleepers → Sleepers → Called → Type 0
+  abbrev pub CallsIfEntered : ℕ → Arrival (Message T U J) A → Board T (Message T U J) → Sleepers → Sleepers → Called → Type 0
   CallsIfEntered limit (Entered item) board before after calls = CallsTakers limit board before after calls
   CallsIfEntered limit Memory board before after calls = CallsNobody calls
-  CallsIfEntered limit Done board before after calls = CallsNobody calls
+  CallsIfEntered limit Lost board before after calls = CallsNobody calls
   CallsIfEntered limit Wait board before after calls = CallsNobody calls
 
-  -- What the walk finds is what the hand-out gave; the board was taken and put back by the key. Or the board is out: the walk ends, and the key did nothing.
-  abbrev pub ArrivesOrIsOut : Arrival T U J A → Option (Work T U J A) × Option (Work T U J A) → Option (Work T U J A) × Option (Work T U J A) → Type 0
-  ArrivesOrIsOut arrival before after = IsHandled (λ old new. Arrives old arrival new) after ⊎ ((arrival ≡ Memory) × (after ≡ before))
+  -- What the walk finds is what the hand-out gave; the board was taken and put back by the key. Or the board is out: the walk ends, and the key found nothing.
+  abbrev pub ArrivesOrIsOut : Arrival (Message T U J) A → Option (Work T U J A) × Option (Work T U J A) → Type 0
+  ArrivesOrIsOut arrival works = IsHandled (λ old new. Arrives ran_out old arrival new) works ⊎ ((arrival ≡ Memory) × (works ≡ (None, None)))
+
+  -- The same, but where the reading isn't ready and the board was missed before, the walk ends too.
+  abbrev pub ArrivesUnlessMissed : Bool → Arrival (Message T U J) A → Option (Work T U J A) × Option (Work T U J A) → Type 0
+  ArrivesUnlessMissed missed arrival works = ArrivesOrIsOut arrival works ⊎ ((arrival ≡ Memory) × (missed ≡ true) × ArrivesOrIsOut Wait works)
+
+  -- The key asked the board: memory ran out, or the board was out, or the reading wasn't ready.
+  abbrev pub WasAsked : Option (Work T U J A) × Option (Work T U J A) → Type 0
+  WasAsked works = ArrivesOrIsOut Memory works ⊎ ArrivesOrIsOut Wait works
 
   -- Whom the walk calls goes by the board that it put back by the key; or the board is out, and it calls nobody.
-  abbrev pub CallsOrIsOut : ℕ → Arrival T U J A → Sleepers → Sleepers → Called → Option (Work T U J A) × Option (Work T U J A) → Type 0
+  abbrev pub CallsOrIsOut : ℕ → Arrival (Message T U J) A → Sleepers → Sleepers → Called → Option (Work T U J A) × Option (Work T U J A) → Type 0
   CallsOrIsOut limit arrival before after calls works = IsHandled (λ _ board. CallsIfEntered limit arrival board before after calls) works ⊎ CallsNobody calls
 
   -- The receipt is for the board of this slot, which was taken and put back after this step on it.

@@ -7,7 +7,7 @@ use Rattle.jwalk_order.specs.declared.ordered.Ordered.{Ordered}
 use Rattle.jwalk_order.specs.Addressed.{addressed}
 use Rattle.jwalk_board.specs.declared.board.plan.Plan as Plan
 use Rattle.tree_crew.specs.declared.arrival.Arrival.{Arrival}
-use Rattle.tree_crew.specs.declared.arrival.Arrival.TheVariants.{Entered, Memory, Done, Wait}
+use Rattle.tree_crew.specs.declared.arrival.Arrival.TheVariants.{Entered, Memory, Lost, Wait}
 use Rattle.tree_crew.specs.declared.steps.Turn.{Turn}
 use Rattle.tree_crew.specs.declared.steps.Turn.TheVariants as turn
 use Rattle.tree_crew.specs.Message.{Message}
@@ -29,10 +29,10 @@ module _ {J A T U : Type 0} (p : Plan.Ghosts J A T U) (origin : Origin T J) wher
     pub further : after ≡ passed before (child_count_of item)
 
   -- what a walk that waits for its next reading finds, by the addresses that are awaited before and after
-  abbrev pub IsArrivalOf : List (List ℕ) → Arrival T U J A → List (List ℕ) → Type 0
+  abbrev pub IsArrivalOf : List (List ℕ) → Arrival (Message T U J) A → List (List ℕ) → Type 0
   IsArrivalOf before (Entered item) after = IsReadingAt before item after
   IsArrivalOf before Memory after = Unit {0}
-  IsArrivalOf before Done after = (before ≡ []) × (after ≡ before)
+  IsArrivalOf before Lost after = (before ≡ []) × (after ≡ before)
   IsArrivalOf before Wait after = after ≡ before
 
   -- what a walk that waited for its next reading is given in the end

@@ -83,14 +83,12 @@ impl<R: Wait + Clock> Crew<R> {
         self.late.load(Ordering::SeqCst)
     }
 
-    /// Counts one of these, if it is one.
     pub(crate) fn count_late(&self, late: bool) {
         if late {
             self.late.fetch_add(1, Ordering::SeqCst);
         }
     }
 
-    /// Returns how many threads a walk is given, unless fewer can be started.
     pub(crate) fn workers(&self) -> usize
         ensures { result ≡ workers_of self.now }
     {
@@ -182,7 +180,6 @@ impl<R: Wait + Clock + Drop, A: Allocator + Copy> Place<R, A> {
         }
     }
 
-    /// Returns the crew that the place is of.
     pub(crate) fn crew(&self) -> &Arc<Crew<R>, A>
         ensures { result.now ≡ self.now.crew }
     {

@@ -22,7 +22,6 @@ impl<T, J, A: Allocator + Copy> Drop for Ground<T, J, A> {
 }
 
 impl<T, J, A: Allocator + Copy> Ground<T, J, A> {
-    /// Returns what the slot is made for of a walk that begins there and has this limit.
     pub(crate) fn of(origin: &Origin<T, J, A>, limit: usize) -> Self
         ensures origin { result.origin.value ≡ origin.now }
         ensures limit { result.limit.value ≡ limit }

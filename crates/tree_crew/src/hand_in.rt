@@ -30,7 +30,6 @@ impl<T: Drop, U: Drop, J: Plan<A, Spec = T, Reading = U> + Drop, A: Allocator + 
     J,
     A,
 > {
-    /// What a worker made of the specification at an address: a message, and the specifications below it.
     pub(crate) fn new(
         address: IndexPath<A>,
         message: Message<T, U, J, A>,
@@ -47,7 +46,6 @@ impl<T: Drop, U: Drop, J: Plan<A, Spec = T, Reading = U> + Drop, A: Allocator + 
         }
     }
 
-    /// Finishes it on a board. What is refused comes back, and the board is stopped then.
     pub(crate) fn finish(
         self,
         board: &mut Board<T, Message<T, U, J, A>, A>,

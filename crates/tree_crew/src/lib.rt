@@ -5,7 +5,7 @@
 //! below it.
 #![tactic(auto)]
 
-mod arrival;
+pub mod arrival;
 pub mod crew;
 mod ground;
 mod hand_in;
@@ -13,7 +13,7 @@ pub mod incomplete;
 pub mod message;
 pub mod origin;
 mod pace;
-mod places;
+pub mod places;
 pub mod session;
 mod shared;
 mod sleepers;

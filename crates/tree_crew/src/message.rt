@@ -2,6 +2,7 @@
 ghost use Rattle.std.specs.Prelude.{◌≡◌, [], ◌↔◌, IsErr, IsTrue, MatchResult};
 ghost use Rattle.std.specs.Arc.{arc_value};
 
+use crate::arrival::Reported;
 use jwalk_board::board::Plan;
 use std::alloc::{AllocError, Allocator, Global};
 use std::marker::Model;
@@ -65,6 +66,16 @@ impl<T: Drop, U: Drop, J: Plan<A, Spec = T, Reading = U> + Drop, A: Allocator + 
                 Vec::new(alloc),
             ),
         }
+    }
+}
+
+impl<T: Drop, U: Drop, J: Drop, A: Allocator + Copy> Reported for Message<T, U, J, A> {
+    ghost use Rattle.tree_crew.specs.Message.{ran_out};
+
+    ghost refused = { ran_out };
+
+    fn is_refused(&self) -> bool {
+        self.outcome.is_err()
     }
 }
 

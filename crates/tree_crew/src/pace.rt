@@ -16,7 +16,6 @@ pub(crate) struct Pace {
 }
 
 impl Pace {
-    /// Returns the pace by a limit.
     pub(crate) fn new(limit: usize, rests: bool) -> Self
         ensures limit { result.limit ≡ limit }
         ensures rests { result.rests ≡ rests }
@@ -24,7 +23,6 @@ impl Pace {
         Pace { limit, rests }
     }
 
-    /// Returns how many more readings may be ready or in hand, or none where there are more than the limit.
     fn room<T: Drop, R: Drop, A: Allocator + Copy>(self, board: &Board<T, R, A>) -> Option<usize>
         ensures some { IfSome result (λ room. room + ready_or_in_hand board.now ≡ self.limit) }
         ensures none { IfNone result (self.limit < ready_or_in_hand board.now) }
@@ -34,7 +32,6 @@ impl Pace {
             .checked_sub(board.in_hand())
     }
 
-    /// Returns whether no more than half the limit is ready or in hand.
     pub(crate) fn is_half_free<T: Drop, R: Drop, A: Allocator + Copy>(
         self,
         board: &Board<T, R, A>,
@@ -47,7 +44,6 @@ impl Pace {
         }
     }
 
-    /// Returns how many workers may take something.
     pub(crate) fn takers<T: Drop, R: Drop, A: Allocator + Copy>(
         self,
         board: &Board<T, R, A>,
@@ -61,7 +57,6 @@ impl Pace {
         }
     }
 
-    /// Returns whether something is queued, and no worker may take it yet.
     pub(crate) fn holds_back<T: Drop, R: Drop, A: Allocator + Copy>(
         self,
         board: &Board<T, R, A>,

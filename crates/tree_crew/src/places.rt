@@ -5,7 +5,7 @@ use std::marker::Model;
 
 /// How many walks a crew serves at once, and how many it serves now.
 #[derive(Debug, Drop)]
-pub(crate) struct Places {
+pub struct Places {
     in_use: usize,
     places: usize,
 }
@@ -23,7 +23,7 @@ impl Model for Places {
 
 impl Places {
     /// Returns that many places, none of them in use. 0 counts as 1.
-    pub(crate) fn new(places: usize) -> Self
+    pub fn new(places: usize) -> Self
         ensures none_in_use { result.in_use ≡ 0 }
         ensures places { result.places ≡ max 1 places }
     {
@@ -34,7 +34,7 @@ impl Places {
     }
 
     /// Takes a place, if one is free, and returns whether it did.
-    pub(crate) fn take(&mut self) -> bool
+    pub fn take(&mut self) -> bool
         ensures free { IsTrue result ↔ (self.old.in_use < self.old.places) }
         ensures taken { self.new ≡ (if result then record self.old { in_use = self.old.in_use + 1 } else self.old) }
     {
@@ -47,7 +47,7 @@ impl Places {
     }
 
     /// Gives a place back.
-    pub(crate) fn give_back(&mut self)
+    pub fn give_back(&mut self)
         requires { 0 < self.old.in_use }
         ensures { self.new ≡ record self.old { in_use = self.old.in_use - 1 } }
     {
@@ -55,10 +55,17 @@ impl Places {
     }
 
     /// Returns how many are in use.
-    pub(crate) fn in_use(&self) -> usize
+    pub fn in_use(&self) -> usize
         ensures value { result ≡ self.now.in_use }
         ensures fits { result ≤ self.now.places }
     {
         self.in_use
+    }
+
+    /// Returns how many there are.
+    pub fn places(&self) -> usize
+        ensures { result ≡ self.now.places }
+    {
+        self.places
     }
 }

@@ -1,10 +1,11 @@
 //! A walk over a crew.
-ghost use Rattle.std.specs.Prelude.{◌≡◌, ◌+◌, ◌≤◌, false, IfOk, length};
+ghost use Rattle.std.specs.Prelude.{◌≡◌, ◌+◌, ◌≤◌, false, IfOk, IfErr, length};
 ghost use Rattle.std.specs.Arc.{arc_value};
-ghost use Rattle.keyed_slot.specs.Keyed.{key_mark, is_out, Opens};
+ghost use Rattle.keyed_slot.specs.Keyed.{key_mark, is_out, handled, Opens};
 ghost use Rattle.jwalk_order.specs.Frontier.{roots as root_addresses};
 ghost use Rattle.tree_crew.specs.Crew.{limit_of};
 ghost use Rattle.tree_crew.specs.Ground.{origin_at};
+ghost use Rattle.tree_crew.specs.Handled.{WasAsked};
 ghost use Rattle.tree_crew.specs.Origin.{CountAlike};
 ghost use Rattle.tree_crew.specs.Shared.{IsAnswerOf};
 
@@ -76,6 +77,7 @@ fn wait_for<
     ensures opens { Opens key.new shared.now.work }
     ensures home { is_out key.new ≡ false }
     ensures answer { IsAnswerOf J.Plan (origin_at shared.now.work) (key_mark key.old) result (key_mark key.new) }
+    ensures asked { IfErr result (λ _. WasAsked (handled key.new)) }
 {
     let rt = &shared.crew.rt;
     let mut sleepers = shared.sleepers.lock(rt);
@@ -87,7 +89,7 @@ fn wait_for<
                 shared.call(calls);
                 return Ok(Some(item));
             }
-            Arrival::Done => return Ok(None),
+            Arrival::Lost => return Ok(None),
             Arrival::Memory => return Err(AllocError),
             Arrival::Wait => {
                 sleepers.add_walk();
@@ -121,6 +123,7 @@ impl<
         ensures origin { origin_of self.new ≡ origin_of self.old }
         ensures read_ahead { read_ahead_of self.new ≡ read_ahead_of self.old }
         ensures answer { IsAnswerOf J.Plan (origin_of self.old) (awaited_by self.old) result (awaited_by self.new) }
+        ensures asked { IfErr result (λ _. WasAsked (handled self.new.key)) }
     {
         wait_for(&*self.shared, &mut self.key)
     }
@@ -146,7 +149,6 @@ impl<
 > Session<R, T, U, J, A> {
     ghost use Rattle.tree_crew.specs.Session.{origin_of, awaited_by, read_ahead_of};
 
-    /// Starts the workers of a walk over this ground.
     fn start_on(
         place: Place<R, A>,
         plan: Arc<J, A>,

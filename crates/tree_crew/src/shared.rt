@@ -21,6 +21,7 @@ ghost use Rattle.tree_crew.specs.Ground.{limit_at, origin_at};
 ghost use Rattle.tree_crew.specs.Handled.{
   board_in,
   ArrivesOrIsOut,
+  ArrivesUnlessMissed,
   CallsOrIsOut,
   Counts,
   FinishesOrStops,
@@ -37,6 +38,7 @@ use crate::arrival::{Arrival, arrive};
 use crate::crew::Crew;
 use crate::ground::Ground;
 use crate::hand_in::HandIn;
+use crate::message::Message;
 use crate::pace::Pace;
 use crate::sleepers::Sleepers;
 use crate::steps::{Called, Turn, new_board, take_turn};
@@ -104,8 +106,6 @@ impl<
     J: Plan<A, Spec = T, Reading = U> + Drop,
     A: Allocator + Copy,
 > Shared<R, T, U, J, A> {
-    /// Returns what the workers of a walk share, with the roots of the walk queued on its board. The key is for the
-    /// walk.
     pub(crate) fn new(
         crew: &Arc<Crew<R>, A>,
         plan: Arc<J, A>,
@@ -175,7 +175,6 @@ impl<
         self.work.put_back(Work::new(board), loan)
     }
 
-    /// Hands in what a worker read. The receipt is for a board on which it is finished, or which is stopped.
     pub(crate) fn hand_in(
         &self,
         held: &mut MutexGuard<'_, Sleepers>,
@@ -198,7 +197,6 @@ impl<
         }
     }
 
-    /// A worker's turn at the board: what it does next, and whom that calls. The receipt is for the board after that.
     pub(crate) fn turn(
         &self,
         held: &mut MutexGuard<'_, Sleepers>,
@@ -220,20 +218,19 @@ impl<
         (turn, calls, Ok(self.put_back(held, board, loan)))
     }
 
-    /// Asks the board for the walk's next reading, by its key, and returns which workers that calls. Where the
-    /// board is out, the walk ends.
+    /// Where the board is out, the walk ends.
     fn arrival_on_board(
         &self,
         held: &mut MutexGuard<'_, Sleepers>,
         key: &mut Key<Work<T, U, J, A>>,
-    ) -> (Arrival<T, U, J, A>, Called)
+    ) -> (Arrival<Message<T, U, J, A>, A>, Called)
         requires opens { Opens key.old self.now.work }
         requires home { is_out key.old ≡ false }
         ensures opens { Opens key.new self.now.work }
         ensures home { is_out key.new ≡ false }
         ensures arrival { IsArrivalOf J.Plan (origin_at self.now.work) (key_mark key.old) result.0
             (key_mark key.new) }
-        ensures handled { ArrivesOrIsOut result.0 (handled key.old) (handled key.new) }
+        ensures handled { ArrivesOrIsOut result.0 (handled key.new) }
         ensures calls { CallsOrIsOut (limit_at self.now.work) result.0 (mutex_guard_value held.old)
             (mutex_guard_value held.new) result.1 (handled key.new) }
         ensures missed { (mutex_guard_value held.new).board_missed ≡ (mutex_guard_value held.old).board_missed }
@@ -250,19 +247,19 @@ impl<
         (arrival, calls)
     }
 
-    /// Asks the board for the walk's next reading, by its key, and returns which workers that calls. Once the
-    /// board was missed the walk doesn't wait: it ends as where the board is stopped.
+    /// Once the board was missed the walk doesn't wait: it ends as where the board is stopped.
     pub(crate) fn arrival(
         &self,
         held: &mut MutexGuard<'_, Sleepers>,
         key: &mut Key<Work<T, U, J, A>>,
-    ) -> (Arrival<T, U, J, A>, Called)
+    ) -> (Arrival<Message<T, U, J, A>, A>, Called)
         requires opens { Opens key.old self.now.work }
         requires home { is_out key.old ≡ false }
         ensures opens { Opens key.new self.now.work }
         ensures home { is_out key.new ≡ false }
         ensures arrival { IsArrivalOf J.Plan (origin_at self.now.work) (key_mark key.old) result.0
             (key_mark key.new) }
+        ensures handled { ArrivesUnlessMissed (mutex_guard_value held.old).board_missed result.0 (handled key.new) }
         ensures missed { (mutex_guard_value held.old).board_missed ≡ true → ¬ (result.0 ≡ Arrival.Wait) }
     {
         let (arrival, calls) = self.arrival_on_board(held, key);
@@ -272,7 +269,6 @@ impl<
         }
     }
 
-    /// Returns how many readings are ready. The receipt is for the board as it was.
     pub(crate) fn ready(&self, held: &mut MutexGuard<'_, Sleepers>) -> (usize, Handled<T, U, J, A>)
         ensures most { result.0 ≤ limit_at self.now.work + 1 }
         ensures handled { IfOk result.1 (IsReceiptFor self.now.work (Counts result.0)) }
@@ -286,7 +282,6 @@ impl<
         (ready, Ok(self.put_back(held, board, loan)))
     }
 
-    /// Stops the board. The receipt is for a board that is stopped.
     fn stop_board(&self, held: &mut MutexGuard<'_, Sleepers>) -> Handled<T, U, J, A>
         ensures stopped { IfOk result (IsReceiptFor self.now.work Stops) }
         ensures absent { IfErr result (IsMissed self.now.work (mutex_guard_value held.new)) }
@@ -306,7 +301,7 @@ impl<
         }
     }
 
-    /// Stops the board, and with it the workers and the walk. The receipt is for a board that is stopped.
+    /// Stops the board, and with it the workers and the walk.
     pub(crate) fn stop(&self) -> Handled<T, U, J, A>
         ensures stopped { IfOk result (IsReceiptFor self.now.work Stops) }
         ensures absent { IfErr result (λ absence. IsAbsenceOf absence self.now.work) }

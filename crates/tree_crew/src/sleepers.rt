@@ -31,7 +31,6 @@ pub(crate) struct Sleepers {
 }
 
 impl Sleepers {
-    /// Returns that nobody sleeps.
     pub(crate) fn none() -> Self
         ensures { result.board_missed ≡ false }
     {
@@ -45,21 +44,18 @@ impl Sleepers {
         }
     }
 
-    /// Notes that the board wasn't there.
     pub(crate) fn set_board_missed(&mut self)
         ensures { self.new.board_missed ≡ true }
     {
         self.board_missed = true;
     }
 
-    /// Returns whether the board was missed, now or before.
     pub(crate) fn board_missed(&self) -> bool
         ensures { result ≡ self.now.board_missed }
     {
         self.board_missed
     }
 
-    /// Notes that a worker goes to sleep.
     pub(crate) fn add_worker(&mut self)
         ensures { self.new.board_missed ≡ self.old.board_missed }
     {
@@ -75,7 +71,6 @@ impl Sleepers {
         self.called = self.called.saturating_sub(1);
     }
 
-    /// Notes that the walk goes to sleep.
     pub(crate) fn add_walk(&mut self)
         ensures { self.new.board_missed ≡ self.old.board_missed }
     {
@@ -100,7 +95,6 @@ impl Sleepers {
         late
     }
 
-    /// Returns whether the workers rest.
     pub(crate) fn rests(&self) -> bool
         ensures { result ≡ self.now.rests }
     {
@@ -116,8 +110,6 @@ impl Sleepers {
         }
     }
 
-    /// Returns whether the workers still rest, by what is on a board now: no longer once the readings are down to half
-    /// the limit.
     fn still_rests<T: Drop, R: Drop, A: Allocator + Copy>(
         &self,
         board: &Board<T, R, A>,
@@ -128,8 +120,6 @@ impl Sleepers {
         self.rests && !Pace::new(limit, self.rests).is_half_free(board)
     }
 
-    /// Returns which workers the walk calls after it asked a board for a reading: if one came, as many as may take
-    /// something. They rest no longer once the readings are down to half the limit.
     pub(crate) fn after_arrival<T: Drop, R: Drop, A: Allocator + Copy>(
         &mut self,
         came: bool,

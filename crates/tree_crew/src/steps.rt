@@ -12,7 +12,6 @@ use jwalk_order::index_path::IndexPath;
 use jwalk_order::ordered::Ordered;
 use std::alloc::{AllocError, Allocator};
 
-/// Returns a board on which these are queued, in a box.
 pub(crate) fn new_board<T: Drop, R: Drop, A: Allocator + Copy>(
     roots: Vec<T, A>,
 ) -> Result<Box<Board<T, R, A>, A>, AllocError>
@@ -51,7 +50,7 @@ impl<T, A: Allocator + Copy> Turn<T, A> {
     }
 }
 
-/// Takes the next specification, if that may be taken at this pace. If memory runs out, the board is stopped.
+/// If memory runs out, the board is stopped.
 pub(crate) fn take_turn<T: Drop, R: Drop, A: Allocator + Copy>(
     board: &mut Board<T, R, A>,
     pace: Pace,
@@ -72,7 +71,6 @@ pub(crate) fn take_turn<T: Drop, R: Drop, A: Allocator + Copy>(
     }
 }
 
-/// Finishes a reading. If that fails, the board is stopped.
 pub(crate) fn finish_or_stop<T: Drop, R: Drop, A: Allocator + Copy>(
     board: &mut Board<T, R, A>,
     address: IndexPath<A>,
@@ -97,7 +95,6 @@ pub(crate) struct Called {
 }
 
 impl Called {
-    /// Returns a call of everyone.
     pub(crate) fn all() -> Self
         ensures { result.walk ≡ true }
     {
@@ -107,7 +104,6 @@ impl Called {
         }
     }
 
-    /// Returns a call of nobody.
     pub(crate) fn none() -> Self
         ensures { CallsNobody result }
     {
@@ -117,8 +113,7 @@ impl Called {
         }
     }
 
-    /// Returns whom to call after a step that left the board at work: as many workers as may take something, and the
-    /// walk if its next reading is ready.
+    /// Returns whom to call after a step that left the board at work.
     fn after<T: Drop, R: Drop, A: Allocator + Copy>(board: &Board<T, R, A>, pace: Pace) -> Self
         ensures workers { CountsTakers pace.limit pace.rests board.now result.workers }
         ensures walk { IsTrue result.walk ↔ IsNextReady board.now }
@@ -145,7 +140,6 @@ impl Called {
         }
     }
 
-    /// Returns whether nobody is called.
     pub(crate) fn is_empty(self) -> bool {
         self.workers == 0 && !self.walk
     }

@@ -15,7 +15,6 @@ use std::sync::{Arc, Wait};
 use std::thread::Threads;
 use std::time::Clock;
 
-/// Returns all readings of a session that has just started.
 fn take_all<
     R: Wait + Clock + Drop,
     T: Drop,

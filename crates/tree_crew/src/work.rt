@@ -62,14 +62,12 @@ impl<T: Drop, U: Drop, J: Plan<A, Spec = T, Reading = U> + Drop, A: Allocator + 
     J,
     A,
 > {
-    /// Returns the work of a board that is put back.
     pub(crate) fn new(board: SharedBoard<T, U, J, A>) -> Self
         ensures { result.board ≡ board }
     {
         Work { board }
     }
 
-    /// Returns the board, to be worked on.
     pub(crate) fn into_board(self) -> SharedBoard<T, U, J, A>
         ensures { result ≡ self.board }
     {

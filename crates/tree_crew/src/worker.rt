@@ -54,7 +54,6 @@ impl<
     J: Plan<A, Spec = T, Reading = U> + Drop,
     A: Allocator + Copy,
 > Worker<R, T, U, J, A> {
-    /// Hands in what was read, if anything.
     fn hand_in(
         &self,
         held: &mut MutexGuard<'_, Sleepers>,
@@ -121,7 +120,7 @@ impl<
     }
 
     /// Hands in what was read, if anything, and takes a specification as soon as one may be taken: none once the board
-    /// is done or stopped. There is a receipt for what was handed in.
+    /// is done or stopped.
     fn next(
         &self,
         read: Option<HandIn<T, U, J, A>>,
@@ -138,8 +137,8 @@ impl<
         (self.take(held), receipt)
     }
 
-    /// Reads a specification that was taken. If memory runs out for the reading, its message reports it. Returns none
-    /// if it runs out for the plan's clone, and the board is stopped then.
+    /// If memory runs out for the reading, its message reports it. Returns none if it runs out for the plan's clone,
+    /// and the board is stopped then.
     fn read(&self, item: Ordered<T, A>) -> Option<HandIn<T, U, J, A>>
         requires lawful { J.IsLawful (arc_value (arc_value self.now.shared).plan) }
         requires at { IsAt J.Plan (origin_at (arc_value self.now.shared).work) (address_of item) item.value }

@@ -25,7 +25,6 @@ pub(crate) struct Made<T, R, A: Allocator + Copy> {
     pub(crate) children: Vec<T, A>,
 }
 
-/// Takes the least specifications that are queued: that many, or all if there are fewer.
 fn take_batch<T: Drop, R: Drop, A: Allocator + Copy>(
     alloc: A,
     board: &mut Board<T, Read<T, R>, A>,
@@ -80,7 +79,6 @@ fn make<T: Drop, R: Drop, J: Plan<A, Spec = T, Reading = R>, A: Allocator + Copy
     })
 }
 
-/// Reads what was taken, one after another.
 fn read_in_turn<T: Drop, R: Drop, J: Plan<A, Spec = T, Reading = R>, A: Allocator + Copy>(
     alloc: A,
     plan: &J,
@@ -148,8 +146,7 @@ fn finish_batch<T: Drop, R: Drop, A: Allocator + Copy>(
     Ok(())
 }
 
-/// Takes a batch of the least specifications, reads them one after another, and finishes them all. One alone is read
-/// without a list.
+/// A batch of one is read without a list.
 pub(crate) fn read_batch<T: Drop, R: Drop, J: Plan<A, Spec = T, Reading = R>, A: Allocator + Copy>(
     alloc: A,
     plan: &J,
@@ -169,7 +166,7 @@ pub(crate) fn read_batch<T: Drop, R: Drop, J: Plan<A, Spec = T, Reading = R>, A:
     finish_batch(board, made)
 }
 
-/// Does the same, with what was taken read on several threads if there is enough of it.
+/// What was taken is read on several threads if there is enough of it.
 pub(crate) fn read_batch_on<
     W: Threads + Sync,
     T: Drop + Send,
@@ -196,7 +193,6 @@ pub(crate) fn read_batch_on<
     finish_batch(board, made)
 }
 
-/// Takes the least specification, reads it and finishes it. Does nothing if none is queued.
 fn read_least<T: Drop, R: Drop, J: Plan<A, Spec = T, Reading = R>, A: Allocator + Copy>(
     alloc: A,
     plan: &J,

@@ -12,7 +12,6 @@ use std::alloc::{AllocError, Allocator, Global};
 use std::marker::Model;
 use std::thread::Threads;
 
-/// Hands on the next reading, which is ready.
 fn hand_on<T: Drop, R: Drop, A: Allocator + Copy>(
     board: &mut Board<T, Read<T, R>, A>,
 ) -> Result<R, AllocError>
@@ -27,7 +26,6 @@ fn hand_on<T: Drop, R: Drop, A: Allocator + Copy>(
     Ok(item.value.reading)
 }
 
-/// Returns the next reading, or none if nothing is left. If it isn't ready, the least specifications are read first.
 fn read_next<T: Drop, R: Drop, J: Plan<A, Spec = T, Reading = R>, A: Allocator + Copy>(
     alloc: A,
     plan: &J,

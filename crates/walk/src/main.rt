@@ -23,7 +23,6 @@ fn words_of(rt: &HostRuntime) -> Result<Vec<String>, Failure> {
 /// The disk, where a directory is opened again after a moment if no descriptor was left.
 type Disk = Patient<RealFs, HostRuntime>;
 
-/// Returns the words, and the disk.
 fn call_of(rt: &HostRuntime) -> Result<(Vec<String>, Disk), Failure> {
     // begin patient
     let disk = Patient::new(RealFs::new(rt.clone()?), rt.clone()?);

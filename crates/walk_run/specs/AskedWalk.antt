@@ -1,5 +1,5 @@
 -- What a walk that is asked for prints.
-use Rattle.std.specs.Prelude.{◌≡◌, ℕ, true, List, Option, Result, is_ok, if◌then◌else◌}
+use Rattle.std.specs.Prelude.{◌≡◌, ℕ, true, List, length, Option, Result, is_ok, if◌then◌else◌}
 use Rattle.std.specs.List.{list_all}
 use Rattle.std.specs.Io.KnownBytes.{Appends}
 use Rattle.jwalk_job.specs.declared.dir_entry.DirEntry.{DirEntry}
@@ -8,6 +8,7 @@ use Rattle.jwalk.specs.declared.crew.Crew.{Crew}
 use Rattle.jwalk.specs.declared.crew.Session.{Session}
 use Rattle.jwalk.specs.declared.dir_entry_iter.DirEntryIter.{DirEntryIter}
 use Rattle.jwalk.specs.declared.walk_dir.WalkDirGeneric.{WalkDirGeneric}
+use Rattle.jwalk.specs.DirEntryIter.{held}
 use Rattle.jwalk.specs.WalkDir.{file_system_of, root_of, options_of, Starts}
 use Rattle.jwalk_model.specs.FileSystem.{Functions}
 use Rattle.jwalk_model.specs.Counted.{Worth}
@@ -41,7 +42,7 @@ abbrev pub CrewCalls : (T C S P A R E : Type 0) → Type 1
 CrewCalls T C S P A R E = CrewWalk T C S P A R E → Option (Result (DirEntry C A R E) (Error A)) → CrewWalk T C S P A R E → Type 0
 
 module _ {T C S P A R E : Type 0} (calls : CrewCalls T C S P A R E) where
-  -- A walk over a file system and from a root began as is asked for. It was called until it ended, what is asked for was written of its answers, and none was an error.
+  -- A walk over a file system and from a root began as is asked for, and held one item. It was called until it ended, what is asked for was written of its answers, and none was an error.
   pub record PrintsBegun (fs : S) (asked : Asked) (root : List ℕ) (old new : Option (List ℕ)) : Type 0 where
     pub walk : WalkDirGeneric C S P A (Crew T) R E
     pub file_system : file_system_of walk ≡ fs
@@ -49,4 +50,5 @@ module _ {T C S P A R E : Type 0} (calls : CrewCalls T C S P A R E) where
     pub options : options_of walk ≡ options_for asked
     pub it : CrewWalk T C S P A R E
     pub starts : Starts walk it
+    pub one : length (held it) ≡ 1
     pub prints : PrintsAll (written asked) calls it old new true

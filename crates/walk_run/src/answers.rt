@@ -16,7 +16,6 @@ use walk_text::print::print_answer;
 /// It stays below 64 KiB, at which a free makes the C library's allocator put all its small pieces together.
 const GATHERED: usize = 16384;
 
-/// Writes the lines that were gathered.
 fn write_gathered<W: Write, A: Allocator>(
     gathered: &mut Vec<u8, A>,
     out: &mut W,

@@ -36,7 +36,7 @@ pub type AskedWalk<T, S, A> = DirEntryIter<
     Session<T, ((), ()), S, NoProcess, A>,
 >;
 
-/// Returns what directories are read by, if that is asked for. A crew is there for one walk alone.
+/// A crew is there for one walk alone.
 fn parallelism_of<T: Wait + Clock + Clone + Drop, A: Allocator + Copy>(
     rt: &T,
     alloc: A,
@@ -57,8 +57,6 @@ fn parallelism_of<T: Wait + Clock + Clone + Drop, A: Allocator + Copy>(
     }
 }
 
-/// Returns the walk with what is named of the least depth, the greatest, and what directories are read by. The last
-/// holds whatever the greatest depth is.
 fn with_named<C: ClientState, S: FileSystem, A: Allocator + Copy, W: Drop>(
     walk: WalkDirGeneric<C, S, NoProcess, A, W>,
     least: Option<usize>,
@@ -110,8 +108,7 @@ pub fn walk_of<
     Ok(with_named(walk, asked.min, asked.max, parallelism))
 }
 
-/// Prints what is asked for of a walk's answers: the line of their totals, or a line for each. Returns whether none was
-/// an error.
+/// Returns whether no answer was an error.
 fn print_answers<
     T: Threads + Sync,
     W: Write,

@@ -15,7 +15,6 @@ use walk_text::words::parse_words;
 /// The walk of a call, under way.
 type CallWalk<T, S, A> = AskedWalk<T, Source<S, A>, A>;
 
-/// Walks as the words ask, and prints one line for each answer, or the line of their totals.
 fn try_run<
     T: Host,
     S: FileSystem + Send + Sync + 'static,

@@ -15,7 +15,6 @@ use std::alloc::Allocator;
 use std::io::Write;
 use walk_text::failure::Failure;
 
-/// Returns why there is no line of totals.
 fn failure_of(fault: UsageFault) -> Failure
     ensures { status_of result ≡ 1 }
 {
@@ -25,7 +24,7 @@ fn failure_of(fault: UsageFault) -> Failure
     }
 }
 
-/// Writes the line of totals, and flushes the output.
+/// Also flushes the output.
 fn write_line<W: Write>(usage: &Usage, out: &mut W) -> Result<(), Failure>
     ensures written { OnOk result (Appends (W.contents out.old) (W.contents out.new)
         (usage_text usage.now ++ codes "\n")) }

@@ -23,7 +23,6 @@ pub enum Failure {
 impl Failure {
     ghost use Rattle.walk_text.specs.Failure.{status_of};
 
-    /// Returns the status that the program ends with.
     fn status(self) -> u8
         ensures { result ≡ status_of self }
     {

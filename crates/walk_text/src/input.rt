@@ -10,7 +10,6 @@ use jwalk_memory_fs::memory_fs::MemoryFs;
 use std::alloc::Allocator;
 use std::io::{ErrorKind, Read};
 
-/// Reads the input whole.
 fn read_whole<A: Allocator + Copy, R: Read>(alloc: A, input: &mut R) -> Result<Vec<u8, A>, Failure>
     ensures ok { IfOk result (λ read. IfSome (R.remaining input.old) (λ bytes. read.items ≡ bytes)) }
     ensures err { IfErr result (λ failure. (failure ≡ Failure.Memory) ⊎ (failure ≡ Failure.BadTree 0)) }

@@ -11,14 +11,12 @@ pub struct NumberedLines<'a> {
     ghost fits: { passed + length left.now < 2 ^ 64 },
 }
 
-/// Returns where the first line of a text ends, if a line feed ends it.
 fn line_end(text: &[u8]) -> Option<usize>
     ensures { result ≡ position is_line_feed text.now }
 {
     text.iter().position(|b| *b == b'\n')
 }
 
-/// Returns the first line of a text, and what follows its line feed.
 fn split_line(text: &[u8]) -> (&[u8], &[u8])
     ensures line { result.0.now ≡ before_first is_line_feed text.now }
     ensures rest { result.1.now ≡ after_first is_line_feed text.now }

@@ -18,7 +18,6 @@ use std::alloc::Allocator;
 use std::io;
 use std::io::{ErrorKind, Write};
 
-/// Returns the name that a kind is printed by.
 fn kind_name(kind: ErrorKind) -> &'static str
     ensures { result.now ≡ kind_name kind }
 {
@@ -54,14 +53,12 @@ fn letter<C: ClientState, A: Allocator + Copy>(found: &DirEntry<C, A>) -> &'stat
     }
 }
 
-/// Writes a number in decimal digits.
 fn write_number<W: Write>(out: &mut W, n: usize) -> io::Result<()>
     ensures { OnOk result (Appends (W.contents out.old) (W.contents out.new) (decimal n)) }
 {
     out.write_all(Buffer::new().format(n).as_bytes())
 }
 
-/// Writes the path of a name below the path of its directory.
 fn write_path<W: Write>(out: &mut W, parent: &str, name: &str) -> io::Result<()>
     ensures { OnOk result (Appends (W.contents out.old) (W.contents out.new) (join parent.now name.now)) }
 {
@@ -99,7 +96,6 @@ fn write_reading<W: Write, C: ClientState, A: Allocator + Copy>(
     out.write_all(kind_name(kind_of(error)).as_bytes())
 }
 
-/// Writes the line of an entry.
 fn print_entry<W: Write, C: ClientState, A: Allocator + Copy>(
     out: &mut W,
     found: &DirEntry<C, A>,
@@ -115,7 +111,6 @@ fn print_entry<W: Write, C: ClientState, A: Allocator + Copy>(
     out.write_all(b"\n")
 }
 
-/// Writes the line of a link that leads back to an ancestor.
 fn print_loop<W: Write>(out: &mut W, depth: usize, ancestor: &str, child: &str) -> io::Result<()>
     ensures { OnOk result (Appends (W.contents out.old) (W.contents out.new)
         (failure_line (looped depth ancestor.now child.now))) }
@@ -129,7 +124,6 @@ fn print_loop<W: Write>(out: &mut W, depth: usize, ancestor: &str, child: &str) 
     out.write_all(b"\n")
 }
 
-/// Returns the line of an error that is neither one of the file system nor a loop.
 fn bare_line<A: Allocator + Copy>(error: &Error<A>) -> &'static str
     requires no_kind { kind_of (failure error.now) ≡ None }
     requires no_loop { ancestor_of (failure error.now) ≡ None }
@@ -144,7 +138,6 @@ fn bare_line<A: Allocator + Copy>(error: &Error<A>) -> &'static str
     }
 }
 
-/// Writes the line of an error.
 fn print_error<W: Write, A: Allocator + Copy>(out: &mut W, error: &Error<A>) -> io::Result<()>
     ensures { OnOk result (Appends (W.contents out.old) (W.contents out.new) (failure_line (failure error.now))) }
 {

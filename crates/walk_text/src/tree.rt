@@ -13,7 +13,6 @@ use std::alloc::Allocator;
 use std::io::ErrorKind;
 use std::str;
 
-/// Changes a tree as a line says.
 fn add<A: Allocator + Copy>(fs: &mut MemoryFs<A>, line: TreeLine<'_>) -> Result<(), BuildError>
     ensures ok { OnOk result (IsBuilt (added line.entry (tree_of fs.old)) (tree_of fs.new)) }
     ensures err { IfErr result (λ e. e ≢ BuildError.Memory → IsErr (added line.entry (tree_of fs.old))) }
@@ -26,7 +25,7 @@ fn add<A: Allocator + Copy>(fs: &mut MemoryFs<A>, line: TreeLine<'_>) -> Result<
     }
 }
 
-/// Changes a tree as the line of this number says. An empty line changes nothing.
+/// An empty line changes nothing.
 fn add_line<A: Allocator + Copy>(
     fs: &mut MemoryFs<A>,
     number: usize,

@@ -16,7 +16,6 @@ pub enum TreeLine<'a> {
     Deny(&'a str),
 }
 
-/// Returns what follows a beginning.
 fn rest_after<'a>(text: &'a str, beginning: &str) -> Option<&'a str>
     ensures { MatchOption result ((rest : List ℕ) → text.now ≢ beginning.now ++ rest)
         (λ rest. text.now ≡ beginning.now ++ rest.now) }
@@ -24,14 +23,12 @@ fn rest_after<'a>(text: &'a str, beginning: &str) -> Option<&'a str>
     text.strip_prefix(beginning)
 }
 
-/// Returns a path, unless it is empty.
 fn path_in(text: &str) -> Option<&str>
     ensures { MatchOption result (text.now ≡ []) (λ path. (path.now ≡ text.now) × (path.now ≢ [])) }
 {
     if text.is_empty() { None } else { Some(text) }
 }
 
-/// Reads what follows the letter of a file.
 fn parse_file(text: &str) -> Option<TreeLine<'_>>
     ensures some { IfSome result (Says (codes "f " ++ text.now)) }
     ensures none { IfNone result (¬ (HasSizedPath text.now)) }
@@ -41,7 +38,7 @@ fn parse_file(text: &str) -> Option<TreeLine<'_>>
     Some(TreeLine::File(len, path_in(path)?))
 }
 
-/// Reads what follows the letter of a link. The first tab parts target and path.
+/// The first tab parts target and path.
 fn parse_link(text: &str) -> Option<TreeLine<'_>>
     ensures some { IfSome result (Says (codes "l " ++ text.now)) }
     ensures none { IfNone result (¬ (HasLinkedPath text.now)) }

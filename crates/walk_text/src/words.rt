@@ -19,7 +19,6 @@ pub struct Request<'w> {
     pub root: &'w str,
 }
 
-/// Returns the number that words begin with, and the words after it.
 fn split_number<A: Allocator>(words: &[String<A>]) -> Option<(usize, &[String<A>])>
     ensures some { IfSome result (λ x. BeginWithNumber (map string_bytes words.now) x.0 (map string_bytes x.1.now)) }
     ensures none { IfNone result ((n : ℕ) → (others : List (List ℕ))
@@ -30,7 +29,6 @@ fn split_number<A: Allocator>(words: &[String<A>]) -> Option<(usize, &[String<A>
     Some((number as usize, others))
 }
 
-/// Returns the option of one word that has this name.
 fn plain_option(name: &str) -> Option<Choice>
     ensures some { IfSome result (λ choice. (others : List (List ℕ)) → Begin (name.now ∷ others) choice others) }
     ensures none { IfNone result ((choice : Choice) → (others : List (List ℕ))
@@ -46,7 +44,6 @@ fn plain_option(name: &str) -> Option<Choice>
     }
 }
 
-/// Returns the option that a name and a number mean.
 fn numbered_option(name: &str, number: usize) -> Option<Choice>
     ensures some { IfSome result (λ choice. (words : List (List ℕ)) → (others : List (List ℕ))
         → BeginWithNumber words number others → Begin (name.now ∷ words) choice others) }
@@ -62,7 +59,6 @@ fn numbered_option(name: &str, number: usize) -> Option<Choice>
     }
 }
 
-/// Returns the option that words begin with, and the words after it.
 fn split_option<A: Allocator>(words: &[String<A>]) -> Option<(Choice, &[String<A>])>
     ensures some { IfSome result (λ x. Begin (map string_bytes words.now) x.0 (map string_bytes x.1.now)) }
     ensures none { IfNone result ((choice : Choice) → (others : List (List ℕ))

@@ -21,8 +21,8 @@ use jwalk_core::readers::Readers;
 use jwalk_core::session::Session;
 use jwalk_fs::file_system::FileSystem;
 use jwalk_job::client_state::ClientState;
-use jwalk_job::dir_entry::DirEntry;
 use jwalk_job::error::Error;
+use jwalk_job::item::{Item, List};
 use jwalk_job::job::Job;
 use jwalk_job::process_read_dir::ProcessReadDir;
 use jwalk_job::read_dir::ReadDir;
@@ -44,7 +44,7 @@ pub(super) struct Begun<W> {
 }
 
 /// Puts the error that reports a busy crew in place of an entry whose directory is to be read.
-fn make_busy<C: ClientState, A: Allocator + Copy>(found: &mut Result<DirEntry<C, A>, Error<A>>)
+fn make_busy<C: ClientState, A: Allocator + Copy>(found: &mut Item<C, A>)
     ensures { item found.new ≡ busied (item found.old) }
 {
     if let Ok(entry) = found
@@ -54,10 +54,7 @@ fn make_busy<C: ClientState, A: Allocator + Copy>(found: &mut Result<DirEntry<C,
     }
 }
 
-/// Puts it in place of all such entries.
-fn make_all_busy<C: ClientState, A: Allocator + Copy>(
-    list: &mut Vec<Result<DirEntry<C, A>, Error<A>>, A>,
-)
+fn make_all_busy<C: ClientState, A: Allocator + Copy>(list: &mut List<C, A>)
     ensures { map item list.new.items ≡ map busied (map item list.old.items) }
 {
     for found in list.iter_mut() {
@@ -65,11 +62,10 @@ fn make_all_busy<C: ClientState, A: Allocator + Copy>(
     }
 }
 
-/// Returns what is left of a root's list after its readings began, or didn't.
 fn left<C: ClientState, A: Allocator + Copy>(
-    mut list: Vec<Result<DirEntry<C, A>, Error<A>>, A>,
+    mut list: List<C, A>,
     why_not: Option<NotStarted>,
-) -> Vec<Result<DirEntry<C, A>, Error<A>>, A>
+) -> List<C, A>
     ensures { map item result.items ≡ left_of why_not (map item list.items) }
 {
     match why_not {
@@ -95,7 +91,6 @@ fn is_refused(why_not: Option<NotStarted>) -> bool
     }
 }
 
-/// Returns the walk that holds what is left of the root's list after its readings began, or didn't.
 fn after_start<
     C: ClientState,
     S: FileSystem,
@@ -115,7 +110,6 @@ fn after_start<
     DirEntryIter::with_list(ReadDirIter::CrewWalk(reads), list, is_refused(why_not))
 }
 
-/// Begins the walk with the root's list, to read by itself.
 pub(super) fn from_root_alone<
     C: ClientState,
     S: FileSystem,
@@ -142,7 +136,6 @@ pub(super) fn from_root_alone<
     }
 }
 
-/// Starts a crew's readings of the directories of a root's list.
 fn start_reads<
     R: Wait + Threads + Clock + Drop + Send + Sync + 'static,
     C: ClientState + Send + 'static,
@@ -187,7 +180,6 @@ where
     ghost use Rattle.jwalk_job.specs.Job.{options_of};
     ghost use Rattle.jwalk.specs.CrewStart.{IsBegun};
 
-    /// Begins the walk, whose directories a crew reads.
     fn with_reads(
         mut reads: CrewReads<C, S, P, A, Session<R, C, S, P, A>>,
         read: ReadDir<C, A>,
@@ -214,9 +206,8 @@ where
         }
     }
 
-    /// Begins the walk with the root's list, whose directories a crew reads. If no place of the crew was free in time,
-    /// each entry with a directory is replaced by the error that reports it. If memory ran out, the walk yields the error
-    /// that reports it, and nothing else.
+    /// If no place of the crew was free in time, each entry with a directory is replaced by the error that reports it.
+    /// If memory ran out, the walk yields the error that reports it, and nothing else.
     pub(super) fn from_root_by(
         alloc: A,
         job: Job<C, S, P, A>,

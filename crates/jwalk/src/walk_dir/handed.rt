@@ -14,7 +14,6 @@ use jwalk_job::error::Error;
 use jwalk_job::process_read_dir::ProcessReadDir;
 use std::alloc::{AllocError, Global};
 
-/// Calls a closure with each of a walk's answers, in order.
 pub(crate) fn hand_to<
     C: ClientState,
     S: FileSystem,
@@ -31,7 +30,6 @@ pub(crate) fn hand_to<
     walk.for_each(f)
 }
 
-/// Calls a closure with a walk's answers, in order, until it returns an error or the walk ends.
 pub(crate) fn hand_until_error<
     E: Drop,
     C: ClientState,
@@ -50,7 +48,6 @@ pub(crate) fn hand_until_error<
     walk.try_for_each(f)
 }
 
-/// Appends all of a walk's answers to a list, in order.
 pub(crate) fn append_to<
     C: ClientState,
     S: FileSystem,

@@ -46,7 +46,6 @@ impl<C: ClientState, S: FileSystem, A: Allocator + Copy, R: Wait + Clock + Drop>
     }
 }
 
-/// Returns the crew, if the walk is to read by it.
 fn crew_to_ask<W: Drop>(mode: Mode, crew: Option<W>) -> Option<W>
     ensures some { IfSome result (λ w. (mode_value mode ≡ parallelism.crew) × (crew ≡ Some w)) }
     ensures none { IfNone result (mode_value mode ≡ parallelism.crew → crew ≡ None) }
@@ -68,15 +67,15 @@ where
     C::ReadDirState: Send + 'static,
     C::DirEntryState: Send + 'static,
 {
-    ghost use Rattle.jwalk.specs.WalkDir.{callback_of, options_of, Starts, KeepsBound, Begins};
+    ghost use Rattle.jwalk.specs.WalkDir.{callback_of, options_of, Starts, HoldsOne, KeepsBound, Begins};
     ghost use Rattle.jwalk_core.specs.DirEntryIter.{StartsSteady};
 
-    /// Begins the walk.
     fn begin_by(self) -> Begun<CrewWalk<R, C, S, P, A>>
         requires { P.IsLawful (callback_of self) }
         ensures starts { Starts self result.walk }
         ensures begins { Begins S.FileSystem P.ProcessReadDir C.ReadDirState.Clone C.DirEntryState.Default
             self result.why_not result.walk }
+        ensures one { HoldsOne P.ProcessReadDir self result.walk }
         ensures most { KeepsBound ⟦<Session<R, C, S, P, A> as Readers<C, S, P, A>>⟧ self result.walk }
         ensures steady { StartsSteady S.FileSystem P.ProcessReadDir C.ReadDirState.Clone C.DirEntryState.Default
             ⟦<Session<R, C, S, P, A> as Readers<C, S, P, A>>⟧ result.walk }
@@ -112,6 +111,7 @@ where
         ensures starts { IfOk result (Starts self) }
         ensures begins { IfOk result (Begins S.FileSystem P.ProcessReadDir C.ReadDirState.Clone
             C.DirEntryState.Default self None) }
+        ensures one { IfOk result (HoldsOne P.ProcessReadDir self) }
         ensures most { IfOk result (KeepsBound ⟦<Session<R, C, S, P, A> as Readers<C, S, P, A>>⟧ self) }
         ensures steady { IfOk result (StartsSteady S.FileSystem P.ProcessReadDir C.ReadDirState.Clone
             C.DirEntryState.Default ⟦<Session<R, C, S, P, A> as Readers<C, S, P, A>>⟧) }
@@ -133,6 +133,7 @@ where
         ensures starts { Starts self result }
         ensures begins { (why_not : _) × Begins S.FileSystem P.ProcessReadDir C.ReadDirState.Clone
             C.DirEntryState.Default self why_not result }
+        ensures one { HoldsOne P.ProcessReadDir self result }
         ensures most { KeepsBound ⟦<Session<R, C, S, P, A> as Readers<C, S, P, A>>⟧ self result }
         ensures steady { StartsSteady S.FileSystem P.ProcessReadDir C.ReadDirState.Clone C.DirEntryState.Default
             ⟦<Session<R, C, S, P, A> as Readers<C, S, P, A>>⟧ result }

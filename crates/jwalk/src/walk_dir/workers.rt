@@ -77,7 +77,6 @@ impl<C: ClientState, S: FileSystem, P: ProcessReadDir<C, A>, A: Allocator + Copy
         )
     }
 
-    /// Returns the same walk, with room for a crew.
     fn for_crew<W: Drop>(self) -> WalkDirGeneric<C, S, P, A, W>
         ensures { Sets (with_crew None (described self)) result }
     {

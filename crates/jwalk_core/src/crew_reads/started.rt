@@ -83,12 +83,7 @@ where
         Ok(())
     }
 
-    /// Returns the readings of these directories, and of those below them, that a crew makes. It blocks as
-    /// [`start`](CrewReads::start) does.
-    ///
-    /// # Errors
-    ///
-    /// As [`start`](CrewReads::start).
+    /// Blocks and fails as [`start`](CrewReads::start) does.
     pub(crate) fn by_workers(
         crew: &Arc<Crew<R>, A>,
         busy_timeout: Option<Duration>,

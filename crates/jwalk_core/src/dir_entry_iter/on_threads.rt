@@ -6,8 +6,8 @@ use crate::dir_entry_iter::DirEntryIter;
 use crate::readers::{Missed, Readers};
 use jwalk_fs::file_system::FileSystem;
 use jwalk_job::client_state::ClientState;
-use jwalk_job::dir_entry::DirEntry;
 use jwalk_job::error::Error;
+use jwalk_job::item::{Item, List};
 use jwalk_job::process_read_dir::ProcessReadDir;
 use std::alloc::{AllocError, Allocator};
 use std::thread::Threads;
@@ -26,7 +26,6 @@ where
     ghost use Rattle.jwalk_core.specs.DirEntryIter.{job_of, items_of, unread_of, Prepares, Passes, GoesOn, Answers, Fills};
     ghost use Rattle.jwalk_core.specs.Step.{IsAtDirectory};
 
-    /// Returns whether the next item is a directory's entry, which is to be read if any is left.
     fn is_at_directory(&self) -> bool
         ensures yes { result ≡ true → unread_of self.now ≢ []
             → IsAtDirectory (items_of self.now) (unread_of self.now) }
@@ -52,11 +51,7 @@ where
         self.reads.prepare_on(rt)
     }
 
-    /// Passes the next item on, like `pass`.
-    fn pass_on<R: Threads + Sync>(
-        &mut self,
-        rt: &R,
-    ) -> Result<Option<Result<DirEntry<C, A>, Error<A>>>, Missed>
+    fn pass_on<R: Threads + Sync>(&mut self, rt: &R) -> Result<Option<Item<C, A>>, Missed>
         requires { P.IsLawful (callback (job_of self.old)) }
         ensures { Passes S.FileSystem P.ProcessReadDir C.ReadDirState.Clone C.DirEntryState.Default L.Readers
             self.old result self.new }
@@ -65,17 +60,13 @@ where
         self.pass()
     }
 
-    /// Returns the next item that is yielded, like `next_kept`.
-    fn next_kept_on<R: Threads + Sync>(
-        &mut self,
-        rt: &R,
-    ) -> Result<Option<Result<DirEntry<C, A>, Error<A>>>, Missed>
+    fn next_kept_on<R: Threads + Sync>(&mut self, rt: &R) -> Result<Option<Item<C, A>>, Missed>
         requires { P.IsLawful (callback (job_of self.old)) }
         ensures { GoesOn S.FileSystem P.ProcessReadDir C.ReadDirState.Clone C.DirEntryState.Default L.Readers
             self.old result self.new }
     {
         while let Some(passed) = self.pass_on(rt)? {
-            if let Some(answer) = self.kept(passed) {
+            if let Some(answer) = self.unless_too_shallow(passed) {
                 return Ok(Some(answer));
             }
         }
@@ -88,7 +79,7 @@ where
     /// `while let Some(answer) = walk.next_on(&rt)` is the loop that uses several threads. A `for` loop, and an
     /// iterator's adapters, call `Iterator::next`: the answers and their order are the same there. Over a crew both may
     /// block for a reading or for a lock.
-    pub fn next_on<R: Threads + Sync>(&mut self, rt: &R) -> Option<Result<DirEntry<C, A>, Error<A>>>
+    pub fn next_on<R: Threads + Sync>(&mut self, rt: &R) -> Option<Item<C, A>>
         requires { P.IsLawful (callback (job_of self.old)) }
         ensures { Answers S.FileSystem P.ProcessReadDir C.ReadDirState.Clone C.DirEntryState.Default L.Readers
             self.old result self.new }
@@ -111,7 +102,7 @@ where
         &mut self,
         rt: &R,
         n: usize,
-        out: &mut Vec<Result<DirEntry<C, A>, Error<A>>, A>,
+        out: &mut List<C, A>,
     ) -> Result<usize, AllocError>
         requires { P.IsLawful (callback (job_of self.old)) }
         ensures { Fills S.FileSystem P.ProcessReadDir C.ReadDirState.Clone C.DirEntryState.Default L.Readers

@@ -27,13 +27,9 @@ where
 {
     ghost use Rattle.jwalk_core.specs.ReadDirIter.{job_of, Gives, GivesOf, Prepares};
 
-    /// Makes sure that the next reading is made, if any is left and no crew reads. If it isn't made yet, the directories
-    /// that are read together with it are read, on several threads if there are enough of them to be worth it. The next
-    /// call then reads nothing.
-    ///
-    /// # Errors
-    ///
-    /// If memory runs out. Then nothing is left to be read.
+    /// Makes sure that the next reading is made, if any is left and no crew reads. If it isn't made yet, the
+    /// directories that are read together with it are read, on several threads if there are enough of them to be worth
+    /// it. The next call then reads nothing. If memory runs out, nothing is left to be read.
     pub(crate) fn prepare_on<R: Threads + Sync>(&mut self, rt: &R) -> Result<(), AllocError>
         requires { P.IsLawful (callback (job_of self.old)) }
         ensures { Prepares S.FileSystem P.ProcessReadDir C.ReadDirState.Clone C.DirEntryState.Default L.Readers

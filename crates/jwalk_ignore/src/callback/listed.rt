@@ -12,7 +12,6 @@ use jwalk::file_system::FileType;
 use jwalk::{ClientState, DirEntry, Error, path_text};
 use std::alloc::{AllocError, Allocator};
 
-/// Returns the kind of rules that a regular file of this name has.
 fn kind_of_file(counted: bool, name: &str) -> Option<RulesKind>
     ensures { result ≡ kind_of_file counted name.now }
 {
@@ -58,7 +57,6 @@ pub(crate) fn kind_of<C: ClientState, A: Allocator + Copy>(
     }
 }
 
-/// Returns the depth of an item.
 pub(crate) fn depth_of<C: ClientState, A: Allocator + Copy>(
     found: &Result<DirEntry<C, A>, Error<A>>,
 ) -> usize
@@ -70,7 +68,6 @@ pub(crate) fn depth_of<C: ClientState, A: Allocator + Copy>(
     }
 }
 
-/// Returns whether the last part of a path is `.git`.
 fn is_git_path(path: &str) -> bool
     ensures { result ≡ is_git_path path.now }
 {
@@ -93,7 +90,6 @@ fn is_git<C: ClientState, A: Allocator + Copy>(found: &Result<DirEntry<C, A>, Er
     }
 }
 
-/// Returns the first item of the name `.git`.
 fn git_of<'l, C: ClientState, A: Allocator + Copy>(
     list: &'l [Result<DirEntry<C, A>, Error<A>>],
 ) -> Option<&'l Result<DirEntry<C, A>, Error<A>>>
@@ -118,7 +114,6 @@ fn git_by<T: Texts, C: ClientState, A: Allocator + Copy>(
     }
 }
 
-/// Returns what `.git` leads to in the list of a directory.
 pub(crate) fn git_in<T: Texts, C: ClientState, A: Allocator + Copy>(
     texts: &T,
     alloc: A,
@@ -134,7 +129,6 @@ pub(crate) fn git_in<T: Texts, C: ClientState, A: Allocator + Copy>(
     }
 }
 
-/// Returns whether a name is hidden.
 fn is_hidden(name: &str) -> bool
     ensures { result ≡ is_hidden name.now }
 {
@@ -157,7 +151,6 @@ fn is_shown<C: ClientState, A: Allocator + Copy>(
     }
 }
 
-/// Drops `.git` and what is hidden.
 pub(crate) fn drop_hidden<C: ClientState, A: Allocator + Copy>(
     settings: Settings,
     list: &mut Vec<Result<DirEntry<C, A>, Error<A>>, A>,

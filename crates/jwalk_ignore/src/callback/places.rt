@@ -14,7 +14,6 @@ pub(crate) struct Places<A: Allocator + Copy> {
 impl<A: Allocator + Copy> Places<A> {
     ghost use Rattle.jwalk_ignore.specs.Callback.Places.{IsAt, IsPlaced};
 
-    /// Returns the places in a directory at this place.
     pub(crate) fn new(place: Vec<u8, A>) -> Result<Self, AllocError>
         ensures { IfOk result (IsPlaced place.items) }
     {
@@ -24,7 +23,6 @@ impl<A: Allocator + Copy> Places<A> {
         Ok(Places { bytes, len })
     }
 
-    /// Goes on to the place of a name in the directory.
     pub(crate) fn set_name(&mut self, name: &str) -> Result<(), AllocError>
         ensures named { (place : _) → IsPlaced place self.old → OnOk result (IsAt place name.now self.new) }
         ensures placed { (place : _) → IsPlaced place self.old → IsPlaced place self.new }
@@ -34,7 +32,6 @@ impl<A: Allocator + Copy> Places<A> {
         Ok(())
     }
 
-    /// Returns the place that it is at.
     pub(crate) fn bytes(&self) -> &[u8]
         ensures { (place : _) → (name : _) → IsAt place name self.now → result.now ≡ place ++ 47 ∷ name }
     {

@@ -42,7 +42,6 @@ struct Directory<'p> {
     excluded: bool,
 }
 
-/// Returns whether rules don't ignore an item.
 fn is_kept<C: ClientState, A: Allocator + Copy>(
     chain: &Chain<A>,
     places: &mut Places<A>,
@@ -61,7 +60,6 @@ fn is_kept<C: ClientState, A: Allocator + Copy>(
     }
 }
 
-/// Adds an item that rules don't ignore.
 fn push_kept<C: ClientState, A: Allocator + Copy>(
     chain: &Chain<A>,
     places: &mut Places<A>,
@@ -78,7 +76,6 @@ fn push_kept<C: ClientState, A: Allocator + Copy>(
     Ok(())
 }
 
-/// Returns a list of a directory without what rules ignore.
 fn kept<C: ClientState, A: Allocator + Copy>(
     chain: &Chain<A>,
     directory: &str,
@@ -100,7 +97,6 @@ fn kept<C: ClientState, A: Allocator + Copy>(
 }
 
 impl<T: Texts> RulesReader<T> {
-    /// Adds an item of a directory's list, and the rules that are read for it.
     fn add_listed<C: ClientState, A: Allocator + Copy>(
         &self,
         of: Directory<'_>,
@@ -129,7 +125,6 @@ impl<T: Texts> RulesReader<T> {
         made.add_rules(&self.texts, source)
     }
 
-    /// Adds all items of a directory's list, and the rules that are read for each.
     fn add_all<C: ClientState, A: Allocator + Copy>(
         &self,
         of: Directory<'_>,
@@ -148,7 +143,6 @@ impl<T: Texts> RulesReader<T> {
         Ok(())
     }
 
-    /// Reads the rules that a directory's list leads to.
     fn own_rules<C: ClientState, A: Allocator + Copy>(
         &self,
         directory: &str,
@@ -195,7 +189,6 @@ impl<T: Texts> RulesReader<T> {
         Ok(Made { chain, list })
     }
 
-    /// Adds the rules of a kind in a folder above the root, if they are to be read.
     fn add_above<C: ClientState, A: Allocator + Copy>(
         &self,
         folder: Folder<'_>,
@@ -214,7 +207,6 @@ impl<T: Texts> RulesReader<T> {
         made.add_rules(&self.texts, Source::above(folder, kind))
     }
 
-    /// Adds the rules of a folder above the root.
     fn add_folder<C: ClientState, A: Allocator + Copy>(
         &self,
         folder: Folder<'_>,
@@ -232,7 +224,6 @@ impl<T: Texts> RulesReader<T> {
         self.add_above(folder, true, RulesKind::Ignore, made)
     }
 
-    /// Adds the rules of folders above the root, one after another.
     fn add_each<C: ClientState, A: Allocator + Copy>(
         &self,
         folders: Vec<Folder<'_>, A>,
@@ -295,7 +286,6 @@ impl<T: Texts> RulesReader<T> {
         }
     }
 
-    /// Adds an item of the root's list, and the rules above it.
     fn add_root_item<C: ClientState, A: Allocator + Copy>(
         &self,
         found: Result<DirEntry<C, A>, Error<A>>,
@@ -314,7 +304,6 @@ impl<T: Texts> RulesReader<T> {
         }
     }
 
-    /// Adds all items of the root's list, and the rules above each.
     fn add_roots<C: ClientState, A: Allocator + Copy>(
         &self,
         list: Vec<Result<DirEntry<C, A>, Error<A>>, A>,
@@ -350,7 +339,6 @@ impl<T: Texts> RulesReader<T> {
         Ok(made)
     }
 
-    /// Reads the rules that a list leads to, and drops what is hidden or ignored.
     pub(crate) fn by_rules<C: ClientState, A: Allocator + Copy>(
         &self,
         depth: Option<usize>,

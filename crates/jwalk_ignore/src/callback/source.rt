@@ -41,7 +41,6 @@ pub(crate) struct Source<'p> {
 }
 
 impl<'p> Source<'p> {
-    /// Returns the file of rules of a kind in a folder above the root.
     pub(crate) fn above(folder: Folder<'p>, kind: RulesKind) -> Self
         ensures { source_value result ≡ source_above (folder_value folder.entry) kind }
     {
@@ -55,7 +54,6 @@ impl<'p> Source<'p> {
     }
 }
 
-/// Returns the name of the file that has rules of a kind, below their folder.
 fn file_of(kind: RulesKind) -> &'static str
     ensures { result.now ≡ file_of kind }
 {
@@ -66,14 +64,13 @@ fn file_of(kind: RulesKind) -> &'static str
     }
 }
 
-/// Returns whether an error says that nothing is at a path.
 fn is_missing(kind: ErrorKind) -> bool
     ensures { result ≡ is_missing kind }
 {
     matches!(kind, ErrorKind::NotFound | ErrorKind::NotADirectory)
 }
 
-/// Returns the type of the file of rules of a kind at a path. That of `info/exclude` may be a link to one.
+/// A link is followed only for `info/exclude`.
 fn type_of<T: Texts>(texts: &T, kind: RulesKind, path: &str) -> Result<FileType, Fault>
     ensures { T.IsFixed texts.now
         → AnswersValue (λ file_type. file_type) result (type_of (T.functions texts.now) kind path.now) }
@@ -84,7 +81,6 @@ fn type_of<T: Texts>(texts: &T, kind: RulesKind, path: &str) -> Result<FileType,
     }
 }
 
-/// Returns the rules of the file at a path.
 fn rules_read<T: Texts, A: Allocator + Copy>(
     texts: &T,
     alloc: A,
@@ -97,7 +93,6 @@ fn rules_read<T: Texts, A: Allocator + Copy>(
     Ok(Some(Rules::parse(alloc, &bytes)?))
 }
 
-/// Returns the rules of a kind at a path, if a regular file is there.
 fn rules_looked_for<T: Texts, A: Allocator + Copy>(
     texts: &T,
     alloc: A,
@@ -115,7 +110,7 @@ fn rules_looked_for<T: Texts, A: Allocator + Copy>(
     }
 }
 
-/// Returns the rules of a kind at a path. A file that may be missing is looked for first.
+/// A file that may be missing is looked for first.
 fn rules_at<T: Texts, A: Allocator + Copy>(
     texts: &T,
     alloc: A,
@@ -141,7 +136,6 @@ pub(crate) struct Made<C: ClientState, A: Allocator + Copy> {
 }
 
 impl<C: ClientState, A: Allocator + Copy> Made<C, A> {
-    /// Adds rules that were read.
     fn add_read(&mut self, source: Source<'_>, rules: Rules<A>) -> Result<(), AllocError>
         ensures chain { OnOk result (chain_value self.new.chain
             ≡ with_link source.entry.kind (record { before = source.entry.before; patterns = rules_value rules })
@@ -154,7 +148,6 @@ impl<C: ClientState, A: Allocator + Copy> Made<C, A> {
         Ok(())
     }
 
-    /// Adds the error that reading a file at a path ended in.
     fn add_error(
         &mut self,
         depth: usize,
@@ -171,7 +164,6 @@ impl<C: ClientState, A: Allocator + Copy> Made<C, A> {
         Ok(())
     }
 
-    /// Adds what reading a file of rules at a path ended in.
     fn add_found(
         &mut self,
         source: Source<'_>,
@@ -192,7 +184,6 @@ impl<C: ClientState, A: Allocator + Copy> Made<C, A> {
         }
     }
 
-    /// Adds the rules of a file, or the error that reading it ended in.
     pub(crate) fn add_rules<T: Texts>(
         &mut self,
         texts: &T,
@@ -209,7 +200,6 @@ impl<C: ClientState, A: Allocator + Copy> Made<C, A> {
         self.add_found(source, path, found)
     }
 
-    /// Goes into a directory that holds `.git`, if it does.
     pub(crate) fn enter(&mut self, holds_git: bool) -> Result<(), AllocError>
         ensures chain { OnOk result (chain_value self.new.chain ≡ entered holds_git (chain_value self.old.chain)) }
         ensures list { self.new.list ≡ self.old.list }
@@ -220,7 +210,6 @@ impl<C: ClientState, A: Allocator + Copy> Made<C, A> {
         Ok(())
     }
 
-    /// Adds an item.
     pub(crate) fn add_item(
         &mut self,
         found: Result<DirEntry<C, A>, Error<A>>,

@@ -32,7 +32,6 @@ pub(crate) enum ByteClass {
 }
 
 impl ByteClass {
-    /// Returns whether a byte is in the class.
     pub(crate) fn has(self, byte: u8) -> bool
         ensures { result ≡ class_has self byte }
     {
@@ -53,7 +52,6 @@ impl ByteClass {
         }
     }
 
-    /// Returns the class of a name, as of `digit`.
     pub(crate) fn by_name(name: &[u8]) -> Option<Self>
         ensures { result ≡ class_by_name name.now }
     {

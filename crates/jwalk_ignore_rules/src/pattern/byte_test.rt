@@ -20,7 +20,6 @@ pub(crate) enum ByteTest<A: Allocator + Copy = Global> {
 impl<A: Allocator + Copy> ByteTest<A> {
     ghost use Rattle.jwalk_ignore_rules.specs.Pattern.ByteTest.{test_value, fits, in_either_case};
 
-    /// Returns whether a byte fits.
     pub(crate) fn fits(&self, byte: u8) -> bool
         ensures { result ≡ fits (test_value self.now) byte }
     {
@@ -32,7 +31,6 @@ impl<A: Allocator + Copy> ByteTest<A> {
         }
     }
 
-    /// Has letters fit in either case.
     pub(crate) fn ignore_case(&mut self)
         ensures { test_value self.new ≡ in_either_case (test_value self.old) }
     {

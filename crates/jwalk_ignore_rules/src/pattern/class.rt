@@ -8,14 +8,12 @@ use crate::pattern::class_item::ClassItem;
 use crate::pattern::item_read::item_in;
 use std::alloc::{AllocError, Allocator, Global};
 
-/// Returns whether one of the items of a class takes a byte.
 fn is_listed(either_case: bool, items: &[ClassItem], byte: u8) -> bool
     ensures { result ≡ lists either_case items.now byte }
 {
     items.iter().any(|item| item.takes(either_case, byte))
 }
 
-/// Returns whether a byte behind this many items closes a class.
 fn closes(byte: u8, count: usize) -> bool
     ensures { result ≡ closes byte count }
 {
@@ -83,14 +81,12 @@ impl<A: Allocator + Copy> Class<A> {
         }
     }
 
-    /// Has the items take letters in either case.
     pub(crate) fn ignore_case(&mut self)
         ensures { class_value self.new ≡ class_in_either_case (class_value self.old) }
     {
         self.either_case = true;
     }
 
-    /// Returns whether the class has a byte.
     pub(crate) fn has(&self, byte: u8) -> bool
         ensures { result ≡ has (class_value self.now) byte }
     {

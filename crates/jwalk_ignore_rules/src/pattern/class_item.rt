@@ -14,7 +14,6 @@ pub(crate) enum ClassItem {
 }
 
 impl ClassItem {
-    /// Returns whether the item has a byte.
     fn has(self, byte: u8) -> bool
         ensures { result ≡ item_has self byte }
     {
@@ -24,7 +23,7 @@ impl ClassItem {
         }
     }
 
-    /// Returns whether the item takes a byte. In either case it also does by the other case of a letter.
+    /// With `either_case` it also takes the other case of a letter.
     pub(crate) fn takes(self, either_case: bool, byte: u8) -> bool
         ensures { result ≡ item_takes either_case self byte }
     {

@@ -15,7 +15,6 @@ pub(crate) struct Glob<A: Allocator + Copy = Global> {
     parts: Vec<Part<ByteTest<A>>, A>,
 }
 
-/// Has the letters of a part fit in either case.
 fn ignore_case_of<A: Allocator + Copy>(part: &mut Part<ByteTest<A>>)
     ensures { part_map test_value part.new ≡ part_map in_either_case (part_map test_value part.old) }
 {
@@ -27,14 +26,12 @@ fn ignore_case_of<A: Allocator + Copy>(part: &mut Part<ByteTest<A>>)
 impl<A: Allocator + Copy> Glob<A> {
     ghost use Rattle.jwalk_ignore_rules.specs.Pattern.Glob.{glob_in_either_case, glob_value, parts_value, EachEndsWith, IsNamed, TakesOnly};
 
-    /// Returns the pattern of these parts.
     pub(crate) fn new(parts: Vec<Part<ByteTest<A>>, A>) -> Self
         ensures { glob_value result ≡ parts_value parts.items }
     {
         Glob { parts }
     }
 
-    /// Returns the byte with which each name ends that fits, if the pattern ends with one.
     pub(crate) fn last_byte(&self) -> Option<u8>
         ensures { ForSome result (λ byte. EachEndsWith (glob_value self.now) byte) }
     {
@@ -58,7 +55,6 @@ impl<A: Allocator + Copy> Glob<A> {
         Ok(Some(name))
     }
 
-    /// Has letters fit in either case.
     pub(crate) fn ignore_case(&mut self)
         ensures { glob_value self.new ≡ glob_in_either_case (glob_value self.old) }
     {
@@ -67,7 +63,6 @@ impl<A: Allocator + Copy> Glob<A> {
         }
     }
 
-    /// Returns whether a name fits.
     pub(crate) fn fits(&self, name: &[u8]) -> bool
         ensures { IsTrue result ↔ IsNamed (glob_value self.now) name.now }
     {

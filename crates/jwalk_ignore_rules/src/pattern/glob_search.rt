@@ -101,7 +101,7 @@ fn take_back<'p, 'n, A: Allocator + Copy>(
     Some((rest, left))
 }
 
-/// Returns whether a name fits a pattern. What is behind the last star is compared with the name's end alone.
+/// What is behind the last star is compared with the name's end alone.
 pub(crate) fn fits<A: Allocator + Copy>(parts: &[Part<ByteTest<A>>], name: &[u8]) -> bool
     ensures { IsTrue result ↔ IsNamed (parts_value parts.now) name.now }
 {

@@ -16,7 +16,6 @@ pub(crate) struct ItemRead {
     pub(crate) len: usize,
 }
 
-/// Returns the item of one byte, of this length.
 fn single(byte: u8, len: usize) -> ItemRead
     ensures { result ≡ single byte len }
 {
@@ -27,7 +26,6 @@ fn single(byte: u8, len: usize) -> ItemRead
     }
 }
 
-/// Reads the byte behind a backslash.
 fn escaped_in(behind: &[u8]) -> Option<ItemRead>
     ensures read { result ≡ escaped_in behind.now }
     ensures within { IfSome result (IsWithin (length behind.now + 1)) }
@@ -38,7 +36,6 @@ fn escaped_in(behind: &[u8]) -> Option<ItemRead>
     }
 }
 
-/// Returns the range between two bytes, of this length.
 fn range(low: u8, high: u8, len: usize) -> ItemRead
     ensures { result ≡ range low high len }
 {
@@ -72,7 +69,6 @@ fn range_in(low: u8, behind: &[u8]) -> Option<ItemRead>
     }
 }
 
-/// Returns where the first closing bracket is.
 fn close_in(text: &[u8]) -> Option<usize>
     ensures { result ≡ position is_close text.now }
 {
@@ -104,7 +100,6 @@ fn named_in(behind: &[u8]) -> Option<ItemRead>
     named_up_to(behind, close_in(behind)?)
 }
 
-/// Reads an item that begins with a hyphen.
 fn hyphen_in(last: Option<u8>, behind: &[u8]) -> Option<ItemRead>
     ensures read { result ≡ hyphen_in last behind.now }
     ensures within { IfSome result (IsWithin (length behind.now + 1)) }
@@ -115,7 +110,6 @@ fn hyphen_in(last: Option<u8>, behind: &[u8]) -> Option<ItemRead>
     }
 }
 
-/// Reads an item that begins with an opening bracket.
 fn bracket_in(behind: &[u8]) -> Option<ItemRead>
     ensures read { result ≡ bracket_in behind.now }
     ensures within { IfSome result (IsWithin (length behind.now + 1)) }

@@ -103,7 +103,7 @@ fn take_back<'p, 'n, A: Allocator + Copy>(
     Some((rest, left))
 }
 
-/// Returns whether a path fits a pattern. What is behind the last double star is compared with the path's end alone.
+/// What is behind the last double star is compared with the path's end alone.
 pub(crate) fn fits<A: Allocator + Copy>(parts: &[Part<Glob<A>>], path: &[u8]) -> bool
     ensures { IsTrue result ↔ IsReached (globs_value parts.now) (names_of path.now) }
 {

@@ -5,7 +5,6 @@ ghost use Rattle.jwalk_ignore_rules.specs.Pattern.Names.{is_name, names_of};
 
 use crate::pattern::pieces::split_piece;
 
-/// Returns the first name of a path, and what is behind it. None if there is no name.
 pub(crate) fn split_name(path: &[u8]) -> Option<(&[u8], &[u8])>
     ensures names { MatchOption result (names_of path.now ≡ []) (λ r. names_of path.now ≡ r.0.now ∷ names_of r.1.now) }
     ensures shorter { MatchOption result (names_of path.now ≡ []) (λ r. length r.1.now < length path.now) }
@@ -33,7 +32,6 @@ fn split_end(path: &[u8]) -> (&[u8], &[u8])
     }
 }
 
-/// Returns what is in front of the last name of a path, and that name. None if there is no name.
 pub(crate) fn split_last_name(path: &[u8]) -> Option<(&[u8], &[u8])>
     ensures { MatchOption result (names_of path.now ≡ [])
         (λ r. names_of path.now ≡ names_of r.0.now ++ r.1.now ∷ []) }

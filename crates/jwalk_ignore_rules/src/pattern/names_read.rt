@@ -24,14 +24,12 @@ pub(crate) struct NamesRead<A: Allocator + Copy> {
     name: Vec<Part<ByteTest<A>>, A>,
 }
 
-/// Returns whether a part is a star.
 fn is_many<A: Allocator + Copy>(part: &Part<ByteTest<A>>) -> bool
     ensures { result ≡ is_many (part_map test_value part.now) }
 {
     matches!(part, Part::Many)
 }
 
-/// Returns whether a name is only stars.
 fn is_stars<A: Allocator + Copy>(name: &[Part<ByteTest<A>>]) -> bool
     ensures { result ≡ list_all is_many (parts_value name.now) }
 {
@@ -56,7 +54,6 @@ fn inner_part<A: Allocator + Copy>(name: Vec<Part<ByteTest<A>>, A>) -> Part<Glob
     }
 }
 
-/// Puts the last name behind other parts.
 fn push_last<A: Allocator + Copy>(
     parts: &mut Vec<Part<Glob<A>>, A>,
     name: Vec<Part<ByteTest<A>>, A>,
@@ -76,7 +73,6 @@ impl<A: Allocator + Copy> NamesRead<A> {
     ghost use Rattle.jwalk_ignore_rules.specs.Pattern.NamesRead.{added, finished, parts_in, read_value};
     ghost use Rattle.jwalk_ignore_rules.specs.Pattern.Token.{token_value};
 
-    /// Adds what the next bytes mean.
     fn add(&mut self, alloc: A, token: Token<A>) -> Result<(), AllocError>
         ensures { OnOk result (read_value self.new ≡ added (token_value token) (read_value self.old)) }
     {
@@ -90,7 +86,6 @@ impl<A: Allocator + Copy> NamesRead<A> {
         Ok(())
     }
 
-    /// Returns all parts.
     fn finish(self) -> Result<Vec<Part<Glob<A>>, A>, AllocError>
         ensures { IfOk result (λ parts. globs_value parts.items ≡ finished (read_value self)) }
     {
@@ -99,7 +94,7 @@ impl<A: Allocator + Copy> NamesRead<A> {
         Ok(parts)
     }
 
-    /// Reads a text, behind these parts. None if it is malformed.
+    /// None if it is malformed.
     pub(crate) fn read(
         alloc: A,
         parts: Vec<Part<Glob<A>>, A>,

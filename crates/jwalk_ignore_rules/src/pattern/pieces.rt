@@ -3,15 +3,12 @@ ghost use Rattle.std.specs.Prelude.{◌≡◌, ◌<◌, length, position};
 ghost use Rattle.std.specs.List.{before_first, after_first};
 ghost use Rattle.jwalk_ignore_rules.specs.Pattern.Pieces.{is_byte};
 
-/// Returns where the first byte of this value is in a text.
 fn place_of(text: &[u8], own: u8) -> Option<usize>
     ensures { result ≡ position (is_byte own) text.now }
 {
     text.iter().position(|byte| *byte == own)
 }
 
-/// Returns what is in front of the first byte of this value in a text, and what is behind it. Without one it is the
-/// whole text, and nothing.
 pub(crate) fn split_piece(text: &[u8], own: u8) -> (&[u8], &[u8])
     ensures piece { result.0.now ≡ before_first (is_byte own) text.now }
     ensures behind { result.1.now ≡ after_first (is_byte own) text.now }

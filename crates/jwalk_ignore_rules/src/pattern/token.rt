@@ -19,7 +19,6 @@ pub(crate) enum Token<A: Allocator + Copy> {
 impl<A: Allocator + Copy> Token<A> {
     ghost use Rattle.jwalk_ignore_rules.specs.Pattern.Token.{class_token, escaped_token, plain_token, token_in, token_read, token_value};
 
-    /// Returns what a byte behind a backslash means.
     fn escaped(byte: u8) -> Self
         ensures { token_value result ≡ escaped_token byte }
     {
@@ -30,7 +29,6 @@ impl<A: Allocator + Copy> Token<A> {
         }
     }
 
-    /// Returns what a byte means that begins nothing longer.
     fn plain(byte: u8) -> Self
         ensures { token_value result ≡ plain_token byte }
     {

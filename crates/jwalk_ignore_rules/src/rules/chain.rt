@@ -105,7 +105,6 @@ impl<A: Allocator + Copy> InForce<A> {
         })
     }
 
-    /// Returns the same rules, for more of them.
     fn copied(&self, alloc: A) -> Result<Self, AllocError>
         ensures { IfOk result (λ rules. in_force_value rules ≡ in_force_value self.now) }
     {
@@ -119,7 +118,6 @@ impl<A: Allocator + Copy> InForce<A> {
         })
     }
 
-    /// Adds the rules of one file.
     fn add_link(&mut self, kind: RulesKind, link: Arc<Link<A>, A>) -> Result<(), AllocError>
         ensures { OnOk result (in_force_value self.new
             ≡ with_link kind (link_value (arc_value link)) (in_force_value self.old)) }
@@ -131,7 +129,6 @@ impl<A: Allocator + Copy> InForce<A> {
         }
     }
 
-    /// Returns what the rules say of a path.
     fn decision(&self, path: &[u8], is_dir: bool) -> Decision
         ensures { result ≡ chain_says (in_force_value self.now) path.now is_dir }
     {
@@ -146,7 +143,6 @@ impl<A: Allocator + Copy> InForce<A> {
         links_say(&self.exclude, path, is_dir)
     }
 
-    /// Returns whether there are any rules.
     fn has_rules(&self) -> bool
         ensures { result ≡ has_rules (in_force_value self.now) }
     {
@@ -155,7 +151,6 @@ impl<A: Allocator + Copy> InForce<A> {
 }
 
 impl<A: Allocator + Copy> Chain<A> {
-    /// Returns a handle of these rules.
     fn sharing(alloc: A, rules: InForce<A>) -> Result<Self, AllocError>
         ensures { IfOk result (λ chain. chain_value chain ≡ in_force_value rules) }
     {
@@ -178,7 +173,6 @@ impl<A: Allocator + Copy> Chain<A> {
         Chain::sharing(alloc, InForce::below(alloc, front, root.len())?)
     }
 
-    /// Returns the rules, for more of them.
     fn rules(&self, alloc: A) -> Result<InForce<A>, AllocError>
         ensures { IfOk result (λ rules. in_force_value rules ≡ chain_value self.now) }
     {

@@ -20,7 +20,7 @@ pub struct Folder<'p> {
 }
 
 impl<'p> Folder<'p> {
-    /// Returns the folder at a path. Beyond a repository its `.git` doesn't count.
+    /// Beyond a repository the folder's `.git` doesn't count.
     fn at<T: Texts, A: Allocator + Copy>(
         texts: &T,
         alloc: A,

@@ -23,7 +23,6 @@ impl<A: Allocator + Copy> Drop for LastNames<A> {
 }
 
 impl<A: Allocator + Copy> LastNames<A> {
-    /// Returns no places.
     pub(crate) fn new(alloc: A) -> Self
         ensures { NothingListed result }
     {

@@ -14,7 +14,6 @@ pub(crate) fn without_mark(bytes: &[u8]) -> &[u8]
     }
 }
 
-/// Returns a line without the carriage return at its end.
 fn without_return(line: &[u8]) -> &[u8]
     ensures { result.now ≡ without_return line.now }
 {
@@ -25,14 +24,12 @@ fn without_return(line: &[u8]) -> &[u8]
     }
 }
 
-/// Returns whether a byte is kept whatever is behind it.
 fn is_kept(escaped: bool, byte: u8) -> bool
     ensures { result ≡ (escaped || not (is_space byte)) }
 {
     escaped || byte != b' '
 }
 
-/// Returns whether a byte is a backslash that escapes the next.
 fn is_escape(escaped: bool, byte: u8) -> bool
     ensures { result ≡ (not escaped && byte == 92) }
 {

@@ -14,7 +14,6 @@ pub struct Link<A: Allocator + Copy = Global> {
     rules: Rules<A>,
 }
 
-/// Returns what is behind this many bytes of a path.
 pub(crate) fn behind(path: &[u8], before: usize) -> &[u8]
     ensures { result.now ≡ drop before path.now }
 {
@@ -37,7 +36,6 @@ impl<A: Allocator + Copy> Link<A> {
         Link { before, rules }
     }
 
-    /// Returns what the rules say of a path.
     #[tactic(auto, using(crate::proofs::MatchingFacts::says_computed))]
     pub(crate) fn decision(&self, path: &[u8], is_dir: bool) -> Decision
         ensures { result ≡ link_says (link_value self.now) path.now is_dir }

@@ -22,7 +22,6 @@ pub(crate) enum Content<A: Allocator + Copy> {
 impl<A: Allocator + Copy> Content<A> {
     ghost use Rattle.jwalk_ignore_rules.specs.Rules.MemoryTexts.{stored};
 
-    /// Returns its type.
     fn file_type(&self) -> FileType
         ensures { result ≡ (stored self.now).file_type }
     {
@@ -102,7 +101,6 @@ impl<A: Allocator + Copy> MemoryTexts<A> {
         self.put(path, Content::Unread(file_type, kind))
     }
 
-    /// Puts something at a path.
     fn put(&mut self, path: &str, there: Content<A>) -> Result<(), AllocError>
         ensures { OnOk result (Holds path.now (stored there) self.old self.new) }
     {
@@ -111,7 +109,6 @@ impl<A: Allocator + Copy> MemoryTexts<A> {
         Ok(())
     }
 
-    /// Returns what is at a path.
     fn found(&self, path: &str) -> Option<&Content<A>>
         ensures { option_map (λ there. stored there.now) result ≡ found_at self.now path.now }
     {
@@ -119,7 +116,6 @@ impl<A: Allocator + Copy> MemoryTexts<A> {
     }
 }
 
-/// Returns a copy of bytes.
 fn copied<B: Allocator>(alloc: B, bytes: &[u8]) -> Result<Vec<u8, B>, AllocError>
     ensures { IfOk result (λ copy. copy.items ≡ bytes.now) }
 {

@@ -17,7 +17,6 @@ pub(crate) struct Patterns<A: Allocator + Copy> {
 }
 
 impl<A: Allocator + Copy> Patterns<A> {
-    /// Returns no patterns.
     pub(crate) fn none(alloc: A) -> Self
         ensures { map pattern_value result.items.items ≡ [] }
     {
@@ -27,7 +26,6 @@ impl<A: Allocator + Copy> Patterns<A> {
         }
     }
 
-    /// Puts a pattern behind the others.
     pub(crate) fn push(&mut self, alloc: A, pattern: Pattern<A>) -> Result<(), AllocError>
         ensures { OnOk result (map pattern_value self.new.items.items ≡ map pattern_value self.old.items.items ++ pattern_value pattern ∷ []) }
     {
@@ -47,7 +45,6 @@ impl<A: Allocator + Copy> Patterns<A> {
         }
     }
 
-    /// Returns the pattern at a place, if it matches a path.
     fn match_at(&self, place: usize, path: &[u8], is_dir: bool) -> Option<&Pattern<A>>
         ensures { MatchOption result ((pattern : _) → MatchesAt (map pattern_value self.now.items.items) path.now is_dir place pattern → ⊥)
             (λ found. MatchesAt (map pattern_value self.now.items.items) path.now is_dir place (pattern_value found.now)) }
@@ -81,7 +78,6 @@ impl<A: Allocator + Copy> Patterns<A> {
         None
     }
 
-    /// Returns this many first patterns, or all.
     pub(crate) fn first(&self, count: usize) -> &[Pattern<A>]
         ensures { map pattern_value result.now ≡ take count (map pattern_value self.now.items.items) }
     {

@@ -28,7 +28,6 @@ impl<R: Files + Drop> RealTexts<R> {
     }
 }
 
-/// Returns an error of the system as a fault.
 fn fault(error: io::Error) -> Fault {
     if error.kind() == ErrorKind::OutOfMemory {
         Fault::Memory
@@ -37,7 +36,6 @@ fn fault(error: io::Error) -> Fault {
     }
 }
 
-/// Returns the type of what was found.
 fn type_of(found: &fs::Metadata) -> FileType {
     let found = found.file_type();
     if found.is_dir() {
@@ -51,7 +49,6 @@ fn type_of(found: &fs::Metadata) -> FileType {
     }
 }
 
-/// Returns the type of what a call found.
 fn type_found(found: io::Result<fs::Metadata>) -> Result<FileType, Fault> {
     match found {
         Ok(found) => Ok(type_of(&found)),
@@ -59,7 +56,6 @@ fn type_found(found: io::Result<fs::Metadata>) -> Result<FileType, Fault> {
     }
 }
 
-/// Returns the bytes of a file.
 fn read_file<R: Files, A: Allocator + Copy>(
     rt: &R,
     alloc: A,

@@ -18,7 +18,6 @@ struct Told<'a, A: Allocator + Copy> {
     own: &'a str,
 }
 
-/// Writes the text of a link that leads back to an ancestor.
 fn write_loop<W: fmt::Write>(f: &mut fmt::Formatter<W>, child: &str, ancestor: &str) -> fmt::Result
     ensures { WritesOnOk W.write_str_gives f.old result (loop_text child.now ancestor.now) f.new }
 {

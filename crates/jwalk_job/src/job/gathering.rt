@@ -5,8 +5,8 @@ ghost use Rattle.jwalk_job.specs.ReadDirSpec.{spec};
 use super::Job;
 use super::inside::Inside;
 use crate::client_state::ClientState;
-use crate::dir_entry::DirEntry;
 use crate::error::Error;
+use crate::item::List;
 use crate::process_read_dir::ProcessReadDir;
 use crate::read_dir_spec::ReadDirSpec;
 use jwalk_fs::file_system::FileSystem;
@@ -22,12 +22,11 @@ pub(super) struct Gathering<'g, C: ClientState, S, P, A: Allocator + Copy> {
     job: &'g Job<C, S, P, A>,
     of: &'g ReadDirSpec<C, A>,
     inside: Inside<A>,
-    items: Vec<Result<DirEntry<C, A>, Error<A>>, A>,
+    items: List<C, A>,
     ghost fits: { (spec of.now).depth + 1 < 2 ^ 64 },
 }
 
 impl<'g, C: ClientState, S, P, A: Allocator + Copy> Gathering<'g, C, S, P, A> {
-    /// Returns no items yet, of this directory. `inside` is what they share.
     pub(super) fn new(
         job: &'g Job<C, S, P, A>,
         of: &'g ReadDirSpec<C, A>,
@@ -47,8 +46,7 @@ impl<'g, C: ClientState, S, P, A: Allocator + Copy> Gathering<'g, C, S, P, A> {
         }
     }
 
-    /// Returns the items.
-    pub(super) fn into_items(self) -> Vec<Result<DirEntry<C, A>, Error<A>>, A>
+    pub(super) fn into_items(self) -> List<C, A>
         ensures { result ≡ self.entry.items }
     {
         self.items

@@ -34,7 +34,6 @@ fn is_elsewhere(within: Option<Identity>, identity: Option<Identity>) -> bool
 }
 
 impl<A: Allocator + Copy> Inside<A> {
-    /// Returns what is inside a directory, of which nothing was asked yet but which file it is, if that is needed.
     pub(super) fn new(ancestors: Ancestors<A>, within: Option<Identity>) -> Self
         ensures ancestors { result.ancestors ≡ ancestors }
         ensures within { result.within ≡ within }
@@ -47,7 +46,6 @@ impl<A: Allocator + Copy> Inside<A> {
         }
     }
 
-    /// Returns the directories above the entries.
     pub(super) fn ancestors(&self) -> &Ancestors<A>
         ensures { result.now ≡ self.now.ancestors }
     {
@@ -63,10 +61,6 @@ impl<A: Allocator + Copy> Inside<A> {
     }
 
     /// Asks which files the ancestors are, if it wasn't asked before.
-    ///
-    /// # Errors
-    ///
-    /// If memory runs out.
     fn ask<S: FileSystem>(&mut self, alloc: A, fs: &S) -> Result<(), AllocError>
         ensures asks { S.IsFixed fs.now → IfOk result (λ _. AsksOn (S.functions fs.now) self.old self.new) }
         ensures known { S.IsFixed fs.now → IsAsked (S.functions fs.now) self.old
@@ -92,10 +86,6 @@ impl<A: Allocator + Copy> Inside<A> {
     /// Returns a handle of the nearest path above that a link leads to. `target` is which file the link leads to, if it
     /// is known. `path` is where its text leads to. The file system is asked which files the ancestors are by the first
     /// link whose target is known, and not again.
-    ///
-    /// # Errors
-    ///
-    /// If memory runs out.
     pub(super) fn nearest<S: FileSystem>(
         &mut self,
         alloc: A,

@@ -19,6 +19,7 @@ use crate::ancestors::Ancestors;
 use crate::client_state::ClientState;
 use crate::dir_entry::DirEntry;
 use crate::error::Error;
+use crate::item::Item;
 use crate::metadata::metadata_at;
 use crate::process_read_dir::ProcessReadDir;
 use crate::read_children::ReadChildren;
@@ -53,7 +54,6 @@ fn own_parent(path: &str) -> &str
     }
 }
 
-/// Returns a text that is shared.
 pub(super) fn shared<A: Allocator + Copy>(
     alloc: A,
     words: &str,
@@ -63,7 +63,6 @@ pub(super) fn shared<A: Allocator + Copy>(
     Ok(Arc::new(alloc, String::from_str(alloc, words)?)?)
 }
 
-/// Returns the path of a name below a path, shared.
 pub(super) fn joined<A: Allocator + Copy>(
     alloc: A,
     path: &str,
@@ -74,8 +73,6 @@ pub(super) fn joined<A: Allocator + Copy>(
     Ok(Arc::new(alloc, path_text::join(alloc, path, name)?)?)
 }
 
-/// Returns the ancestors of what is in a directory below these, one list for all of it. None are kept if links aren't
-/// followed.
 pub(super) fn ancestors_below<A: Allocator + Copy>(
     alloc: A,
     follow_links: bool,
@@ -152,7 +149,6 @@ fn leads_on<S: FileSystem, A: Allocator + Copy>(
     }
 }
 
-/// Returns the directory at a path, if it is entered.
 fn directory_at<C: ClientState, A: Allocator + Copy>(
     path: &Arc<String<A>, A>,
     is_entered: bool,
@@ -166,7 +162,7 @@ fn directory_at<C: ClientState, A: Allocator + Copy>(
 }
 
 impl<C: ClientState, S: FileSystem, P: ProcessReadDir<C, A>, A: Allocator + Copy> Job<C, S, P, A> {
-    /// Returns the entry of a path of which this is known. A text near by may be that of its parent.
+    /// `near` may be the path of the entry's parent.
     fn entry_at(
         &self,
         depth: usize,
@@ -201,15 +197,15 @@ impl<C: ClientState, S: FileSystem, P: ProcessReadDir<C, A>, A: Allocator + Copy
         ))
     }
 
-    /// Returns the entry of a path, or the error with its depth and path. A text near by may be that of its parent.
-    pub(super) fn made(
+    /// `near` may be the path of the entry's parent.
+    pub(super) fn entry_of_path(
         &self,
         depth: usize,
         path: &Arc<String<A>, A>,
         near: &Arc<String<A>, A>,
         through_link: bool,
         ancestors: &Ancestors<A>,
-    ) -> Result<Result<DirEntry<C, A>, Error<A>>, AllocError>
+    ) -> Result<Item<C, A>, AllocError>
         ensures depth { IfOk result (λ r. AtDepth depth (item r ∷ [])) }
         ensures value { ByValue S.FileSystem C.DirEntryState.Default self.now (λ g job.
             IfOk result (λ r. counted_item g (item r)
@@ -240,7 +236,7 @@ impl<C: ClientState, S: FileSystem, P: ProcessReadDir<C, A>, A: Allocator + Copy
         path: &Arc<String<A>, A>,
         target: Metadata,
         inside: &mut Inside<A>,
-    ) -> Result<Result<DirEntry<C, A>, Error<A>>, AllocError>
+    ) -> Result<Item<C, A>, AllocError>
         requires { text path.now ≡ path_of (entry link.now) }
         ensures depth { IfOk result (λ r. AtDepth (entry link.now).depth (item r ∷ [])) }
         ensures asks { S.IsFixed (file_system self.now)
@@ -277,11 +273,11 @@ impl<C: ClientState, S: FileSystem, P: ProcessReadDir<C, A>, A: Allocator + Copy
     }
 
     /// Returns the entry that replaces a link that is followed.
-    fn behind(
+    fn follow_link(
         &self,
         link: &DirEntry<C, A>,
         inside: &mut Inside<A>,
-    ) -> Result<Result<DirEntry<C, A>, Error<A>>, AllocError>
+    ) -> Result<Item<C, A>, AllocError>
         ensures depth { IfOk result (λ r. AtDepth (entry link.now).depth (item r ∷ [])) }
         ensures asks { S.IsFixed (file_system self.now)
             → IfOk result (λ _. AsksOn (S.functions (file_system self.now)) inside.old inside.new) }
@@ -300,20 +296,17 @@ impl<C: ClientState, S: FileSystem, P: ProcessReadDir<C, A>, A: Allocator + Copy
         }
     }
 
-    /// Returns whether an entry of this type is a link that is followed.
     fn gives_way(&self, file_type: FileType) -> bool
         ensures { result ≡ ((options_of self.now).follow_links && is_symlink file_type) }
     {
         self.options.follow_links() && file_type.is_symlink()
     }
 
-    /// Returns an entry after the link rule: if links are followed, a link is replaced by what it leads to. `inside` is
-    /// what it shares with the others in its directory.
     pub(super) fn followed(
         &self,
         found: DirEntry<C, A>,
         inside: &mut Inside<A>,
-    ) -> Result<Result<DirEntry<C, A>, Error<A>>, AllocError>
+    ) -> Result<Item<C, A>, AllocError>
         ensures depth { IfOk result (λ r. AtDepth found.depth (item r ∷ [])) }
         ensures asks { S.IsFixed (file_system self.now)
             → IfOk result (λ _. AsksOn (S.functions (file_system self.now)) inside.old inside.new) }
@@ -323,7 +316,7 @@ impl<C: ClientState, S: FileSystem, P: ProcessReadDir<C, A>, A: Allocator + Copy
             ≡ value.followed job inside.old.within (counted_entry g (entry found)))) }
     {
         if self.gives_way(found.file_type) {
-            return self.behind(&found, inside);
+            return self.follow_link(&found, inside);
         }
         Ok(Ok(found))
     }

@@ -1,5 +1,5 @@
 //! The list that a walk begins with.
-ghost use Rattle.std.specs.Prelude.{◌≡◌, ◌∷◌, [], false, None, Some, Ok, Err, IfOk, MatchResult, if◌then◌else◌};
+ghost use Rattle.std.specs.Prelude.{◌≡◌, ◌∷◌, [], false, None, Some, Ok, Err, IfOk, MatchResult, if◌then◌else◌, length};
 ghost use Rattle.jwalk_model.specs.Error.{io};
 ghost use Rattle.jwalk_model.specs.Entry.{AtDepth};
 ghost use Rattle.jwalk_model.specs.Job as value;
@@ -8,7 +8,7 @@ ghost use Rattle.jwalk_job.specs.Text.{text};
 ghost use Rattle.jwalk_job.specs.Error.{failure};
 ghost use Rattle.jwalk_job.specs.Entry.{entry, item};
 ghost use Rattle.jwalk_job.specs.ReadDir.{reading};
-ghost use Rattle.jwalk_job.specs.Given.{Given, counted_item, counted_reading, counted_entry};
+ghost use Rattle.jwalk_job.specs.Given.{Given, counted_item, counted_reading, counted_entry, KeepsLists};
 ghost use Rattle.jwalk_job.specs.Job.{file_system, callback, options_of, job_by, IsSteadyJob, ByValue};
 
 use super::Job;
@@ -18,6 +18,7 @@ use crate::ancestors::Ancestors;
 use crate::client_state::ClientState;
 use crate::dir_entry::DirEntry;
 use crate::error::Error;
+use crate::item::Item;
 use crate::process_read_dir::ProcessReadDir;
 use crate::read_dir::ReadDir;
 use jwalk_fs::fault::Fault;
@@ -29,7 +30,7 @@ use std::sync::Arc;
 /// The item of a root before the callback, and the path that the callback is called with.
 #[derive(Drop)]
 struct RootItem<C: ClientState, A: Allocator + Copy> {
-    item: Result<DirEntry<C, A>, Error<A>>,
+    item: Item<C, A>,
     parent_path: Arc<String<A>, A>,
 }
 
@@ -40,7 +41,6 @@ struct Behind<A: Allocator + Copy> {
     metadata: Metadata,
 }
 
-/// Returns what is behind a root that is a link of this name below a path, or the error of one that is broken.
 fn behind_root<S: FileSystem, A: Allocator + Copy>(
     alloc: A,
     fs: &S,
@@ -63,10 +63,7 @@ fn behind_root<S: FileSystem, A: Allocator + Copy>(
 
 impl<C: ClientState, S: FileSystem, P: ProcessReadDir<C, A>, A: Allocator + Copy> Job<C, S, P, A> {
     /// Returns a root's entry with what is behind it, if it is a link: a directory there is to be read.
-    fn with_target(
-        &self,
-        found: DirEntry<C, A>,
-    ) -> Result<Result<DirEntry<C, A>, Error<A>>, AllocError>
+    fn with_target(&self, found: DirEntry<C, A>) -> Result<Item<C, A>, AllocError>
         ensures depth { AtDepth 0 (Ok (entry found) ∷ []) → IfOk result (λ r. AtDepth 0 (item r ∷ [])) }
         ensures value { (g : Given C.ReadDirState C.DirEntryState) → S.IsFixed (file_system self.now)
             → IfOk result (λ r. counted_item g (item r)
@@ -84,11 +81,7 @@ impl<C: ClientState, S: FileSystem, P: ProcessReadDir<C, A>, A: Allocator + Copy
         }
     }
 
-    /// Returns a root's entry after the link rule, and with what is behind it if it is still a link.
-    fn root_target(
-        &self,
-        found: DirEntry<C, A>,
-    ) -> Result<Result<DirEntry<C, A>, Error<A>>, AllocError>
+    fn root_target(&self, found: DirEntry<C, A>) -> Result<Item<C, A>, AllocError>
         ensures depth { AtDepth 0 (Ok (entry found) ∷ []) → IfOk result (λ r. AtDepth 0 (item r ∷ [])) }
         ensures value { ByValue S.FileSystem C.DirEntryState.Default self.now (λ g job.
             IfOk result (λ r. counted_item g (item r)
@@ -101,8 +94,7 @@ impl<C: ClientState, S: FileSystem, P: ProcessReadDir<C, A>, A: Allocator + Copy
         }
     }
 
-    /// Returns the root's entry, or the error met when it was asked for.
-    fn root_entry(&self, path: &str) -> Result<Result<DirEntry<C, A>, Error<A>>, AllocError>
+    fn root_entry(&self, path: &str) -> Result<Item<C, A>, AllocError>
         ensures depth { IfOk result (λ r. AtDepth 0 (item r ∷ [])) }
         ensures value { ByValue S.FileSystem C.DirEntryState.Default self.now (λ g job.
             IfOk result (λ r. counted_item g (item r)
@@ -111,10 +103,9 @@ impl<C: ClientState, S: FileSystem, P: ProcessReadDir<C, A>, A: Allocator + Copy
         let path = shared(self.alloc, path)?;
         let follow_links = self.options.follow_links();
         let ancestors = ancestors_below(self.alloc, follow_links, &Ancestors::none(), &path)?;
-        self.made(0, &path, &path, false, &ancestors)
+        self.entry_of_path(0, &path, &path, false, &ancestors)
     }
 
-    /// Returns the root's item before the callback, with the path that the callback is called with.
     fn root_item(&self, path: &str) -> Result<RootItem<C, A>, AllocError>
         ensures depth { IfOk result (λ r. AtDepth 0 (item r.item ∷ [])) }
         ensures value { ByValue S.FileSystem C.DirEntryState.Default self.now (λ g job.
@@ -152,6 +143,8 @@ impl<C: ClientState, S: FileSystem, P: ProcessReadDir<C, A>, A: Allocator + Copy
             → IsSteadyJob S.FileSystem P.ProcessReadDir C.ReadDirState.Clone C.DirEntryState.Default self.now g
             → IfOk result (λ r. value.root_list (job_by S.FileSystem g self.now) path.now (g.read_dir_state state)
             ≡ counted_reading g (reading r)) }
+        ensures one { (g : _) → P.Makes (callback self.now) g → KeepsLists g.processed
+            → IfOk result (λ r. length (reading r).list ≡ 1) }
     {
         let RootItem { item, parent_path } = self.root_item(path)?;
         let mut state = state;

@@ -21,6 +21,7 @@ returns-clause-walked g c = λ clean.
       options = built.options;
       it = c.into_iter-answers.result;
       starts = c.into_iter-answers.ensures.starts;
+      one = c.into_iter-answers.ensures.one stateless (λ depth path state list. refl) (λ depth path state list. refl);
       prints = rw (c.status_once.ensures.clean clean) at c.print_answers.ensures.printed;
     }
 

@@ -1,4 +1,4 @@
-use Rattle.std.proofs.Common.{◌≡◌, ◌∙◌, ap}
+use Rattle.std.proofs.Common.{◌≡◌, ◌∙◌, ap, length, option_map}
 use Rattle.jwalk_model.specs.Options.{Options}
 use Rattle.jwalk_model.specs.Listing.{paired}
 use Rattle.jwalk_model.specs.Counted.{Worth}
@@ -9,7 +9,9 @@ use Rattle.jwalk_job.specs.Given.{counted_reading}
 use Rattle.jwalk_job.specs.Job.{file_system, callback, options_of, job_by, IsSteady}
 use Rattle.jwalk_core.specs.DirEntryIter.{held_by}
 use Rattle.jwalk.specs.WalkDir.{job_for, file_system_of, root_of, state_of}
-use Rattle.jwalk.proofs.BeginFacts.{held_view, by_flag}
+use Rattle.jwalk.proofs.BeginFacts.{held_view, by_flag, either}
+use Rattle.jwalk.proofs.BeginsFacts.{if_some_view}
+use Rattle.jwalk.proofs.CrewStartFacts.{held_count, list_of}
 use Rattle.jwalk.proofs.walk_dir.WalkDirGeneric+C+S+P+A+NoCrew.begin.Goals as goal
 
 pub returns-clause-starts : goal.returns-clause-starts
@@ -40,3 +42,11 @@ returns-clause-holds g c = λ started given steady.
     ∙ ap (λ p. value.root_list (job_for g.S.FileSystem given walk) p (given.read_dir_state walk.root_read_dir_state)) c.as_str.ensures.value in
     held_view (λ r. counted_reading given (reading r)) (value.root_list (job_by g.S.FileSystem given made) c.as_str.result.now (given.read_dir_state walk.root_read_dir_state)) (held_by given c.from_root.result) c.root_list-read.result c.ok.result c.ok.ensures.value (c.from_root.ensures.held given steady.clones started) (c.root_list-read.ensures.value given steady_here)
     ∙ ap paired rooted
+
+pub returns-clause-one : goal.returns-clause-one
+returns-clause-one g c = λ given makes keeps.
+    let made = c.root_list-read.ensures.one given (rw c.new-job.ensures.callback makes) keeps in
+    let one = if_some_view reading (λ r. length r.list ≡ 1) c.root_list-read.result c.ok.result c.ok.ensures.value made in
+    either c.from_root.result.refused
+    (λ refused. ap length (c.from_root.ensures.refused refused).tells)
+    (λ started. held_count (option_map reading c.ok.result) c.from_root.result started (list_of c.ok.result c.from_root.result (c.from_root.ensures.list started)) one)

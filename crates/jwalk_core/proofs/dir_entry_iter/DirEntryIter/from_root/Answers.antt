@@ -1,4 +1,5 @@
-use Rattle.std.proofs.Common.{◌≡◌, ◌∙◌, true, false, refl, sym}
+use Rattle.std.proofs.Common.{◌≡◌, ◌∙◌, ◌++◌, true, false, refl, sym, ap}
+use Rattle.std.proofs.lemmas.List.{append-nil}
 use Rattle.jwalk_job.specs.ReadDir.{reading}
 use Rattle.jwalk_job.specs.Job.{greatest_depth}
 use Rattle.jwalk_core.specs.DirEntryIter.{job_of, items_of}
@@ -29,6 +30,9 @@ returns-in_default-clause-job g c = c.refused-walk.ensures.job
 pub returns-in_default-clause-depth : goal.returns-in_default-clause-depth
 returns-in_default-clause-depth g c = λ started. absurd (let no : true ≡ false = sym c.refused-walk.ensures.refused ∙ started in cc)
 
+pub returns-in_default-clause-list : goal.returns-in_default-clause-list
+returns-in_default-clause-list g c = λ started. absurd (let no : true ≡ false = sym c.refused-walk.ensures.refused ∙ started in cc)
+
 pub returns-in_default-clause-width : goal.returns-in_default-clause-width
 returns-in_default-clause-width g c = c.refused-walk.ensures.width
 
@@ -50,6 +54,11 @@ returns-in-Ok-clause-refused g c = λ refused. absurd cc
 pub returns-in-Ok-clause-depth : goal.returns-in-Ok-clause-depth
 returns-in-Ok-clause-depth g c = λ started. at_root (reading c.in-Some.read).list (items_of c.begin.new.self) (items_of c.refused-walk.result) c.in-Ok.ensures.items c.refused-walk.ensures.items (rw c.in-Some.is at c.requires)
 
+pub returns-in-Ok-clause-list : goal.returns-in-Ok-clause-list
+returns-in-Ok-clause-list g c = λ started.
+    rw c.in-Some.is
+    (c.in-Ok.ensures.items ∙ ap (λ l. (reading c.in-Some.read).list ++ l) c.refused-walk.ensures.items ∙ append-nil (reading c.in-Some.read).list)
+
 pub returns-in-Ok-clause-width : goal.returns-in-Ok-clause-width
 returns-in-Ok-clause-width g c = c.begin.ensures.width ∙ c.refused-walk.ensures.width
 
@@ -64,6 +73,9 @@ returns-in-Err-clause-job g c = c.stop.ensures.job ∙ c.begin.ensures.job ∙ c
 
 pub returns-in-Err-clause-depth : goal.returns-in-Err-clause-depth
 returns-in-Err-clause-depth g c = λ started. absurd (let no : true ≡ false = sym (c.stop.ensures.refused ∙ c.begin.ensures.refused ∙ c.refused-walk.ensures.refused) ∙ started in cc)
+
+pub returns-in-Err-clause-list : goal.returns-in-Err-clause-list
+returns-in-Err-clause-list g c = λ started. absurd (let no : true ≡ false = sym (c.stop.ensures.refused ∙ c.begin.ensures.refused ∙ c.refused-walk.ensures.refused) ∙ started in cc)
 
 pub returns-in-Err-clause-width : goal.returns-in-Err-clause-width
 returns-in-Err-clause-width g c = c.stop.ensures.width ∙ c.begin.ensures.width ∙ c.refused-walk.ensures.width

@@ -8,11 +8,11 @@ pub loop-passed-smaller : goal.loop-passed-smaller
 loop-passed-smaller g c = passes_lighter g.S.FileSystem g.P.ProcessReadDir g.C.ReadDirState.Clone g.C.DirEntryState.Default g.L.Readers c.loop-passed.self c.pass_on.new.self c.in-Some.passed (rw c.in-Some.is at c.in_ok-passed.ensures)
 
 pub loop-passed-preserved : goal.loop-passed-preserved
-loop-passed-preserved g c = one_passed_over g.S.FileSystem g.P.ProcessReadDir g.C.ReadDirState.Clone g.C.DirEntryState.Default g.L.Readers c.args.self.now c.loop-passed.self c.pass_on.new.self c.in-Some.passed c.loop-passed.invariant (rw c.in-Some.is at c.in_ok-passed.ensures) c.in_default-kept.ensures.none
+loop-passed-preserved g c = one_passed_over g.S.FileSystem g.P.ProcessReadDir g.C.ReadDirState.Clone g.C.DirEntryState.Default g.L.Readers c.args.self.now c.loop-passed.self c.pass_on.new.self c.in-Some.passed c.loop-passed.invariant (rw c.in-Some.is at c.in_ok-passed.ensures) c.in_default-unless_too_shallow.ensures.none
 
-pub returns-in-Some-kept : goal.returns-in-Some-kept
-returns-in-Some-kept g c =
-    let told = c.in-Some-kept.ensures.some in
+pub returns-in-Some-unless_too_shallow : goal.returns-in-Some-unless_too_shallow
+returns-in-Some-unless_too_shallow g c =
+    let told = c.in-Some-unless_too_shallow.ensures.some in
     rw told.0 (goes_to_answer g.S.FileSystem g.P.ProcessReadDir g.C.ReadDirState.Clone g.C.DirEntryState.Default g.L.Readers c.args.self.now c.loop-passed.self c.pass_on.new.self c.in-Some.passed c.loop-passed.invariant (rw c.in-Some.is at c.in_ok-passed.ensures) told.1)
 
 pub returns : goal.returns

@@ -15,11 +15,11 @@ use Rattle.jwalk_job.proofs.job.Job.read_one.Goals as goal
 is_higher : {asked depth : ℕ} {reads : Bool} (greatest : ℕ) → asked ≡ depth → IsTrue reads ↔ (asked < greatest) → reads ≡ true → depth < greatest
 is_higher greatest same test is = subst (λ d. d < greatest) same (test.0 is)
 
-pub raw-requires : goal.raw-requires
-raw-requires g c = subst (λ d. d + 1 < 2 ^ 64) c.depth.ensures (c.reads.ensures.fits c.if-not-reads.false)
+pub list_items-requires : goal.list_items-requires
+list_items-requires g c = subst (λ d. d + 1 < 2 ^ 64) c.depth.ensures (c.reads.ensures.fits c.if-not-reads.false)
 
-pub processed-requires-clause-fits : goal.processed-requires-clause-fits
-processed-requires-clause-fits g c = subst (λ d. d + 1 < 2 ^ 64) c.depth.ensures (c.reads.ensures.fits c.if-not-reads.false)
+pub run_callback-requires-clause-fits : goal.run_callback-requires-clause-fits
+run_callback-requires-clause-fits g c = subst (λ d. d + 1 < 2 ^ 64) c.depth.ensures (c.reads.ensures.fits c.if-not-reads.false)
 
 -- one that isn't read is at the greatest depth or below
 is_deep : {asked depth : ℕ} {reads : Bool} (greatest : ℕ) → asked ≡ depth → IsTrue reads ↔ (asked < greatest) → reads ≡ false → nat_le greatest depth ≡ true
@@ -32,19 +32,19 @@ returns-then-not-reads g c =
     subst (λ (r : Reading g.row.C-ReadDirState.Denot g.row.C-DirEntryState.Denot). IsReadingOf g.S.FileSystem g.P.ProcessReadDir g.C.ReadDirState.Clone g.C.DirEntryState.Default c.args.self.now (spec c.args.of.now) (Ok r)) (sym made)
     (not_read g.S.FileSystem g.P.ProcessReadDir g.C.ReadDirState.Clone g.C.DirEntryState.Default c.args.self.now (spec c.args.of.now) c.in_ok-state.state deep c.in_ok-state.ensures.cases)
 
-pub returns-in_ok-processed-in-Ok : goal.returns-in_ok-processed-in-Ok
-returns-in_ok-processed-in-Ok g c =
+pub returns-in_ok-run_callback-in-Ok : goal.returns-in_ok-run_callback-in-Ok
+returns-in_ok-run_callback-in-Ok g c =
     let of = spec c.args.of.now in
     let sort = (options_of c.args.self.now).sort in
     let higher = is_higher (greatest_depth c.args.self.now) c.depth.ensures c.reads.ensures.above c.if-not-reads.false in
     let above = lt-leb (greatest_depth c.args.self.now) of.depth higher in
     was_listed g.S.FileSystem g.P.ProcessReadDir g.C.ReadDirState.Clone g.C.DirEntryState.Default c.args.self.now of
-    (reading c.in_ok-processed-in-Ok.field-0) higher above
-    c.in_ok-processed-in-Ok.ensures.depth c.in_ok-processed-in-Ok.ensures.few
+    (reading c.in_ok-run_callback-in-Ok.field-0) higher above
+    c.in_ok-run_callback-in-Ok.ensures.depth c.in_ok-run_callback-in-Ok.ensures.few
     (λ given steady.
     let raw = c.in-Ok.ensures.value given steady.file_system steady.default in (
       raw.0,
       raw.1,
       ap (λ l. given.processed (Some of.depth) of.path (given.read_dir_state of.state) (cond sort (arranged l) l)) (sym raw.2)
-          ∙ c.in_ok-processed-in-Ok.ensures.value given steady,
+          ∙ c.in_ok-run_callback-in-Ok.ensures.value given steady,
     ))

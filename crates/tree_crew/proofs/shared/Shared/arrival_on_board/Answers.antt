@@ -32,7 +32,7 @@ returns-clause-arrival g c =
 
 pub returns-clause-handled : goal.returns-clause-handled
 returns-clause-handled g c =
-    arrives_on c.arrive-arrival.result _ _ _ _ _ _ _ c.in-Some.ensures.taken c.put_back_with.ensures.put
+    arrives_on c.arrive-arrival.result _ _ _ _ _ _ c.in-Some.ensures.taken c.put_back_with.ensures.put
     (c.deref_mut.ensures.value ∙ ap box_value c.into_board-board.ensures) (ap box_value c.new.ensures) c.arrive-arrival.ensures
 
 pub returns-clause-calls : goal.returns-clause-calls

@@ -7,7 +7,7 @@ use Rattle.jwalk_model.proofs.CountedFacts.{counted-in_order}
 use Rattle.jwalk_job.specs.Entry.{item}
 use Rattle.jwalk_job.specs.Given.{counted_item, counted_reading}
 use Rattle.jwalk_job.proofs.GivenFacts.{same_call}
-use Rattle.jwalk_job.proofs.job.Job.processed.Goals as goal
+use Rattle.jwalk_job.proofs.job.Job.run_callback.Goals as goal
 
 pub process-requires-clause-depths : goal.process-requires-clause-depths
 process-requires-clause-depths g c = rw c.in_ok-items.ensures (AtDepth-in_order (c.args.of.now.depth + 1) c.args.self.now.options.sort (map item c.args.items.items) c.requires.depth)

@@ -4,7 +4,7 @@ use Rattle.jwalk_job.specs.Inside.{IsInside}
 use Rattle.jwalk_job.specs.Job.{job_by}
 use Rattle.jwalk_job.specs.ReadDirSpec.{spec}
 use Rattle.jwalk_job.proofs.GatheredFacts.{gathered_none, gathered_depth, gathered_value}
-use Rattle.jwalk_job.proofs.job.Job.raw.Goals as goal
+use Rattle.jwalk_job.proofs.job.Job.list_items.Goals as goal
 
 pub returns-clause-depth : goal.returns-clause-depth
 returns-clause-depth g c =

@@ -3,7 +3,7 @@ use Rattle.std.specs.Prelude.{string_bytes}
 use Rattle.jwalk_model.specs.Entry.{path_of}
 use Rattle.jwalk_job.specs.Text.{text}
 use Rattle.jwalk_job.specs.Entry.{entry}
-use Rattle.jwalk_job.proofs.job.Job.behind.Goals as goal
+use Rattle.jwalk_job.proofs.job.Job.follow_link.Goals as goal
 
 pub returns-in-Ok-clause-value : goal.returns-in-Ok-clause-value
 returns-in-Ok-clause-value g c = λ given fixed default asked above.
