@@ -6,10 +6,10 @@ use test_fixtures::host::Host;
 use walk_text::tree::build_tree;
 
 /// A file with a name in each of two directories, one of which is on another device, and a file with a hole.
-const TREE: &str =
+pub(crate) const TREE: &str =
     "d /r\nd /r/b\nf 9 /r/b/x\nf 1 /r/b/own\nd /r/a\nf 9 /r/a/x\nf 100000 /r/hole\nd /r/c\nf 5 /r/c/y\n";
 
-const KNOWN: &[Known] = &[
+pub(crate) const KNOWN: &[Known] = &[
     ("/r", 1, 1, 2, 8),
     ("/r/a", 1, 2, 2, 8),
     ("/r/b", 1, 3, 2, 8),

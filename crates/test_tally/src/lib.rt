@@ -12,6 +12,8 @@ mod lines;
 #[cfg(test)]
 mod numbered;
 #[cfg(test)]
+mod refused;
+#[cfg(test)]
 mod runs;
 #[cfg(test)]
 mod stopped;

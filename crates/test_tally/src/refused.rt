@@ -1,0 +1,116 @@
+//! Subtotals where each request for memory is refused, or all from each on.
+use crate::files::{KNOWN, TREE};
+use crate::numbered::Numbered;
+use jwalk::{ClientState, WalkDirGeneric};
+use jwalk_subtotals::{SubtotalError, SubtotalOptions, WithSubtotal, subtotals};
+use std::alloc::{Allocator, Global};
+use test_fixtures::refused::came::Came;
+use test_fixtures::refused::turns::{MOST, Repeated, first_wrong};
+use test_fixtures::refusing_alloc::Refusing;
+use test_fixtures::width::Width;
+use walk_text::tree::build_tree;
+
+/// All of the tree, in blocks.
+const OPTIONS: SubtotalOptions = SubtotalOptions {
+    apparent: false,
+    each_name: false,
+    all: true,
+    max_depth: usize::MAX,
+};
+
+/// The entries by name, with the bytes at and below them.
+const ROWS: &[(&str, u128)] = &[
+    ("x", 8192),
+    ("a", 12288),
+    ("own", 4096),
+    ("x", 0),
+    ("b", 8192),
+    ("y", 4096),
+    ("c", 8192),
+    ("hole", 0),
+    ("r", 32768),
+];
+
+/// Subtotals of the tree that are taken again and again: how many directories are read together.
+struct Play {
+    disk: Numbered,
+    width: Width,
+}
+
+/// What a call yielded of subtotals.
+type Yielded<C, A> = Option<Result<WithSubtotal<C, A>, SubtotalError<A>>>;
+
+/// Returns whether an error reports that memory ran out, for the walk or for the subtotals.
+fn is_refusal<C: ClientState, A: Allocator + Copy>(yielded: &Yielded<C, A>) -> bool {
+    match yielded {
+        Some(Err(SubtotalError::Memory)) => true,
+        Some(Err(SubtotalError::Walk(error))) => error.is_memory(),
+        _ => false,
+    }
+}
+
+/// Returns whether the subtotal of a row was yielded.
+fn is_row<C: ClientState, A: Allocator + Copy>(
+    yielded: &Yielded<C, A>,
+    (name, bytes): &(&str, u128),
+) -> bool {
+    match yielded {
+        Some(Ok(found)) => found.entry.file_name() == *name && found.subtotal.bytes == *bytes,
+        _ => false,
+    }
+}
+
+/// A beginning of the rows comes, and then one error; or all rows, and nothing more.
+impl Repeated for Play {
+    fn comes(&self, _alloc: Global, memory: &Refusing<Global>) -> Came {
+        let Ok(root) = String::from_str(memory, "/r") else {
+            return Came::Refused(0);
+        };
+        let walk = WalkDirGeneric::<((), ()), _, _, _>::new(&self.disk, root)
+            .sort(true)
+            .keep_metadata(true)
+            .parallelism(self.width.parallelism());
+        let mut all = subtotals(memory, walk.into_iter(), OPTIONS);
+        let mut came = Came::Whole;
+        for (number, row) in ROWS.iter().enumerate() {
+            let yielded = all.next();
+            if is_refusal(&yielded) {
+                came = Came::Refused(number);
+                break;
+            }
+            if !is_row(&yielded, row) {
+                return Came::Wrong;
+            }
+        }
+        let is_over = all.next().is_none();
+        if is_over && all.next().is_none() {
+            came
+        } else {
+            Came::Wrong
+        }
+    }
+
+    fn may_be_whole(&self) -> bool {
+        false
+    }
+}
+
+#[test]
+fn a_beginning_comes_and_one_error_where_memory_is_refused(rt: HostRuntime) {
+    for width in &[Width::Serial, Width::Batches(8)] {
+        for many in &[1, MOST] {
+            let wrong = match build_tree(rt.alloc(), TREE.as_bytes()) {
+                Ok(tree) => {
+                    let disk = Numbered { tree, known: KNOWN };
+                    let play = Play {
+                        disk,
+                        width: *width,
+                    };
+                    first_wrong(rt.alloc(), *many, &play)
+                }
+                Err(_) => Some(0),
+            };
+            assert_eq!(&rt; wrong, None);
+        }
+    }
+}
