@@ -89,7 +89,8 @@ module _ (fixed : Type 0) (below : List ℕ → List (Item Worth Worth)) (asked 
       among = subst (λ (l : List (List ℕ)). LeavesOut l so_far.counted) (sym (roots_more roots i d is_one)) (one_out (texts_of (take i roots)) so_far.counted (get_or roots i d).now so_far.among);
       answered = so_far.answered;
       whole = λ always is. so_far.whole always (both_first clean counted.clean is);
-      taken = subst (λ (r : Results). Takes _ old before r after) (sym out.untaken) (subst (λ (w : Option (List ℕ)). Takes _ old before mid w) (sym out.unwritten) so_far.taken);
+      taken = subst (λ (r : Results). Takes (rows_of (shown_asked asked) (all_subtotals (subtotals_asked asked) [] so_far.answered)) old before r after) (sym out.untaken)
+          (subst (λ (w : Option (List ℕ)). Takes (rows_of (shown_asked asked) (all_subtotals (subtotals_asked asked) [] so_far.answered)) old before mid w) (sym out.unwritten) so_far.taken);
       remembered = subst (λ (l : List Identity). HaveSame l (files_behind (subtotals_asked asked) [] so_far.answered)) (sym out.remembered) so_far.remembered;
     }
 
@@ -132,3 +133,14 @@ module _ (fixed : Type 0) (below : List ℕ → List (Item Worth Worth)) (asked 
     whole = so_far.whole;
     taken = so_far.taken;
   }
+
+-- the same roots
+pub roots_as : {fixed : Type 0} {below : List ℕ → List (Item Worth Worth)} {asked : Asked} {roots roots' : List (List ℕ)} {old new : Results} {before after : Option (List ℕ)} {clean : Bool}
+    → roots ≡ roots' → CountsRoots fixed below asked roots old before new after clean → CountsRoots fixed below asked roots' old before new after clean
+roots_as is counts = record {
+  counted = counts.counted;
+  among = subst (λ (l : List (List ℕ)). LeavesOut l counts.counted) is counts.among;
+  answered = counts.answered;
+  whole = counts.whole;
+  taken = counts.taken;
+}

@@ -1,5 +1,6 @@
 -- What is counted of a walk doesn't go by its states.
 use Rattle.std.proofs.Common.{◌≡◌, ◌∙◌, ℕ, Bool, true, false, List, [], ◌∷◌, ◌++◌, map, Option, Ok, Err, refl, sym, ap, ap₂, subst}
+use Rattle.std.specs.Iterator.{Drains}
 use Rattle.std.specs.declared.clone.Clone as Clone
 use Rattle.std.specs.declared.default.Default as Default
 use Rattle.jwalk.specs.jwalk_model.Counted.{Worth}
@@ -75,3 +76,11 @@ pub hidden_by_crew : (processed : Processing Worth Worth) (by_crew : Bool) (fs :
 unfolding whole_walk
 hidden_by_crew processed true fs asked root state = refl
 hidden_by_crew processed false fs asked root state = refl
+
+-- calls from the same state
+pub drains_as : {S X : Type 0} {next : S → Option X → S → Type 0} {s t : S} {xs : List X} → s ≡ t → Drains next s xs → Drains next t xs
+drains_as {next = next} {xs = xs} is drains = subst (λ i. Drains next i xs) is drains
+
+-- the same results
+pub taken_as : {R E : Type 0} {shown shown' : Shown} {ys zs : List (Yielded R E)} {old new : Results} {before after : Option (List ℕ)} → shown ≡ shown' → ys ≡ zs → Takes (rows_of shown ys) old before new after → Takes (rows_of shown' zs) old before new after
+taken_as {old = old} {new = new} {before = before} {after = after} shown_is is taken = subst (λ (rows : List Row). Takes rows old before new after) (ap₂ (λ s l. rows_of s l) shown_is is) taken

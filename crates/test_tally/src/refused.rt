@@ -32,6 +32,7 @@ const ROWS: &[(&str, u128)] = &[
 ];
 
 /// Subtotals of the tree that are taken again and again: how many directories are read together.
+#[derive(Drop)]
 struct Play {
     disk: Numbered,
     width: Width,

@@ -1,5 +1,4 @@
-use Rattle.std.proofs.Common.{◌≡◌, ◌∙◌, List, map, refl, ap, subst, sym}
-use Rattle.std.specs.Iterator.{Drains}
+use Rattle.std.proofs.Common.{◌≡◌, ◌∙◌, map, refl, ap, subst, sym}
 use Rattle.jwalk.specs.jwalk_job.Entry.{item}
 use Rattle.jwalk.proofs.CleanFacts.{clean_whole}
 use Rattle.jwalk.proofs.WholeFacts.{steady_begun}
@@ -8,10 +7,9 @@ use Rattle.jwalk_subtotals.specs.Counted.{files_after, is_among}
 use Rattle.jwalk_subtotals.specs.Files.{files_of}
 use Rattle.jwalk_subtotals.specs.Subtotals.{subtotals_beside}
 use Rattle.jwalk_subtotals.proofs.WholeFacts.{all_yielded_beside}
-use Rattle.tally_run.specs.Results.{Takes, rows_of}
-use Rattle.tally_run.specs.Shown.{shown_asked}
 use Rattle.tally_run.specs.Walks.{subtotals_asked}
 use Rattle.tally_run.proofs.CountingFacts.{answers_ok}
+use Rattle.tally_run.proofs.WalkFacts.{drains_as, taken_as}
 use Rattle.tally_run.proofs.counting.count_walk.Goals as goal
 
 pub subtotals_beside-requires-clause-can : goal.subtotals_beside-requires-clause-can
@@ -30,7 +28,7 @@ returns g c =
     let options : options_of start ≡ o = made.options ∙ c.options_of.ensures in
     let all = all_yielded_beside _ known start c.take_all.new.subtotals took.yielded made.fresh took.calls took.goes_on in
     let xs = all.0 in
-    let drains = subst (λ i. Drains _ i xs) made.answers all.1 in
+    let drains = drains_as made.answers all.1 in
     record {
       answered = map item xs;
       walked = (it, begun.starts, xs, drains, refl);
@@ -38,9 +36,6 @@ returns g c =
           clean_whole _ _ _ _ _ given walk it xs begun.begins.0 begun.begins.1.holds
           (steady_begun _ _ _ _ _ given walk it begun.steady begun.starts steady) begun.starts steady drains
           (answers_ok (options_of start) known xs _ all.2 (sym took.tells ∙ is));
-      taken =
-          subst (λ l. Takes (rows_of (shown_asked c.args.asked.now) l) c.args.results.now (g.W.Write.contents c.args.out.now) c.take_all.new.results (g.W.Write.contents c.take_all.new.out))
-          (sym all.2 ∙ ap (λ s. subtotals_beside s known (map item xs)) options)
-          (subst (λ shown. Takes (rows_of shown _) c.args.results.now (g.W.Write.contents c.args.out.now) c.take_all.new.results (g.W.Write.contents c.take_all.new.out)) c.of.ensures took.taken);
+      taken = taken_as c.of.ensures (sym all.2 ∙ ap (λ s. subtotals_beside s known (map item xs)) options) took.taken;
       remembered = λ i. ap (λ l. is_among l i) c.take_files.ensures.taken ∙ all.3 i ∙ ap (λ s. is_among (files_after s known (map item xs)) i) options;
     }

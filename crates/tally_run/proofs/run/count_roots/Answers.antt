@@ -1,8 +1,7 @@
-use Rattle.std.proofs.Common.{◌≡◌, ◌∙◌, ap, arith, length, subst, take}
+use Rattle.std.proofs.Common.{◌≡◌, ◌∙◌, ap, arith, length, take}
 use Rattle.std.proofs.Math.Seq.{take-length}
 use Rattle.tally_words.specs.Asks.{texts_of}
-use Rattle.tally_run.specs.Roots.{CountsRoots}
-use Rattle.tally_run.proofs.RootFacts.{all_roots, no_roots, one_root}
+use Rattle.tally_run.proofs.RootFacts.{all_roots, no_roots, one_root, roots_as}
 use Rattle.tally_run.proofs.run.count_roots.Goals as goal
 
 pub loop-root-init : goal.loop-root-init
@@ -15,5 +14,4 @@ loop-root-preserved g c =
 pub returns : goal.returns
 returns g c =
     let all : c.loop-root.root-index ≡ length c.args.roots.now = omega (arith, c.loop-root-test.false, c.loop-root.auto.root-index-end) in
-    subst (λ l. CountsRoots _ _ _ l _ _ _ _ _) (ap (λ n. texts_of (take n c.args.roots.now)) all ∙ ap texts_of (take-length c.args.roots.now))
-    (all_roots _ _ _ _ _ _ _ _ _ _ c.loop-root.invariant)
+    roots_as (ap (λ n. texts_of (take n c.args.roots.now)) all ∙ ap texts_of (take-length c.args.roots.now)) (all_roots _ _ _ _ _ _ _ _ _ _ c.loop-root.invariant)
