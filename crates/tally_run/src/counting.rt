@@ -33,11 +33,11 @@ pub(crate) struct Counted {
     pub(crate) clean: bool,
 }
 
-/// Reports an error that came between subtotals, unless it has no path and ends them.
+/// Reports an error of the walk that came between subtotals.
 ///
 /// # Errors
 ///
-/// If nothing comes behind it.
+/// If nothing comes behind it, or if memory runs out.
 fn take_error<A: Allocator + Copy, E: Write>(
     alloc: Global,
     screen: Screen,
