@@ -48,7 +48,7 @@ module _ {R E : Type 0} (o : SubtotalOptions) where
   sizes_counted : (files : List Identity) (before l : List (Item R E)) → AreOf files before → (total (weighed o files l)).bytes ≡ first_sizes o before l
   sizes_counted files before [] are = refl
   sizes_counted files before (Err f ∷ l) are =
-      sizes_counted files (before ++ Err f ∷ []) l (λ e. are e ∙ sym (or_false (list_any (is_name_of o e) before)) ∙ sym (any_more (is_name_of o e) before (Err f)))
+      ap (λ (n : ℕ). 0 + n) (sizes_counted files (before ++ Err f ∷ []) l (λ e. are e ∙ sym (or_false (list_any (is_name_of o e) before)) ∙ sym (any_more (is_name_of o e) before (Err f))))
   sizes_counted files before (Ok x ∷ l) are =
       ap₂ (λ (a b : ℕ). a + b)
       (ap (λ (b : Bool). if b then 0 else size_kept o.apparent x.seen) (are x) ∙ size_turned (list_any (is_name_of o x) before) (size_kept o.apparent x.seen))

@@ -90,14 +90,15 @@ module _ {S C A R E : Type 0} (next : S → Option (Result (WithSubtotal C A R E
     taken = so_far.taken;
   }
 
-error_rows : {C A R E : Type 0} (shown : Shown) (e : SubtotalError A) → rows_of shown (value {C = C} {A = A} {R = R} {E = E} (Err e)) ≡ []
-error_rows shown (Walk e) = refl
-error_rows shown TooMany = refl
-error_rows shown Memory = refl
+error_rows : (C A R E : Type 0) (shown : Shown) (e : SubtotalError A) → rows_of shown (value {C = C} {A = A} {R = R} {E = E} (Err e)) ≡ []
+error_rows C A R E shown (Walk e) = refl
+error_rows C A R E shown TooMany = refl
+error_rows C A R E shown Memory = refl
 
 -- of an error nothing is taken
-pub error_taken : {C A R E : Type 0} (shown : Shown) (e : SubtotalError A) (results : Results) (written : Option (List ℕ)) → Takes (rows_of shown (value {C = C} {A = A} {R = R} {E = E} (Err e))) results written results written
-error_taken {C} {A} {R} {E} shown e results written = subst (λ (rows : List Row). Takes rows results written results written) (sym (error_rows {C} {A} {R} {E} shown e)) (takes_none results written)
+pub error_taken : {C A R E : Type 0} (shown : Shown) (x : Result (WithSubtotal C A R E) (SubtotalError A)) (e : SubtotalError A) → x ≡ Err e → (results : Results) (written : Option (List ℕ)) → Takes (rows_of shown (value x)) results written results written
+error_taken {C} {A} {R} {E} shown x e is results written =
+    subst (λ (rows : List Row). Takes rows results written results written) (sym (ap (λ y. rows_of shown (value y)) is ∙ error_rows C A R E shown e)) (takes_none results written)
 
 clean_ok : {R E : Type 0} (ys : List (Yielded R E)) → list_all is_clean ys ≡ true → list_all is_ok ys ≡ true
 clean_ok [] clean = refl
