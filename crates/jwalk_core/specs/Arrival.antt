@@ -23,6 +23,6 @@ module _ {C S P A R E : Type 0} where
   -- One hand-out, and the check of what it gave: the wanted reading, out of memory, none or another, or none yet.
   abbrev pub Arrives : Board (ReadDirSpec C A R E) (Message C S P A R E) → Wanted A → Arrival (Message C S P A R E) A → Board (ReadDirSpec C A R E) (Message C S P A R E) → Type 0
   Arrives old wanted (Entered item) new = HandsOut item old new × IsOk item.value.outcome × Fits wanted item
-  Arrives old wanted Memory new = tree.Arrives ran_out old Memory new
+  Arrives old wanted Memory new = tree.Arrives {A = A} ran_out old Memory new
   Arrives old wanted Lost new = Refuses old refused.Done new ⊎ GivesOther wanted old new
   Arrives old wanted Wait new = Refuses old refused.NotReady new

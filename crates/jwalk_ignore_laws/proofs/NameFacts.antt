@@ -2,8 +2,9 @@
 use Prim.Native.Nat.{zero}
 use Rattle.std.proofs.Common.{◌≡◌, ◌≢◌, ◌∙◌, ◌≤◌, ◌+◌, ℕ, T, suc, Bool, true, false, cond, List, [], ◌∷◌, ◌++◌, length, drop, ap, refl, sym, arith, append_assoc, append-nil, length-append}
 use Rattle.std.specs.List.{filter}
-use Rattle.std.specs.Prelude.{◌&&◌, not}
+use Rattle.std.specs.Prelude.{◌&&◌, ◌==◌, not}
 use Rattle.std.specs.Path.{HasNoSlash, has_no_slash}
+use Rattle.jwalk_model.specs.Paths.{join, starts_with_slash, with_slash}
 use Rattle.jwalk_model.specs.PathTexts.{IsName}
 use Rattle.jwalk_ignore.specs.Pattern.Names.{is_name, names_of}
 use Rattle.jwalk_ignore.specs.Pattern.Pieces.{is_byte, onto_first, pieces}
@@ -99,3 +100,17 @@ goes_on u n one = λ b less.
       rw (length-append (u ++ 47 ∷ []) n) (omega (arith, less)),
       ap (λ (l : List ℕ). names_of (drop b l)) (append_assoc u (47 ∷ []) n) ∙ ended b u n one short,
     )
+
+-- ---- a name behind a path
+
+not_slash : (n : List ℕ) → IsName n → starts_with_slash n ≡ false
+not_slash [] is = absurd (is.some refl)
+not_slash (c ∷ cs) is = first_by c cs (c == 47) is.no_slash
+  where
+    first_by : (c : ℕ) (cs : List ℕ) (b : Bool) → T (not b && has_no_slash cs) → b ≡ false
+    first_by c cs true none = absurd none
+    first_by c cs false none = refl
+
+-- a slash is between, if the path ends with none
+pub joined : (d n : List ℕ) → IsName n → join d n ≡ with_slash d ++ n
+joined d n is = ap (λ (b : Bool). cond b n (with_slash d ++ n)) (not_slash n is)

@@ -1,14 +1,13 @@
 -- The rules on the way to a directory.
 use Prim.Native.Nat.{zero}
-use Rattle.std.proofs.Common.{◌≡◌, ◌≢◌, ◌∙◌, ◌≤◌, ◌⊎◌, inl, inr, ℕ, suc, T, Bool, true, false, cond, List, [], ◌∷◌, ◌++◌, length, drop, reverse, Option, Some, None, Result, ap, subst, refl, sym, arith, eqb-true, append_assoc, append-nil, length-append}
+use Rattle.std.proofs.Common.{◌≡◌, ◌≢◌, ◌∙◌, ◌≤◌, ◌⊎◌, inl, inr, ℕ, suc, Bool, true, false, cond, List, [], ◌∷◌, ◌++◌, length, drop, reverse, Option, Some, None, Result, ap, subst, refl, sym, arith, eqb-true, append_assoc, append-nil, length-append}
 use Rattle.std.specs.Prelude.{◌&&◌, ◌||◌, ◌==◌, fold, not}
-use Rattle.std.specs.Path.{has_no_slash}
 use Rattle.std.specs.declared.io.ErrorKind.{ErrorKind}
 use Rattle.jwalk_model.specs.Counted.{Worth}
 use Rattle.jwalk_model.specs.Entry.{Item}
 use Rattle.jwalk_model.specs.declared.file_type.FileType.{FileType}
 use Rattle.jwalk_model.specs.PathTexts.{IsName}
-use Rattle.jwalk_model.specs.Paths.{join, parent, starts_with_slash, with_slash}
+use Rattle.jwalk_model.specs.Paths.{join, parent, with_slash}
 use Rattle.jwalk_ignore.specs.Callback.IgnoreFiles.{Made, counts, file_of, git_in, own_rules, rules_found, source_above, with_absolute, with_root}
 use Rattle.jwalk_ignore.specs.Rules.Folder.{Folder, ends_git, folder_at, folders_above}
 use Rattle.jwalk_ignore.specs.Rules.Git.{is_git_dir, is_repository}
@@ -20,7 +19,7 @@ use Rattle.jwalk_ignore.specs.declared.callback.settings.Settings.{Settings}
 use Rattle.jwalk_ignore.specs.jwalk_ignore_rules.declared.rules.rules_kind.RulesKind.{RulesKind}
 use Rattle.jwalk_ignore.specs.jwalk_ignore_rules.declared.rules.rules_kind.RulesKind.TheVariants as rules
 use Rattle.jwalk_ignore_laws.proofs.AlikeFacts.{Alike, LinksAlike, Within, drop_whole, entered_alike, keeps_all, keeps_slash, links_go, links_keep, more_alike, patterns_same, says_alike, within_alike, within_if, within_more}
-use Rattle.jwalk_ignore_laws.proofs.NameFacts.{Goes, drop_front, goes_behind, goes_on, one_name}
+use Rattle.jwalk_ignore_laws.proofs.NameFacts.{Goes, drop_front, goes_behind, goes_on, joined, one_name}
 use Rattle.jwalk_ignore_laws.proofs.OwnFacts.{found_links, list_front, list_links, list_repository, put_front, put_links, put_repository, reads}
 use Rattle.jwalk_ignore_laws.proofs.StartFacts.{folder_put, folders_put, one_more, put_above, put_all, put_folder, put_inside, rules_come_from_above, shorter}
 
@@ -202,19 +201,8 @@ ends : (path : List ℕ) → path ≢ [] → Ends path
 ends [] some = absurd (some refl)
 ends (c ∷ cs) some = end_of c cs
 
-not_slash : (n : List ℕ) → IsName n → starts_with_slash n ≡ false
-not_slash [] is = absurd (is.some refl)
-not_slash (c ∷ cs) is = first_by c cs (c == 47) is.no_slash
-  where
-    first_by : (c : ℕ) (cs : List ℕ) (b : Bool) → T (not b && has_no_slash cs) → b ≡ false
-    first_by c cs true none = absurd none
-    first_by c cs false none = refl
-
-joined : (d n : List ℕ) → IsName n → join d n ≡ with_slash d ++ n
-joined d n is = ap (λ (b : Bool). cond b n (with_slash d ++ n)) (not_slash n is)
-
 -- A root's absolute path ends with a slash where it is put in front, and its own path is no longer than the directory's.
-abbrev Rooted : Chain → List ℕ → Type 0
+abbrev pub Rooted : Chain → List ℕ → Type 0
 Rooted chain directory = (front : List ℕ) × (chain.front ≡ front ++ 47 ∷ []) × (chain.root_len ≤ length directory)
 
 -- One name farther, from a directory and from its place.
@@ -254,21 +242,21 @@ both_by chain d n one rooted (inr (u, is, has)) =
     subst (λ (q : List ℕ). BothGo chain d n q) (ap (λ (l : List ℕ). l ++ n) (sym has))
     (subst (λ (l : List ℕ). BothGo chain l n (l ++ n)) (sym is) (go_on chain rooted.0 u n one rooted.1 short))
 
-both_go : (chain : Chain) (d n : List ℕ) → d ≢ [] → IsName n → Rooted chain d → BothGo chain d n (join d n)
+pub both_go : (chain : Chain) (d n : List ℕ) → d ≢ [] → IsName n → Rooted chain d → BothGo chain d n (join d n)
 both_go chain d n some is rooted = subst (λ (q : List ℕ). BothGo chain d n q) (sym (joined d n is)) (both_by chain d n (one_name n is) rooted (ends d some))
 
 -- ---- one directory
 
 module _ (settings : Settings) (texts : Texts) where
   -- what is in force of a walk that comes to a directory, and of one that begins there
-  abbrev AlikeAt : List ℕ → Chain → Type 0
+  abbrev pub AlikeAt : List ℕ → Chain → Type 0
   AlikeAt d chain = Rooted chain d × Alike (place_in chain d) d chain (begun settings texts d)
 
   entered_place : (holds : Bool) (chain : Chain) (d : List ℕ) → place_in (entered holds chain) d ≡ place_in chain d
   entered_place true chain d = refl
   entered_place false chain d = refl
 
-  own_alike : (d : List ℕ) (chain : Chain) (list : List (Item Worth Worth)) → Agrees texts d list → Alike (place_in chain d) d chain (begun settings texts d)
+  pub own_alike : (d : List ℕ) (chain : Chain) (list : List (Item Worth Worth)) → Agrees texts d list → Alike (place_in chain d) d chain (begun settings texts d)
       → Alike (place_in chain d) d (own_rules settings texts d chain list).chain (put_folder settings texts (begun settings texts d) (folder_at texts false d))
   own_alike d chain list agrees alike =
       let p : List ℕ = place_in chain d in
@@ -310,7 +298,7 @@ module _ (settings : Settings) (texts : Texts) where
       rules_come_from_above settings texts path above is
       ∙ ap unplaced (folder_put settings texts {R = Unit {0}} {E = Unit {0}} (record { chain = begun settings texts above; list = [] }) (folder_at texts false above))
 
-  own_front : (d : List ℕ) (chain : Chain) (list : List (Item Worth Worth))
+  pub own_front : (d : List ℕ) (chain : Chain) (list : List (Item Worth Worth))
       → (let own : Chain = (own_rules settings texts d chain list).chain in (own.front ≡ chain.front) × (own.root_len ≡ chain.root_len))
   own_front d chain list =
       let git : Option FileType = git_in texts d list in
@@ -320,7 +308,7 @@ module _ (settings : Settings) (texts : Texts) where
       (left.0 ∙ here.0, left.1 ∙ here.1)
 
   -- one directory farther
-  step_alike : (d n : List ℕ) (chain : Chain) (list : List (Item Worth Worth)) → d ≢ [] → IsName n → parent (join d n) ≡ Some d → Agrees texts d list → AlikeAt d chain
+  pub step_alike : (d n : List ℕ) (chain : Chain) (list : List (Item Worth Worth)) → d ≢ [] → IsName n → parent (join d n) ≡ Some d → Agrees texts d list → AlikeAt d chain
       → AlikeAt (join d n) (own_rules settings texts d chain list).chain
   step_alike d n chain list some is above agrees (rooted, alike) =
       let next : List ℕ = join d n in
@@ -342,7 +330,7 @@ module _ (settings : Settings) (texts : Texts) where
         },
       )
 
-  not_nil : (d next : List ℕ) → d ≢ [] → length d ≤ length next → next ≢ []
+  pub not_nil : (d next : List ℕ) → d ≢ [] → length d ≤ length next → next ≢ []
   not_nil [] next some less = absurd (some refl)
   not_nil (c ∷ cs) next some less = λ is. let none : length next ≡ 0 = ap length is in absurd (omega arith)
 
@@ -361,7 +349,7 @@ module _ (settings : Settings) (texts : Texts) where
       ap (λ (f : List ℕ). f ++ drop (begun settings texts d).root_len d) front.0
       ∙ ap (λ (l : ℕ). (d ++ 47 ∷ []) ++ drop l d) front.1 ∙ ap (λ (l : List ℕ). (d ++ 47 ∷ []) ++ l) (drop_whole d) ∙ append-nil (d ++ 47 ∷ [])
 
-  begun_alike : (d : List ℕ) → AlikeAt d (begun settings texts d)
+  pub begun_alike : (d : List ℕ) → AlikeAt d (begun settings texts d)
   begun_alike d =
       let first : Chain = begun settings texts d in
       let front = begun_front settings texts d in (

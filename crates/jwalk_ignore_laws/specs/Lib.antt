@@ -1,1 +1,4 @@
 pub mod Starts
+pub mod Deeper
+pub mod Walks
+pub mod Rows
