@@ -120,7 +120,7 @@ module _ (settings : Settings) (texts : Texts) (fs : Functions) (options : Optio
   -- ---- the same directory, at two depths
 
   module _ (levels : ℕ) where
-    -- Two directories to be read are one, so much deeper in the first walk, and in both the rules in force are those of a walk that starts there.
+    -- Two directories to be read are one, deeper in the first walk, and in both the rules in force are those of a walk that starts there.
     abbrev pub Same : Spec Worth → Spec Worth → Type 0
     Same s t = (s.depth ≡ t.depth + levels) × (s.path ≡ t.path) × Fits s × Fits t
 

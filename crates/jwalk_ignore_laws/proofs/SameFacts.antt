@@ -1,4 +1,4 @@
--- Listings whose items are so many levels deeper than another's.
+-- Listings whose items are some levels deeper than another's.
 use Prim.Native.Nat.{zero}
 use Rattle.std.proofs.Common.{◌≡◌, ◌∙◌, ℕ, suc, List, [], ◌∷◌, map, flat_map, Option, Some, None, Ok, Err, ap, refl, sym}
 use Rattle.std.proofs.lemmas.List.{map-append}

@@ -44,7 +44,7 @@ module _ {R E : Type 0} (limit : ℕ) (these those : Spec R → Outcome R E) (Fi
   outcome_same depth lower other each spec at (Err f) fits above = refl
   outcome_same depth lower other each spec at (Ok r) fits above = listed_same (depth + 1) lower other each r.state r.list (subst (λ (n : ℕ). ItemsFit these Fits (n + 1) r.state r.list) at fits) above
 
-  -- what is below a directory, for so many levels or for more, where nothing there is at the limit
+  -- what is below a directory, for a number of levels or for more, where nothing there is at the limit
   pub shallow : ((spec : Spec R) → Fits spec → OpensTo these Fits spec (these spec)) → (n m depth : ℕ) → n + depth ≡ limit → n ≤ m → (source : Source R E) → SourceFits these Fits depth source → depth < limit
       → Each IsAbove (below these m source) → below these m source ≡ below those n source
   unfolding below

@@ -4,7 +4,7 @@ use Rattle.jwalk_model.specs.Error.{Failure, io, unnamed, looped, busy, memory, 
 use Rattle.jwalk_model.specs.Entry.{Children, Entry, Item}
 use Rattle.jwalk_ignore.specs.Callback.IgnoreFiles.{depth_of}
 
--- the same error, so many levels deeper
+-- the same error, this many levels deeper
 abbrev pub failure_deeper : ℕ → Failure → Failure
 failure_deeper levels (io depth path kind) = io (depth + levels) path kind
 failure_deeper levels (unnamed depth path kind) = unnamed (depth + levels) path kind
@@ -13,16 +13,16 @@ failure_deeper levels busy = busy
 failure_deeper levels memory = memory
 failure_deeper levels lost = lost
 
--- the same directory, with the error of its reading so many levels deeper
+-- the same directory, with the error of its reading this many levels deeper
 abbrev pub children_deeper : {R : Type 0} → ℕ → Children R → Children R
 children_deeper levels c = record c { error = option_map (failure_deeper levels) c.error }
 
 module _ {R E : Type 0} where
-  -- the same entry, so many levels deeper
+  -- the same entry, this many levels deeper
   abbrev pub entry_deeper : ℕ → Entry R E → Entry R E
   entry_deeper levels e = record e { depth = e.depth + levels; read_children = option_map (children_deeper levels) e.read_children }
 
-  -- the same item, so many levels deeper
+  -- the same item, this many levels deeper
   abbrev pub item_deeper : ℕ → Item R E → Item R E
   item_deeper levels (Ok e) = Ok (entry_deeper levels e)
   item_deeper levels (Err f) = Err (failure_deeper levels f)

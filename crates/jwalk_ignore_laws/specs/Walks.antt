@@ -22,7 +22,7 @@ use Rattle.jwalk_ignore_laws.specs.Starts.{Agrees, below}
 abbrev pub walk_ignoring : Settings → Texts → Functions → Options → List ℕ → List (Item Worth Worth)
 walk_ignoring settings texts fs options root = whole_walk (job_ignoring settings texts fs options) root no_rules_yet
 
--- the options of a walk that starts at this depth of another: no least depth, and a greatest one that is so much less
+-- the options of a walk that starts at this depth of another: no least depth, and a greatest one that is less by it
 abbrev pub options_below : ℕ → Options → Options
 options_below depth options = record options { min_depth = 0; max_depth = options.max_depth - depth }
 
@@ -68,7 +68,7 @@ pub record IsIn (list : List (Item Worth Worth)) (directory : List ℕ) (e : Ent
   pub reads : e.read_children ≡ Some child
   pub path_is : child.path ≡ directory
 
--- What is below an entry, of the items behind it, is what another list has below its first item, so much deeper.
+-- What is below an entry, of the items behind it, is what another list has below its first item, as many levels deeper as the entry is.
 abbrev pub AreTheSameBelow : Entry Worth Worth → List (Item Worth Worth) → List (Item Worth Worth) → Type 0
 AreTheSameBelow e behind list = deeper_than e.depth behind ≡ map (item_deeper e.depth) (below_first list)
 
