@@ -83,7 +83,7 @@ module _ {R E : Type 0} where
   answers_both n [] ys = refl
   answers_both n (x ∷ xs) ys = both_by n x xs ys (is_answered n x) (answers_both n xs ys)
 
-  -- where an item stands in what is answered, it stands in the list
+  -- where an item is in what is yielded, it is in the list
   pub record Stood (n : ℕ) (list : List (Item R E)) (x : Item R E) (behind : List (Item R E)) : Type 0 where
     pub front : List (Item R E)
     pub back : List (Item R E)
@@ -116,7 +116,7 @@ module _ {R E : Type 0} where
   stood n [] (y ∷ front) x behind is = absurd (cc)
   stood n (y ∷ list) front x behind is = stood_by n y list front x behind (is_answered n y) refl (λ f. stood n list f x behind) is
 
-  -- what is answered of a list that goes deeper and comes back is deeper at its front
+  -- what is yielded of a list that goes deeper and comes back is deeper at its front
   pub answered_deeper : (n m : ℕ) (xs ys : List (Item R E)) → n ≤ m → AtLeast (m + 1) xs → Steps m ys → deeper_than m (answers n (xs ++ ys)) ≡ xs
   answered_deeper n m xs ys less deep steps =
       ap (deeper_than m) (answers_both n xs ys ∙ ap (λ (l : List (Item R E)). l ++ answers n ys) (answers_deep n xs (least_less n (m + 1) xs (omega (arith, less)) deep)))
