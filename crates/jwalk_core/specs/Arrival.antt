@@ -1,4 +1,4 @@
--- What comes of asking a board for the reading that is wanted.
+-- The outcome of asking a board for the reading that is wanted.
 use Rattle.std.specs.Prelude.{◌⊎◌, IsOk}
 use Rattle.jwalk_order.specs.declared.ordered.Ordered.{Ordered}
 use Rattle.jwalk_board.specs.Board.{Board, HandsOut}

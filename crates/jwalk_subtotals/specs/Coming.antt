@@ -65,7 +65,7 @@ abbrev pub MayAsk : {I : Type 0} → (I → Type 0) → (I → Count) → Bool �
 MayAsk can left true answers = Unit {0}
 MayAsk can left false answers = can answers × IsFinite (left answers)
 
--- at most how many turns are left to an iterator with so many answers and so many open entries
+-- at most how many turns are left to an iterator, by its answers left and its open entries
 abbrev pub turns_in : {C A R E : Type 0} → Ahead C A R E → ℕ → ℕ → ℕ
 turns_in Unasked answers entries = 3 * answers + 1 + entries
 turns_in (Taken x) answers entries = 3 * answers + 3 + entries

@@ -54,7 +54,7 @@ module _ {R E : Type 0} where
   shown None t = []
   shown (Some e) t = Ok (e, t) ∷ []
 
-  -- the subtotals of up to so many answers, children before parents, with the errors between them
+  -- the subtotals of the first answers, as many as the number says, children before parents, with the errors between them
   abbrev pub listed : ℕ → SubtotalOptions → List (Weighed R E) → List (Yielded R E)
   listed zero options l = []
   listed (suc n) options [] = []

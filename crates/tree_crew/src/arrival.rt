@@ -16,7 +16,7 @@ pub trait Reported {
         ensures { result ≡ Self.refused self.now };
 }
 
-/// What comes of asking a board for its next reading.
+/// The outcome of asking a board for its next reading.
 #[derive(Drop)]
 pub enum Arrival<M, A: Allocator + Copy = Global> {
     /// The reading.
