@@ -226,6 +226,7 @@ class Option:
     def __init__(self, arg):
         self.id = arg.name
         self.short, self.long = arg.get("short"), arg.get("long")
+        self.longs = [self.long] * bool(self.long) + [name for name, *_ in arg.said.get("visible_alias", [])]
         self.help = arg.get("help", "")
         is_flag = arg.get("action") in ("ArgAction::Count", "ArgAction::SetTrue", "ArgAction::SetFalse")
         self.value = None if is_flag else arg.get("value_name", self.id.upper())

@@ -146,7 +146,7 @@ def entries(pairs):
 
 def words_of(option):
     """What a call has for an option."""
-    names = ([f"-{option.short}"] if option.short else []) + ([f"--{option.long}"] if option.long else [])
+    names = names_of(option)
     value = f" {option.value}" if option.value else ""
     return ", ".join(f"`{it}`" for it in names) + value
 
@@ -204,7 +204,8 @@ def for_bash(program):
 
 
 def names_of(option):
-    return ([f"-{option.short}"] if option.short else []) + ([f"--{option.long}"] if option.long else [])
+    """All names of an option, the short one first."""
+    return [f"-{option.short}"] * bool(option.short) + [f"--{it}" for it in option.longs]
 
 
 def quoted(text):
@@ -212,18 +213,22 @@ def quoted(text):
     return "'" + text.replace("'", "'\\''") + "'"
 
 
+# What zsh completes for values that are paths.
+FILES = {"ROOT": "_files -/", "FILE": "_files"}
+
+
 def for_zsh(program):
     specs = []
     for it in program.options:
         help_text = re.sub(r"([\[\]:\\])", r"\\\1", short_text(it.help))
-        value = f":{it.value}:({' '.join(it.choices)})" if it.choices else f":{it.value}: " if it.value else ""
+        value = f":{it.value}:({' '.join(it.choices)})" if it.choices else f":{it.value}:{FILES.get(it.value, ' ')}" if it.value else ""
         ends = ("+", "=") if it.value and it.short else ("", "")
-        names = [f"-{it.short}{ends[0]}"] * bool(it.short) + [f"--{it.long}{ends[1]}"] * bool(it.long)
+        names = [f"-{it.short}{ends[0]}"] * bool(it.short) + [f"--{name}{ends[1]}" for name in it.longs]
         repeats = "*" if it.repeats else ""
         specs += [quoted(f"{repeats}{name}[{help_text}]{value}") for name in names]
     for at, it in enumerate(program.words, 1):
         where = "*" if it.repeats else at
-        specs.append(quoted(f"{where}:{it.value}:" + ("_files -/" if it.value == "ROOT" else " ")))
+        specs.append(quoted(f"{where}:{it.value}:" + FILES.get(it.value, " ")))
     lines = [f"#compdef {program.name}", f"# Completions of {program.name} for zsh, made by bench/man.py."]
     return "\n".join(lines) + "\n_arguments -s " + " \\\n    ".join(specs) + "\n"
 
@@ -232,8 +237,8 @@ def for_fish(program):
     lines = [f"# Completions of {program.name} for fish, made by bench/man.py."]
     for it in program.options:
         words = [f"complete -c {program.name}"]
-        words += [f"-s {it.short}"] * bool(it.short) + [f"-l {it.long}"] * bool(it.long)
-        words += ["-x"] * bool(it.value) + [f"-a {quoted(' '.join(it.choices))}"] * bool(it.choices)
+        words += [f"-s {it.short}"] * bool(it.short) + [f"-l {name}" for name in it.longs]
+        words += ["-r" if it.value in FILES else "-x"] * bool(it.value) + [f"-a {quoted(' '.join(it.choices))}"] * bool(it.choices)
         lines.append(" ".join(words + [f"-d {quoted(short_text(it.help))}"]))
     return "\n".join(lines) + "\n"
 

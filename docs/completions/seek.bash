@@ -3,15 +3,20 @@ _seek() {
     local word=${COMP_WORDS[COMP_CWORD]} before=${COMP_WORDS[COMP_CWORD - 1]}
     COMPREPLY=()
     case $before in
+    --and) compopt +o default; return ;;
     -E | --exclude) compopt +o default; return ;;
     -j | --threads) compopt +o default; return ;;
     --min-depth) compopt +o default; return ;;
-    -d | --max-depth) compopt +o default; return ;;
+    -d | --max-depth | --maxdepth) compopt +o default; return ;;
     --exact-depth) compopt +o default; return ;;
-    -t | --type) compopt +o default; COMPREPLY=($(compgen -W "f file d dir directory l symlink o other" -- "$word")); return ;;
+    -t | --type) compopt +o default; COMPREPLY=($(compgen -W "f file d dir directory l symlink x executable p pipe s socket b block-device c char-device o other" -- "$word")); return ;;
     -e | --extension) compopt +o default; return ;;
     -S | --size) compopt +o default; return ;;
+    --changed-within | --newer) compopt +o default; return ;;
+    --changed-before) compopt +o default; return ;;
+    --newer-than-file) compopt +o default; return ;;
+    --max-results) compopt +o default; return ;;
     esac
-    if [[ $word == -* ]]; then COMPREPLY=($(compgen -W "-g --glob -p --full-path -i --ignore-case -s --case-sensitive -H --hidden -I --no-ignore -u --unrestricted -E --exclude -L --follow --sort -j --threads --min-depth -d --max-depth --exact-depth -t --type -e --extension -S --size -0 --print0 -h --help -V --version" -- "$word")); fi
+    if [[ $word == -* ]]; then COMPREPLY=($(compgen -W "-g --glob -F --fixed-strings --and -p --full-path -i --ignore-case -s --case-sensitive -H --hidden -I --no-ignore -u --unrestricted -E --exclude -L --follow --prune --one-file-system --mount --xdev --sort -j --threads --min-depth -d --max-depth --maxdepth --exact-depth -t --type -e --extension -S --size --changed-within --newer --changed-before --newer-than-file --max-results -1 -q --quiet -a --absolute-path -0 --print0 -h --help -V --version" -- "$word")); fi
 }
 complete -o default -F _seek seek

@@ -23,7 +23,8 @@ first_written (Some ws) None gathered text none written = written
 first_written (Some ws) (Some us) gathered text none written = written ∙ ap (λ l. l ++ text) (ap (λ l. ws ++ l) none ∙ append-nil ws)
 
 module _ {R E : Type 0} (sought : Sought) (style : Style) where
-  all_seam : (xs ys : List (Item R E)) → list_all is_clean (xs ++ ys) ≡ (list_all is_clean xs && list_all is_clean ys)
+  -- two lists are clean if both are
+  pub all_seam : (xs ys : List (Item R E)) → list_all is_clean (xs ++ ys) ≡ (list_all is_clean xs && list_all is_clean ys)
   all_seam [] ys = refl
   all_seam (x ∷ xs) ys = ap (λ b. is_clean x && b) (all_seam xs ys) ∙ sym (and_and (is_clean x) (list_all is_clean xs) (list_all is_clean ys))
 

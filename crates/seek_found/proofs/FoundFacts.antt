@@ -1,5 +1,6 @@
 -- What is printed of calls, one after another.
-use Rattle.std.proofs.Common.{◌≡◌, ◌∙◌, ℕ, Bool, true, false, ◌&&◌, List, [], ◌∷◌, ◌++◌, Option, Some, None, Result, map, append_assoc, append-nil, sym, ap, refl, subst}
+use Rattle.std.proofs.Common.{◌≡◌, ◌≢◌, ◌∙◌, ℕ, Bool, true, false, ◌&&◌, List, [], ◌∷◌, ◌++◌, Option, Some, None, Result, map, append_assoc, append-nil, inl, inr, sym, ap, refl, subst}
+use Rattle.std.proofs.lemmas.List.{map-append}
 use Rattle.std.specs.Iterator.{Yields}
 use Rattle.std.specs.List.{list_all}
 use Rattle.std.specs.Io.KnownBytes.{Appends}
@@ -10,6 +11,8 @@ use Rattle.jwalk_model.specs.Entry.{Item}
 use Rattle.seek_words.specs.Sought.{Sought}
 use Rattle.seek_words.specs.declared.paths.Style.{Style}
 use Rattle.seek_found.specs.Found.{found_line, found_lines, is_clean, PrintsFound}
+use Rattle.seek_found.specs.Limit.{left_after, up_to}
+use Rattle.seek_found.proofs.LimitFacts.{left_as_before, left_then, more_within, up_to_none}
 
 -- one text is written and then another
 pub appends_then : (a b c : Option (List ℕ)) (xs ys : List ℕ) → Appends a b xs → Appends b c ys → Appends a c (xs ++ ys)
@@ -46,27 +49,59 @@ one_called : {S X : Type 0} (steps : S → Option X → S → Type 0) (xs : List
 one_called steps [] x s t u same last = (u, subst (λ k. steps k (Some x) u) (sym same) last, refl)
 one_called steps (y ∷ xs) x s t u (j, first, more) last = (j, first, one_called steps xs x j t u more last)
 
-module _ {S C A R E : Type 0} (steps : S → Option (Result (DirEntry C A R E) (Error A)) → S → Type 0) (start : S) (sought : Sought) (style : Style) where
-  -- Calls yielded these so far, what is looked for of them is printed, and it is known whether all are clean.
-  pub record FoundSoFar (now : S) (old new : Option (List ℕ)) (clean : Bool) : Type 0 where
+module _ {S C A R E : Type 0} (steps : S → Option (Result (DirEntry C A R E) (Error A)) → S → Type 0) (start : S) (sought : Sought) (style : Style) (left : Option ℕ) where
+  -- Calls yielded these so far, and none is beyond the limit. What is looked for of them is printed, and it is known whether all are clean.
+  pub record FoundSoFar (now : S) (left' : Option ℕ) (old new : Option (List ℕ)) (clean : Bool) : Type 0 where
     pub answered : List (Result (DirEntry C A R E) (Error A))
     pub calls : Yields steps start answered now
+    pub within : up_to sought left (map item answered) ≡ map item answered
+    pub limit : left' ≡ left_after sought left (map item answered)
     pub lines : Appends old new (found_lines sought style (map item answered))
     pub all : clean ≡ list_all is_clean (map item answered)
 
   -- nothing was yielded yet
-  pub none_found : (old : Option (List ℕ)) → FoundSoFar start old old true
-  none_found old = record { answered = []; calls = refl; lines = appends_none old; all = refl }
-
-  -- one more call
-  pub one_found : (now next : S) (old mid new : Option (List ℕ)) (clean one : Bool) (answer : Result (DirEntry C A R E) (Error A)) → FoundSoFar now old mid clean → steps now (Some answer) next → Appends mid new (found_line sought style (item answer)) → one ≡ is_clean (item answer) → FoundSoFar next old new (clean && one)
-  one_found now next old mid new clean one answer so_far step line is = record {
-    answered = so_far.answered ++ answer ∷ [];
-    calls = one_called steps so_far.answered answer start now next so_far.calls step;
-    lines = rw (lines_more sought style item so_far.answered answer) (appends_then old mid new (found_lines sought style (map item so_far.answered)) (found_line sought style (item answer)) so_far.lines line);
-    all = ap (λ b. b && one) so_far.all ∙ ap (λ b. list_all is_clean (map item so_far.answered) && b) is ∙ sym (clean_more item so_far.answered answer);
+  pub none_found : (old : Option (List ℕ)) → FoundSoFar start left old old true
+  none_found old = record {
+    answered = [];
+    calls = refl;
+    within = up_to_none sought left;
+    limit = sym (left_as_before R E sought left);
+    lines = appends_none old;
+    all = refl;
   }
 
+  -- one more call
+  pub one_found : (now next : S) (mid left' : Option ℕ) (old some new : Option (List ℕ)) (clean one : Bool) (answer : Result (DirEntry C A R E) (Error A)) → FoundSoFar now mid old some clean → mid ≢ Some 0 → steps now (Some answer) next
+      → Appends some new (found_line sought style (item answer)) → left' ≡ left_after sought mid (item answer ∷ []) → one ≡ is_clean (item answer) → FoundSoFar next left' old new (clean && one)
+  one_found now next mid left' old some new clean one answer so_far more step line less is =
+      let before = map item so_far.answered in
+      record {
+        answered = so_far.answered ++ answer ∷ [];
+        calls = one_called steps so_far.answered answer start now next so_far.calls step;
+        within = rw (map-append item so_far.answered (answer ∷ [])) (more_within sought left before (item answer) so_far.within (λ full. more (so_far.limit ∙ full)));
+        limit = rw (map-append item so_far.answered (answer ∷ [])) (less ∙ ap (λ l. left_after sought l (item answer ∷ [])) so_far.limit ∙ sym (left_then sought left before (item answer ∷ [])));
+        lines = rw (lines_more sought style item so_far.answered answer) (appends_then old some new (found_lines sought style before) (found_line sought style (item answer)) so_far.lines line);
+        all = ap (λ b. b && one) so_far.all ∙ ap (λ b. list_all is_clean before && b) is ∙ sym (clean_more item so_far.answered answer);
+      }
+
   -- the last call
-  pub all_found : (now end : S) (old new : Option (List ℕ)) (clean : Bool) → FoundSoFar now old new clean → steps now None end → PrintsFound steps start sought style old new clean
-  all_found now end old new clean so_far step = (so_far.answered, (end, (now, so_far.calls, step)), so_far.all, so_far.lines)
+  pub all_found : (now end : S) (left' : Option ℕ) (old new : Option (List ℕ)) (clean : Bool) → FoundSoFar now left' old new clean → steps now None end → PrintsFound steps start sought style left left' old new clean
+  all_found now end left' old new clean so_far step = record {
+    answered = so_far.answered;
+    calls = inl (end, (now, so_far.calls, step));
+    within = so_far.within;
+    limit = so_far.limit;
+    lines = so_far.lines;
+    all = so_far.all;
+  }
+
+  -- no call more, where the limit is reached
+  pub enough_found : (now : S) (left' : Option ℕ) (old new : Option (List ℕ)) (clean : Bool) → FoundSoFar now left' old new clean → left' ≡ Some 0 → PrintsFound steps start sought style left left' old new clean
+  enough_found now left' old new clean so_far full = record {
+    answered = so_far.answered;
+    calls = inr (full, (now, so_far.calls));
+    within = so_far.within;
+    limit = so_far.limit;
+    lines = so_far.lines;
+    all = so_far.all;
+  }

@@ -1,11 +1,12 @@
 -- How a call of the program ends.
-use Rattle.std.specs.Prelude.{◌≡◌, ◌≤◌, ◌⊎◌, ℕ, List}
+use Rattle.std.specs.Prelude.{◌≡◌, ◌≤◌, ◌⊎◌, ℕ, Bool, List, if◌then◌else◌}
 use Rattle.seek_words.specs.AsksFor.{AskFor, AskForText}
 use Rattle.seek_words.specs.Refusal.{AreBad}
 use Rattle.seek_words.specs.declared.asked.Asked.{Asked}
 use Rattle.seek_found.specs.BadPattern.{status_of, IsBadFor}
 use Rattle.seek_found.specs.Sought.{IsFor}
 use Rattle.seek_found.specs.declared.bad_pattern.BadPattern.{BadPattern}
+use Rattle.seek_found.specs.declared.call.Ended.{Ended}
 use Rattle.seek_found.specs.declared.sought.Sought.{Sought}
 
 -- The words ask for a search, and what names are looked for is what the pattern says.
@@ -29,3 +30,7 @@ AskToSearch words (asked, sought) = AskFor words asked × IsFor asked sought
 pub record EndsUnsearched (words : List (List ℕ)) (status : ℕ) : Type 0 where
   pub ends : Ends words status
   pub text : status ≡ 0 → AskForText words
+
+-- whether a search that ended so succeeded: an entry was found, if it is quiet, and else there was no error
+abbrev pub succeeds : Bool → Ended → Bool
+succeeds quiet ended = if quiet then ended.full else ended.clean

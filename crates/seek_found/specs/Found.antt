@@ -1,7 +1,7 @@
 -- What is printed of a walk's answers.
-use Rattle.std.specs.Prelude.{◌≡◌, ℕ, ◌==◌, Bool, true, false, not, ◌&&◌, List, [], Option, Result, Ok, Err, map, flat_map, is_some, option_and_then, if◌then◌else◌}
+use Rattle.std.specs.Prelude.{◌≡◌, ◌⊎◌, ℕ, ◌==◌, Bool, true, false, not, ◌&&◌, List, [], Option, Some, Result, Ok, Err, map, flat_map, is_some, option_and_then, if◌then◌else◌}
 use Rattle.std.specs.List.{list_all}
-use Rattle.std.specs.Iterator.{Drains}
+use Rattle.std.specs.Iterator.{Drains, Yields}
 use Rattle.std.specs.Io.KnownBytes.{Appends}
 use Rattle.jwalk_job.specs.declared.dir_entry.DirEntry.{DirEntry}
 use Rattle.jwalk_job.specs.declared.error.Error.{Error}
@@ -10,6 +10,7 @@ use Rattle.jwalk_model.specs.Entry.{Entry, Item}
 use Rattle.seek_words.specs.Paths.{line_of}
 use Rattle.seek_words.specs.Sought.{Sought, is_found}
 use Rattle.seek_words.specs.declared.paths.Style.{Style}
+use Rattle.seek_found.specs.Limit.{left_after, up_to}
 
 module _ {R E : Type 0} where
   -- the line of an entry, if it is looked for
@@ -41,8 +42,11 @@ pub record PrintsClean {R E : Type 0} (answers : List (Item R E)) (sought : Soug
   pub clean : list_all is_clean answers ≡ true
 
 module _ {S C A R E : Type 0} (steps : S → Option (Result (DirEntry C A R E) (Error A)) → S → Type 0) (answers : S) where
-  -- The iterator was called until it ended, the line of each answer that is looked for was printed, and the result says whether all answers are clean.
-  abbrev pub PrintsFound : Sought → Style → Option (List ℕ) → Option (List ℕ) → Bool → Type 0
-  PrintsFound sought style old new clean =
-      (answered : List (Result (DirEntry C A R E) (Error A))) × Drains steps answers answered
-      × (clean ≡ list_all is_clean (map item answered)) × Appends old new (found_lines sought style (map item answered))
+  -- The iterator was called until it ended, or until as many were found as may be. The line of each answer that is looked for was printed, and the result says whether all answers are clean. `left` is how many more may be found before that, and `left'` after it.
+  pub record PrintsFound (sought : Sought) (style : Style) (left left' : Option ℕ) (old new : Option (List ℕ)) (clean : Bool) : Type 0 where
+    pub answered : List (Result (DirEntry C A R E) (Error A))
+    pub calls : Drains steps answers answered ⊎ ((left' ≡ Some 0) × ((end : S) × Yields steps answers answered end))
+    pub within : up_to sought left (map item answered) ≡ map item answered
+    pub limit : left' ≡ left_after sought left (map item answered)
+    pub lines : Appends old new (found_lines sought style (map item answered))
+    pub all : clean ≡ list_all is_clean (map item answered)

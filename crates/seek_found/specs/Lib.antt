@@ -1,6 +1,11 @@
 pub mod BadPattern
 pub mod Glob
+pub mod NamePattern
+pub mod PatternTest
 pub mod Sought
 pub mod SoughtTest
+pub mod Times
+pub mod Limit
 pub mod Found
+pub mod Roots
 pub mod Call

@@ -1,38 +1,27 @@
 -- What names are looked for.
-use Rattle.std.specs.Prelude.{◌≡◌, ℕ, ◌==◌, Bool, true, false, not, ◌&&◌, ◌||◌, List, length, bytes_eq, codes, is_some, Some}
-use Rattle.regex.specs.Patterns.{find_str}
-use Rattle.regex.specs.Strings.{regex_pattern, regex_source, regex_config, IsReadFromSource}
-use Rattle.regex.specs.declared.string.regex.Regex.{Regex}
-use Rattle.seek_words.specs.Case.{is_ignored}
-use Rattle.seek_words.specs.Expression.{config_for}
+use Rattle.std.specs.Prelude.{ℕ, Bool, ◌&&◌, List, [], ◌∷◌, map}
+use Rattle.std.specs.List.{list_all}
+use Rattle.seek_words.specs.Asks.{texts_of}
 use Rattle.seek_words.specs.declared.asked.Asked.{Asked}
-use Rattle.seek_found.specs.Glob.{glob_in, glob_takes, glob_value}
-use Rattle.seek_found.specs.declared.glob.Glob.{Glob as CodeGlob}
+use Rattle.seek_found.specs.NamePattern.{takes_name, IsPatternOf}
+use Rattle.seek_found.specs.declared.name_pattern.NamePattern.{NamePattern}
 use Rattle.seek_found.specs.declared.sought.Sought.{Sought}
-use Rattle.seek_found.specs.declared.sought.Sought.TheVariants.{Any, Expression, Glob}
 
--- whether a text is looked for: any, one in which the regular expression is found, or one that the glob takes
+-- whether a name passes a test, and each of others
+abbrev pub takes_all : (List ℕ → Bool → Bool) → List (List ℕ → Bool → Bool) → List ℕ → Bool → Bool
+takes_all first others text is_dir = first text is_dir && list_all (λ takes. takes text is_dir) others
+
+-- whether a name is looked for: by each pattern
 abbrev pub takes_by : Sought → List ℕ → Bool → Bool
-takes_by Any text is_dir = true
-takes_by (Expression expression) text is_dir = is_some (find_str (regex_pattern expression) text 0)
-takes_by (Glob glob) text is_dir = glob_takes (glob_value glob) text is_dir
+takes_by sought = takes_all (takes_name sought.first) (map takes_name sought.others.items)
 
--- whether the pattern stands for any name
-abbrev pub takes_any : Asked → Bool
-takes_any asked = (length asked.pattern.now == 0) || (bytes_eq asked.pattern.now (codes ".") && not asked.glob)
+-- They are what these patterns look for, in their order.
+abbrev pub ArePatternsOf : Asked → List (List ℕ) → List NamePattern → Type 0
+ArePatternsOf asked [] [] = Unit {0}
+ArePatternsOf asked (text ∷ texts) (pattern ∷ patterns) = IsPatternOf asked text pattern × ArePatternsOf asked texts patterns
+ArePatternsOf asked _ _ = ⊥
 
--- It is the regular expression of the pattern's text, read with the options that are asked for.
-pub record IsExpressionOf (asked : Asked) (expression : Regex) : Type 0 where
-  pub source : regex_source expression ≡ asked.pattern.now
-  pub options : regex_config expression ≡ config_for asked.case asked.pattern.now
-  pub read : IsReadFromSource expression
-
--- It is the glob of the pattern's text.
-abbrev pub IsGlobOf : Asked → CodeGlob → Type 0
-IsGlobOf asked glob = glob_in (is_ignored asked.case asked.pattern.now) asked.pattern.now ≡ Some (glob_value glob)
-
--- It is what is asked for.
-abbrev pub IsFor : Asked → Sought → Type 0
-IsFor asked Any = takes_any asked ≡ true
-IsFor asked (Expression expression) = (takes_any asked ≡ false) × (asked.glob ≡ false) × IsExpressionOf asked expression
-IsFor asked (Glob glob) = (takes_any asked ≡ false) × (asked.glob ≡ true) × IsGlobOf asked glob
+-- It is what the pattern and those of `--and` look for.
+pub record IsFor (asked : Asked) (sought : Sought) : Type 0 where
+  pub first : IsPatternOf asked asked.pattern.now sought.first
+  pub others : ArePatternsOf asked (texts_of asked.others.items) sought.others.items

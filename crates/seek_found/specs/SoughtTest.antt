@@ -1,13 +1,9 @@
 -- The test of what is sought.
-use Rattle.std.specs.Prelude.{ℕ, Bool, true, List, is_some}
-use Rattle.regex.specs.Patterns.{find_str}
-use Rattle.regex.specs.Strings.{matcher_pattern}
-use Rattle.seek_found.specs.Glob.{glob_takes, glob_value}
+use Rattle.std.specs.Prelude.{ℕ, Bool, List, map}
+use Rattle.seek_found.specs.PatternTest.{takes_of as takes_one}
+use Rattle.seek_found.specs.Sought.{takes_all}
 use Rattle.seek_found.specs.declared.sought_test.SoughtTest.{SoughtTest}
-use Rattle.seek_found.specs.declared.sought_test.SoughtTest.TheVariants.{Any, Finds, Takes}
 
--- whether a text passes
+-- whether a text passes each test
 abbrev pub takes_of : SoughtTest → List ℕ → Bool → Bool
-takes_of Any text is_dir = true
-takes_of (Finds matcher) text is_dir = is_some (find_str (matcher_pattern matcher) text 0)
-takes_of (Takes glob) text is_dir = glob_takes (glob_value glob.now) text is_dir
+takes_of test = takes_all (takes_one test.first) (map takes_one test.others.items)

@@ -26,6 +26,9 @@ impl<'w> BadPattern<'w> {
         match self {
             BadPattern::Expression(pattern, error) => {
                 let _ = writeln!(err, "seek: bad pattern '{pattern}': {error}");
+                if pattern.starts_with('*') {
+                    let _ = writeln!(err, "seek: to read it as a glob, try -g");
+                }
                 2
             }
             BadPattern::Glob(pattern) => {

@@ -1,7 +1,7 @@
 //! How a call of the program begins and ends.
-ghost use Rattle.std.specs.Prelude.{◌≡◌, ◌<◌, ◌≤◌, true, map, string_bytes, Ok, IfOk, IfErr, OnOk};
+ghost use Rattle.std.specs.Prelude.{◌≡◌, ◌<◌, ◌≤◌, true, map, string_bytes, IfOk, IfErr, IsOkAnd, OnOk};
 ghost use Rattle.seek_words.specs.Refusal.{status_of as status_for};
-ghost use Rattle.seek_found.specs.Call.{AskToSearch, EndsUnsearched};
+ghost use Rattle.seek_found.specs.Call.{succeeds, AskToSearch, EndsUnsearched};
 
 use crate::sought::Sought;
 use seek_words::asked::Asked;
@@ -25,14 +25,30 @@ fn refuse<W: Write, E: Write>(refusal: &Refusal<'_>, out: &mut W, err: &mut E) -
     u8::from(write!(out, "{refusal}").is_err() || out.flush().is_err())
 }
 
+/// How a search ended.
+#[derive(Clone, Copy, Debug, PartialEq, Eq)]
+pub struct Ended {
+    /// There was no error.
+    pub clean: bool,
+    /// As many entries were found as may be.
+    pub full: bool,
+}
+
+/// Returns whether a search that ended so succeeded. If it is quiet, that is whether an entry was found.
+fn succeeds(quiet: bool, ended: Ended) -> bool
+    ensures { result ≡ succeeds quiet ended }
+{
+    if quiet { ended.full } else { ended.clean }
+}
+
 /// Returns the status of a search that ended so. What ended it before its end is reported.
-pub fn status_of<E: Write>(ended: Result<bool, Halt>, err: &mut E) -> u8
+pub fn status_of<E: Write>(quiet: bool, ended: Result<Ended, Halt>, err: &mut E) -> u8
     ensures status { result ≤ 1 }
-    ensures clean { result ≡ 0 → ended ≡ Ok true }
-    ensures all { ended ≡ Ok true → result ≡ 0 }
+    ensures done { result ≡ 0 → IsOkAnd ended (λ it. succeeds quiet it ≡ true) }
+    ensures all { IsOkAnd ended (λ it. succeeds quiet it ≡ true) → result ≡ 0 }
 {
     match ended {
-        Ok(clean) => u8::from(!clean),
+        Ok(ended) => u8::from(!succeeds(quiet, ended)),
         Err(halt) => {
             halt.report(err);
             1

@@ -15,7 +15,7 @@ use seek_words::name_test::NameTest;
 use std::alloc::Allocator;
 use std::io::Write;
 
-/// Prints what passes of a walk's answers, and reports the errors. Returns whether there was none.
+/// Prints what passes of a walk's answers, up to the limit, and reports the errors. Returns whether there was none.
 ///
 /// # Errors
 ///
@@ -31,13 +31,17 @@ pub fn print_found<
     requires can { I.can_next answers.old }
     requires ends { IsFinite (I.remaining answers.old) }
     ensures printed { IfOk result (PrintsFound I.next_gives answers.old (sought_of T.takes printer.old.filter)
-        (style_of printer.old.lines) (append_known (W.contents out.old) (gathered_of printer.old.lines))
+        (style_of printer.old.lines) printer.old.left printer.new.left
+        (append_known (W.contents out.old) (gathered_of printer.old.lines))
         (append_known (W.contents out.new) (gathered_of printer.new.lines))) }
     ensures sought { sought_of T.takes printer.new.filter ≡ sought_of T.takes printer.old.filter }
     ensures style { style_of printer.new.lines ≡ style_of printer.old.lines }
 {
     let mut clean = true;
-    while let Some(answer) = answers.next() {
+    while !printer.is_full() {
+        let Some(answer) = answers.next() else {
+            return Ok(clean);
+        };
         clean &= printer.print(answer, out, err)?;
     }
     Ok(clean)

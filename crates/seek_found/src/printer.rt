@@ -1,10 +1,11 @@
 //! Answers of a walk, filtered and printed.
-ghost use Rattle.std.specs.Prelude.{◌≡◌, IfOk, OnOk};
+ghost use Rattle.std.specs.Prelude.{◌≡◌, ◌≢◌, ◌∷◌, [], Ok, Some, true, false, if◌then◌else◌, IfOk, OnOk};
 ghost use Rattle.std.specs.Io.KnownBytes.{Appends, append_known};
 ghost use Rattle.jwalk_job.specs.Entry.{entry, item};
 ghost use Rattle.seek_words.specs.Filter.{sought_of};
 ghost use Rattle.seek_words.specs.Lines.{style_of, gathered_of};
 ghost use Rattle.seek_found.specs.Found.{entry_line, found_line, is_clean};
+ghost use Rattle.seek_found.specs.Limit.{is_hit, left_after, one_less};
 
 use crate::report::{report_entry, report_error};
 use jwalk_job::client_state::ClientState;
@@ -24,15 +25,28 @@ pub struct Printer<'w, T: NameTest> {
     pub filter: Filter<'w, T>,
     /// The lines of what passed.
     pub lines: Lines,
+    /// How many more entries may pass, if there is a limit.
+    pub left: Option<usize>,
 }
 
-/// Prints the line of an entry, if it passes a filter.
+/// Returns a limit after an entry that passed, or didn't.
+fn left_after(left: Option<usize>, passes: bool) -> Option<usize>
+    ensures { result ≡ (if passes then one_less left else left) }
+{
+    match left {
+        Some(left) if passes => Some(left.saturating_sub(1)),
+        left => left,
+    }
+}
+
+/// Prints the line of an entry, if it passes a filter. Returns whether it does.
 fn print_entry<T: NameTest, C: ClientState, A: Allocator + Copy, W: Write>(
     filter: &mut Filter<'_, T>,
     lines: &mut Lines,
     found: &DirEntry<C, A>,
     out: &mut W,
-) -> Result<(), Halt>
+) -> Result<bool, Halt>
+    ensures hit { IfOk result (λ passes. passes ≡ is_hit (sought_of T.takes filter.old) (Ok (entry found.now))) }
     ensures printed { OnOk result (Appends (append_known (W.contents out.old) (gathered_of lines.old))
         (append_known (W.contents out.new) (gathered_of lines.new))
         (entry_line (sought_of T.takes filter.old) (style_of lines.old) (entry found.now))) }
@@ -42,12 +56,21 @@ fn print_entry<T: NameTest, C: ClientState, A: Allocator + Copy, W: Write>(
     let (folder, name) = (found.parent_path(), found.file_name());
     let seen = found.metadata_seen();
     if !filter.passes(found.depth(), found.file_type(), folder, name, seen)? {
-        return Ok(());
+        return Ok(false);
     }
-    lines.print(folder, name, out)
+    lines.print(folder, name, out)?;
+    Ok(true)
 }
 
 impl<'w, T: NameTest> Printer<'w, T> {
+    /// Returns whether no more entries may pass.
+    pub fn is_full(&self) -> bool
+        ensures full { result ≡ true → self.now.left ≡ Some 0 }
+        ensures room { result ≡ false → self.now.left ≢ Some 0 }
+    {
+        matches!(self.left, Some(0))
+    }
+
     /// Prints the line of an answer, if it is an entry that passes. Reports its error, if there is one. Returns whether
     /// there is none.
     ///
@@ -64,12 +87,15 @@ impl<'w, T: NameTest> Printer<'w, T> {
         ensures printed { OnOk result (Appends (append_known (W.contents out.old) (gathered_of self.old.lines))
             (append_known (W.contents out.new) (gathered_of self.new.lines))
             (found_line (sought_of T.takes self.old.filter) (style_of self.old.lines) (item answer))) }
+        ensures left { OnOk result (self.new.left
+            ≡ left_after (sought_of T.takes self.old.filter) self.old.left (item answer ∷ [])) }
         ensures sought { sought_of T.takes self.new.filter ≡ sought_of T.takes self.old.filter }
         ensures style { style_of self.new.lines ≡ style_of self.old.lines }
     {
         match &answer {
             Ok(found) => {
-                print_entry(&mut self.filter, &mut self.lines, found, out)?;
+                let passes = print_entry(&mut self.filter, &mut self.lines, found, out)?;
+                self.left = left_after(self.left, passes);
                 Ok(report_entry(found, err))
             }
             Err(error) => {

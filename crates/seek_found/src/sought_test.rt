@@ -1,19 +1,36 @@
 //! Whether a name is looked for.
-ghost use Rattle.std.specs.Prelude.{◌≡◌, IfOk};
+ghost use Rattle.std.specs.Prelude.{◌≡◌, IfOk, map};
+ghost use Rattle.seek_found.specs.NamePattern.{takes_name};
+ghost use Rattle.seek_found.specs.PatternTest.{takes_of as takes_one};
 ghost use Rattle.seek_found.specs.Sought.{takes_by};
 
-use crate::glob::Glob;
+use crate::name_pattern::NamePattern;
+use crate::pattern_test::{PatternTest, all_pass};
 use crate::sought::Sought;
-use regex::Matcher;
 use seek_words::name_test::NameTest;
 use std::alloc::{AllocError, Global};
 
 /// The test of what is sought.
 #[derive(Drop)]
-pub enum SoughtTest<'s> {
-    Any,
-    Finds(Matcher<'s>),
-    Takes(&'s Glob),
+pub struct SoughtTest<'s> {
+    first: PatternTest<'s>,
+    others: Vec<PatternTest<'s>>,
+}
+
+/// Returns the tests of patterns.
+fn tests_of<'s>(
+    alloc: Global,
+    patterns: &'s [NamePattern],
+) -> Result<Vec<PatternTest<'s>>, AllocError>
+    ensures { IfOk result (λ tests. map takes_one tests.items ≡ map takes_name patterns.entry.now) }
+{
+    let mut tests = Vec::new(alloc);
+    for pattern in patterns {
+        let test = PatternTest::new(alloc, pattern)?;
+        tests.reserve(1)?;
+        tests.push_reserved(test);
+    }
+    Ok(tests)
 }
 
 impl<'s> SoughtTest<'s> {
@@ -23,11 +40,10 @@ impl<'s> SoughtTest<'s> {
     pub fn new(alloc: Global, sought: &'s Sought) -> Result<Self, AllocError>
         ensures { IfOk result (λ test. takes_of test ≡ takes_by sought.entry.now) }
     {
-        match sought {
-            Sought::Any => Ok(SoughtTest::Any),
-            Sought::Expression(expression) => Ok(SoughtTest::Finds(expression.matcher(alloc)?)),
-            Sought::Glob(glob) => Ok(SoughtTest::Takes(glob)),
-        }
+        Ok(SoughtTest {
+            first: PatternTest::new(alloc, &sought.first)?,
+            others: tests_of(alloc, sought.others.as_slice())?,
+        })
     }
 }
 
@@ -37,10 +53,6 @@ impl<'s> NameTest for SoughtTest<'s> {
     ghost takes = { λ test. takes_of test };
 
     fn passes(&mut self, text: &str, is_dir: bool) -> Result<bool, AllocError> {
-        match self {
-            SoughtTest::Any => Ok(true),
-            SoughtTest::Finds(matcher) => Ok(matcher.is_match(text)),
-            SoughtTest::Takes(glob) => Ok(glob.takes(text, is_dir)),
-        }
+        Ok(self.first.passes(text, is_dir) && all_pass(self.others.as_mut_slice(), text, is_dir))
     }
 }

@@ -1,28 +1,22 @@
 -- Roots that are gone over one after another.
-use Rattle.std.proofs.Common.{◌≡◌, ◌∙◌, ◌<◌, ◌+◌, ℕ, Bool, true, false, ◌&&◌, List, [], ◌∷◌, ◌++◌, Option, take, length, append-nil, ap, ap₂, refl, subst, sym}
-use Rattle.std.specs.Prelude.{flat_map}
+use Rattle.std.proofs.Common.{◌≡◌, ◌≤◌, ◌<◌, ◌∙◌, ℕ, Bool, true, false, ◌&&◌, List, [], ◌∷◌, ◌++◌, length, slice_index_or, Option, Some, None, Result, Ok, Err, append-nil, ap, ap₂, arith, refl, subst, sym}
+use Rattle.std.specs.Prelude.{flat_map, is_some, option_map, if◌then◌else◌, IfOk, IsOkAnd}
 use Rattle.std.specs.Borrow.{Bor}
 use Rattle.std.specs.Io.KnownBytes.{Appends, append_known}
-use Rattle.std.proofs.Math.ListN.{get_or}
 use Rattle.std.proofs.lemmas.Grind.{flat_map-append}
-use Rattle.std.proofs.lemmas.List.{map-append, take_more}
+use Rattle.std.proofs.lemmas.List.{map-append}
 use Rattle.jwalk.specs.jwalk_model.Entry.{Item}
 use Rattle.seek_words.specs.Sought.{Sought}
 use Rattle.seek_words.specs.Wanted.{Wants}
 use Rattle.seek_words.specs.declared.paths.Style.{Style}
 use Rattle.seek_found.specs.Found.{found_lines, PrintsClean}
-use Rattle.seek_found.proofs.CleanFacts.{clean_then, first_written, printed_as, rest_written}
+use Rattle.seek_found.specs.Limit.{left_after}
+use Rattle.seek_found.specs.Roots.{AreBelow, Below, PrintsSuch}
+use Rattle.seek_found.proofs.RootsFacts.{no_roots_printed}
+use Rattle.seek_found.proofs.CleanFacts.{clean_none, clean_then, first_written, printed_as, rest_written}
 use Rattle.seek_words.specs.Asks.{texts_of}
-
--- what is gone over with one root more
-one_more : {X : Type 0} (f : List ℕ → List X) (roots : List (Bor (List ℕ))) (i : ℕ) (d : Bor (List ℕ)) → i < length roots
-    → flat_map f (texts_of (take (i + 1) roots)) ≡ flat_map f (texts_of (take i roots)) ++ f (get_or roots i d).now
-one_more f roots i d below =
-    let root = get_or roots i d in
-    ap (λ (l : List (Bor (List ℕ))). flat_map f (texts_of l)) (take_more roots i d below)
-    ∙ ap (flat_map f) (map-append (λ it. it.now) (take i roots) (root ∷ []))
-    ∙ flat_map-append f (texts_of (take i roots)) (root.now ∷ [])
-    ∙ ap (λ l. flat_map f (texts_of (take i roots)) ++ l) (append-nil (f root.now))
+use Rattle.seek_words.specs.declared.asked.Asked.{Asked}
+use Rattle.seek_search.specs.Search.{limit_asked, positive}
 
 -- what is looked for, by its parts
 pub sought_by : {w w' : Wants} {t t' : List ℕ → Bool → Bool} {f f' : Option (List ℕ)} → w ≡ w' → t ≡ t' → f ≡ f'
@@ -44,13 +38,54 @@ written_last {xs} {sought} {style} old mid new none last empty printed rest = re
   clean = printed.clean;
 }
 
--- what is printed of the roots so far, and of one more
-pub one_root : {R E : Type 0} (f : List ℕ → List (Item R E)) (roots : List (Bor (List ℕ))) (i : ℕ) (d : Bor (List ℕ)) → i < length roots
+-- what is printed of roots, and then of others
+pub others_printed : {R E : Type 0} (f : List ℕ → List (Item R E)) (all first rest : List (Bor (List ℕ))) → all ≡ first ++ rest
     → {sought sought' : Sought} {style style' : Style} {old mid new : Option (List ℕ)} → sought' ≡ sought → style' ≡ style
-    → PrintsClean (flat_map f (texts_of (take i roots))) sought style old mid → PrintsClean (f (get_or roots i d).now) sought' style' mid new
-    → PrintsClean (flat_map f (texts_of (take (i + 1) roots))) sought style old new
-one_root f roots i d below {sought} {sought'} {style} {style'} {old} {mid} {new} sought_is style_is before more =
-    printed_as (sym (one_more f roots i d below)) (clean_then sought style (flat_map f (texts_of (take i roots))) (f (get_or roots i d).now) old mid new before (printed_by sought_is style_is more))
+    → PrintsClean (flat_map f (texts_of first)) sought style old mid → PrintsClean (flat_map f (texts_of rest)) sought' style' mid new → PrintsClean (flat_map f (texts_of all)) sought style old new
+others_printed f all first rest are {sought} {sought'} {style} {style'} {old} {mid} {new} sought_is style_is before more =
+    printed_as (sym (ap (λ l. flat_map f (texts_of l)) are ∙ ap (flat_map f) (map-append (λ it. it.now) first rest) ∙ flat_map-append f (texts_of first) (texts_of rest)))
+    (clean_then sought style (flat_map f (texts_of first)) (flat_map f (texts_of rest)) old mid new before (printed_by sought_is style_is more))
+
+-- the texts of roots and then of others
+pub texts_then : (all first rest : List (Bor (List ℕ))) → all ≡ first ++ rest → texts_of first ++ texts_of rest ≡ texts_of all
+texts_then all first rest are = sym (ap texts_of are ∙ map-append (λ it. it.now) first rest)
+
+-- whether there is something is whether there is what is made of it
+pub is_some_made : {X Y : Type 0} (f : X → Y) (o : Option X) → is_some (option_map f o) ≡ is_some o
+is_some_made f None = refl
+is_some_made f (Some x) = refl
+
+-- what a result is known to be, in two ways
+pub ok_twice : {X Y : Type 0} (r : Result X Y) (P Q : X → Type 0) → IsOkAnd r P → IfOk r Q → (x : X) × P x × Q x
+ok_twice (Ok x) P Q first second = (x, first, second)
+ok_twice (Err e) P Q first second = absurd first
+
+-- a single root, and none
+pub one_element : {A : Type 0} (l : List A) (d : A) → 1 ≤ length l → length l < 2 → l ≡ slice_index_or l 0 d ∷ []
+one_element [] d some few = absurd (omega (arith, some))
+one_element (x ∷ []) d some few = refl
+one_element (x ∷ y ∷ l) d some few = absurd (omega (arith, few))
+
+no_element : {A : Type 0} (l : List A) → length l < 1 → l ≡ []
+no_element [] few = refl
+no_element (x ∷ l) few = absurd (omega (arith, few))
+
+-- what is printed of one root
+pub one_printed : {R E : Type 0} (f : List ℕ → List (Item R E)) (all : List (Bor (List ℕ))) (root : Bor (List ℕ)) → all ≡ root ∷ []
+    → {sought : Sought} {style : Style} {old new : Option (List ℕ)} → PrintsClean (f root.now) sought style old new → PrintsClean (flat_map f (texts_of all)) sought style old new
+one_printed f all root is printed = printed_as (sym (ap (λ l. flat_map f (texts_of l)) is ∙ append-nil (f root.now))) printed
+
+-- and of none
+pub none_printed : {R E : Type 0} (f : List ℕ → List (Item R E)) (all : List (Bor (List ℕ))) → length all < 1 → (sought : Sought) (style : Style) (old : Option (List ℕ)) → PrintsClean (flat_map f (texts_of all)) sought style old old
+none_printed f all few sought style old = printed_as (sym (ap (λ l. flat_map f (texts_of l)) (no_element all few))) (clean_none sought style old)
+
+pub none_yielded : (below : Below) (may_stop : Type 0) (roots : List (Bor (List ℕ))) → length roots < 1 → (sought : Sought) (style : Style) (left : Option ℕ) (old : Option (List ℕ)) → PrintsSuch (AreBelow below may_stop (texts_of roots)) sought style left left old old true
+none_yielded below may_stop [] few sought style left old = no_roots_printed below may_stop sought style left old
+none_yielded below may_stop (root ∷ roots) few sought style left old = absurd (omega (arith, few))
+
+-- without a limit there is none after answers
+pub still_none : {R E : Type 0} (sought : Sought) (xs : List (Item R E)) {left left' : Option ℕ} → left ≡ None → left' ≡ left_after sought left xs → left' ≡ None
+still_none sought xs none limit = limit ∙ ap (λ l. left_after sought l xs) none
 
 -- two answers are both true
 pub first_true : (a b : Bool) → (a && b) ≡ true → a ≡ true
@@ -60,3 +95,10 @@ first_true false b is = is
 pub second_true : (a b : Bool) → (a && b) ≡ true → b ≡ true
 second_true true b is = is
 second_true false b is = absurd (cc)
+
+-- a quiet search has a limit
+pub limit_quiet : (asked : Asked) → asked.quiet ≡ true → limit_asked asked ≡ Some 1
+limit_quiet asked quiet = ap (λ b. if b then Some 1 else positive asked.max_results) quiet
+
+pub one_not_none : {n : Option ℕ} → n ≡ Some 1 → n ≡ None → ⊥
+one_not_none {n} one none = let no : ◌≡◌ {A = Option ℕ} (Some 1) None = sym one ∙ none in absurd (cc)

@@ -1,12 +1,28 @@
 -- What searches go over.
-use Rattle.std.proofs.Common.{◌≡◌, Bool, true, false, List, ℕ, refl}
+use Rattle.std.proofs.Common.{◌≡◌, ◌≤◌, ◌<◌, ◌⊎◌, ◌∙◌, ℕ, Bool, true, false, List, [], ◌∷◌, length, slice_index_or, Option, inl, inr, ap, ap₂, arith, refl, subst, sym}
+use Rattle.std.specs.Prelude.{◌==◌, if◌then◌else◌, MatchBool}
+use Rattle.std.specs.Borrow.{Bor}
+use Rattle.std.specs.declared.sync.Arc.{Arc}
 use Rattle.jwalk.specs.jwalk_model.Counted.{Worth}
+use Rattle.jwalk.specs.jwalk_model.Entry.{Item}
 use Rattle.jwalk.specs.jwalk_model.FileSystem.{Functions}
 use Rattle.jwalk.specs.jwalk_model.Job.{Processing}
 use Rattle.jwalk.specs.jwalk_model.Options.{Options, with_skip_hidden}
+use Rattle.jwalk.specs.jwalk_model.Paths.{dot}
 use Rattle.jwalk.specs.jwalk_model.Walk.{whole_walk}
-use Rattle.jwalk_ignore.specs.Callback.Kept.{job_with}
+use Rattle.jwalk_ignore.specs.jwalk_ignore_rules.declared.rules.chain.Chain.{Chain}
+use Rattle.jwalk.specs.declared.crew.Crew.{Crew}
+use Rattle.jwalk.specs.declared.walk_dir.WalkDirGeneric.{WalkDirGeneric}
+use Rattle.seek_words.specs.Asks.{texts_of}
+use Rattle.seek_words.specs.declared.asked.Asked.{Asked}
+use Rattle.seek_found.specs.Roots.{AreBelow}
+use Rattle.seek_found.proofs.RootsFacts.{may_stop_sooner, one_root}
+use Rattle.seek_search.specs.Goes.{CallsOf, IsHonouring, IsPlain, Yielded, YieldedBelow}
 use Rattle.seek_search.specs.Options.{with_crew}
+use Rattle.jwalk_ignore.specs.Callback.Kept.{job_with}
+use Rattle.seek_search.specs.Search.{roots_asked}
+use Rattle.jwalk_ignore.specs.declared.callback.excluding.Excluding.{Excluding}
+use Rattle.jwalk_ignore.specs.declared.callback.kept_rules.KeptRules.{KeptRules}
 
 module _ (processed : Processing Worth Worth) where
   -- it doesn't matter whether a crew reads
@@ -21,3 +37,100 @@ module _ (processed : Processing Worth Worth) where
   unfolding whole_walk
   hidden_by_crew true fs options root state = refl
   hidden_by_crew false fs options root state = refl
+
+module _ {T C S P A R E : Type 0} (calls : CallsOf T C S P A R E) {is : WalkDirGeneric C S P A (Crew T) R E → Type 0} where
+  -- what a walk yielded, of which more is known
+  pub yielded_so : {be : WalkDirGeneric C S P A (Crew T) R E → Type 0} {may_stop : Type 0} → ((walk : WalkDirGeneric C S P A (Crew T) R E) → is walk → be walk) → (answers : List (Item Worth Worth)) → Yielded calls is may_stop answers → Yielded calls be may_stop answers
+  yielded_so more answers y = record {
+    walk = y.walk;
+    is_so = more y.walk y.is_so;
+    it = y.it;
+    starts = y.starts;
+    yielded = y.yielded;
+    called = y.called;
+    counted = y.counted;
+  }
+
+  -- all of it, or what it was where the search stops
+  yielded_or : {may_stop : Type 0} (answers : List (Item Worth Worth)) → Yielded calls is may_stop answers → Yielded calls is ⊥ answers ⊎ (may_stop × Yielded calls is may_stop answers)
+  yielded_or answers y = elim y.called [
+    | inl drains ↦ inl (record {
+      walk = y.walk;
+      is_so = y.is_so;
+      it = y.it;
+      starts = y.starts;
+      yielded = y.yielded;
+      called = inl drains;
+      counted = y.counted;
+    })
+    | inr stopped ↦ inr (stopped.0, y)
+  ]
+
+  -- the same, where a search may stop
+  yielded_may : {may_stop : Type 0} (answers : List (Item Worth Worth)) → Yielded calls is may_stop answers → Yielded calls is (Unit {0}) answers
+  yielded_may answers y = record {
+    walk = y.walk;
+    is_so = y.is_so;
+    it = y.it;
+    starts = y.starts;
+    yielded = y.yielded;
+    called = elim y.called [ inl drains ↦ inl drains | inr stopped ↦ inr (tt, stopped.1) ];
+    counted = y.counted;
+  }
+
+module _ {T C S B X A D Q E G H F : Type 0} (plain : CallsOf T G (Arc S B) Excluding A H F) (honouring : CallsOf T C (Arc S B) (KeptRules X) A (Chain D × Q) E) (disk : S) (texts : X) (asked : Asked) (may_stop : Type 0) (root : List ℕ) (answers : List (Item Worth Worth)) where
+  abbrev Two : Type 0 → Bool → Type 0
+  Two stop b = MatchBool b (Yielded plain (IsPlain disk asked root) stop answers) (Yielded honouring (IsHonouring disk texts asked root) stop answers)
+
+  -- the answers below a root are those of one of two walks
+  pub below_plain : asked.no_ignore ≡ true → Yielded plain (IsPlain disk asked root) may_stop answers → YieldedBelow plain honouring disk texts asked may_stop root answers
+  below_plain is y = subst (Two may_stop) (sym is) y
+
+  pub below_honouring : asked.no_ignore ≡ false → Yielded honouring (IsHonouring disk texts asked root) may_stop answers → YieldedBelow plain honouring disk texts asked may_stop root answers
+  below_honouring is y = subst (Two may_stop) (sym is) y
+
+  -- all of them, or what they were where the search stops
+  pub below_or : YieldedBelow plain honouring disk texts asked may_stop root answers → YieldedBelow plain honouring disk texts asked ⊥ root answers ⊎ (may_stop × YieldedBelow plain honouring disk texts asked may_stop root answers)
+  below_or = elim asked.no_ignore as (λ b. Two may_stop b → Two ⊥ b ⊎ (may_stop × Two may_stop b)) [ true ↦ yielded_or plain answers | false ↦ yielded_or honouring answers ]
+
+  -- the same, where a search may stop
+  pub below_may : YieldedBelow plain honouring disk texts asked may_stop root answers → YieldedBelow plain honouring disk texts asked (Unit {0}) root answers
+  below_may = elim asked.no_ignore as (λ b. Two may_stop b → Two (Unit {0}) b) [ true ↦ yielded_may plain answers | false ↦ yielded_may honouring answers ]
+
+-- the answers below roots go by the disk and the texts
+pub same_below : {T C S B X A D Q E G H F : Type 0} (plain : CallsOf T G (Arc S B) Excluding A H F) (honouring : CallsOf T C (Arc S B) (KeptRules X) A (Chain D × Q) E) (asked : Asked) (may_stop : Type 0) (roots : List (List ℕ)) {disk disk' : S} {texts texts' : X} → disk ≡ disk' → texts ≡ texts'
+    → (answers : List (Item Worth Worth)) → AreBelow (YieldedBelow plain honouring disk texts asked) may_stop roots answers → AreBelow (YieldedBelow plain honouring disk' texts' asked) may_stop roots answers
+same_below {S} {X} plain honouring asked may_stop roots {disk} {disk'} {texts} {texts'} over from answers are =
+    subst (λ (t : X). AreBelow (YieldedBelow plain honouring disk' t asked) may_stop roots answers) from
+    (subst (λ (d : S). AreBelow (YieldedBelow plain honouring d texts asked) may_stop roots answers) over are)
+
+-- where a search stops, it may stop
+pub stops_somewhere : {T C S B X A D Q E G H F : Type 0} (plain : CallsOf T G (Arc S B) Excluding A H F) (honouring : CallsOf T C (Arc S B) (KeptRules X) A (Chain D × Q) E) (disk : S) (texts : X) (asked : Asked) (may_stop : Type 0) (roots : List (List ℕ)) (answers : List (Item Worth Worth))
+    → AreBelow (YieldedBelow plain honouring disk texts asked) may_stop roots answers → AreBelow (YieldedBelow plain honouring disk texts asked) (Unit {0}) roots answers
+stops_somewhere plain honouring disk texts asked may_stop =
+    may_stop_sooner (YieldedBelow plain honouring disk texts asked) may_stop (Unit {0}) (λ stops. tt) (λ root answers. below_may plain honouring disk texts asked may_stop root answers)
+
+module _ {T C S B X A D Q E G H F : Type 0} (plain : CallsOf T G (Arc S B) Excluding A H F) (honouring : CallsOf T C (Arc S B) (KeptRules X) A (Chain D × Q) E) (disk : S) (texts : X) (asked : Asked) (may_stop : Type 0) where
+  -- the answers below the folder that the program runs in, if no root is named
+  pub below_here : (length asked.roots.items == 0) ≡ true → (answers : List (Item Worth Worth)) → YieldedBelow plain honouring disk texts asked may_stop dot answers → AreBelow (YieldedBelow plain honouring disk texts asked) may_stop (roots_asked asked) answers
+  below_here none answers y =
+      subst (λ (b : Bool). AreBelow (YieldedBelow plain honouring disk texts asked) may_stop (if b then dot ∷ [] else texts_of asked.roots.items) answers) (sym none)
+      (one_root (YieldedBelow plain honouring disk texts asked) may_stop dot answers (below_or plain honouring disk texts asked may_stop dot answers y))
+
+  -- the answers below the roots that are named
+  pub below_named : (roots : List (Bor (List ℕ))) → (length asked.roots.items == 0) ≡ false → roots ≡ asked.roots.items → (answers : List (Item Worth Worth)) → AreBelow (YieldedBelow plain honouring disk texts asked) may_stop (texts_of roots) answers
+      → AreBelow (YieldedBelow plain honouring disk texts asked) may_stop (roots_asked asked) answers
+  below_named roots some are answers y =
+      subst (λ (b : Bool). AreBelow (YieldedBelow plain honouring disk texts asked) may_stop (if b then dot ∷ [] else texts_of asked.roots.items) answers) (sym some)
+      (subst (λ (l : List (Bor (List ℕ))). AreBelow (YieldedBelow plain honouring disk texts asked) may_stop (texts_of l) answers) are y)
+
+  -- the answers below a single root
+  pub below_one : (roots : List (Bor (List ℕ))) (d : Bor (List ℕ)) → 1 ≤ length roots → length roots < 2 → (answers : List (Item Worth Worth)) → YieldedBelow plain honouring disk texts asked may_stop (slice_index_or roots 0 d).now answers
+      → AreBelow (YieldedBelow plain honouring disk texts asked) may_stop (texts_of roots) answers
+  below_one [] d some few answers y = absurd (omega (arith, some))
+  below_one (root ∷ []) d some few answers y = one_root (YieldedBelow plain honouring disk texts asked) may_stop root.now answers (below_or plain honouring disk texts asked may_stop root.now answers y)
+  below_one (root ∷ other ∷ roots) d some few answers y = absurd (omega (arith, few))
+
+  -- the same roots, as they are known otherwise
+  pub below_same : {roots roots' : List (List ℕ)} → roots ≡ roots' → (answers : List (Item Worth Worth)) → AreBelow (YieldedBelow plain honouring disk texts asked) may_stop roots answers → AreBelow (YieldedBelow plain honouring disk texts asked) may_stop roots' answers
+  below_same are answers y = subst (λ (r : List (List ℕ)). AreBelow (YieldedBelow plain honouring disk texts asked) may_stop r answers) are y

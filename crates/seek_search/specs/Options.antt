@@ -1,6 +1,6 @@
 -- What is asked of a walk.
 use Rattle.std.specs.Prelude.{ℕ, Bool, not, Option, None, Some, if◌then◌else◌}
-use Rattle.jwalk_model.specs.Options.{crew, Options, defaults, with_sort, with_skip_hidden, with_follow_links, with_keep_metadata, with_max_depth, with_parallelism}
+use Rattle.jwalk_model.specs.Options.{crew, Options, defaults, with_sort, with_skip_hidden, with_follow_links, with_same_file_system, with_keep_metadata, with_max_depth, with_parallelism}
 use Rattle.seek_search.specs.declared.options.WalkOptions.{WalkOptions}
 
 -- the greatest depth, if one is named
@@ -15,4 +15,4 @@ with_crew reads options = if reads then with_parallelism crew options else optio
 -- the options of the walk that is asked for, with a crew or without one
 abbrev pub options_for : WalkOptions → Bool → Options
 options_for asked by_crew =
-    with_crew by_crew (with_greatest asked.greatest (with_keep_metadata asked.metadata (with_follow_links asked.follow (with_skip_hidden (not asked.hidden) (with_sort asked.sort defaults)))))
+    with_crew by_crew (with_greatest asked.greatest (with_keep_metadata asked.metadata (with_same_file_system asked.one_file_system (with_follow_links asked.follow (with_skip_hidden (not asked.hidden) (with_sort asked.sort defaults))))))

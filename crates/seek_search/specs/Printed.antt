@@ -1,8 +1,9 @@
 -- What a search prints, if there is no error.
-use Rattle.std.specs.Prelude.{◌≡◌, ℕ, Bool, true, List, Option}
+use Rattle.std.specs.Prelude.{◌≡◌, ℕ, Bool, true, List, Option, None, Some}
 use Rattle.std.specs.Io.KnownBytes.{append_known}
 use Rattle.std.specs.declared.clone.Clone as Clone
 use Rattle.std.specs.declared.default.Default as Default
+use Rattle.jwalk.specs.jwalk_model.Counted.{Worth}
 use Rattle.jwalk.specs.jwalk_model.Entry.{Item}
 use Rattle.jwalk.specs.jwalk_model.Walk.{whole_walk}
 use Rattle.jwalk.specs.jwalk_fs.declared.file_system.FileSystem as FileSystem
@@ -14,14 +15,15 @@ use Rattle.jwalk.specs.declared.walk_dir.WalkDirGeneric.{WalkDirGeneric}
 use Rattle.seek_words.specs.Filter.{sought_of}
 use Rattle.seek_words.specs.Lines.{gathered_of, style_of}
 use Rattle.seek_found.specs.Found.{PrintsClean}
+use Rattle.seek_found.specs.Roots.{PrintsSuch}
 use Rattle.seek_found.specs.SoughtTest.{takes_of}
 use Rattle.seek_found.specs.declared.printer.Printer.{Printer}
 use Rattle.seek_found.specs.declared.sought_test.SoughtTest.{SoughtTest}
 
--- If there was no error, the line of each of these answers that a printer looks for is written, or gathered by it.
+-- If there is no limit, and there was no error, the line of each of these answers that a printer looks for is written, or gathered by it.
 abbrev pub PrintsAll : {R E : Type 0} → List (Item R E) → Printer SoughtTest → Printer SoughtTest → Option (List ℕ) → Option (List ℕ) → Bool → Type 0
 PrintsAll answers old new before after clean =
-    clean ≡ true → PrintsClean answers (sought_of takes_of old.filter) (style_of old.lines)
+    old.left ≡ None → clean ≡ true → PrintsClean answers (sought_of takes_of old.filter) (style_of old.lines)
     (append_known before (gathered_of old.lines)) (append_known after (gathered_of new.lines))
 
 -- So it is of all that a walk yields, whatever is given of it.
@@ -30,3 +32,9 @@ abbrev pub PrintsWalk : {C S P A W R E : Type 0} → FileSystem.Ghosts S → Pro
 PrintsWalk {R = R} {E = E} files process clone defaults walk old new before after clean =
     (given : Given R E) → IsSteady files process clone defaults (file_system_of walk) (callback_of walk) given
     → PrintsAll (whole_walk (job_for files given walk) (root_of walk) (given.read_dir_state (state_of walk))) old new before after clean
+
+-- The line of each answer that a printer looks for is written, or gathered by it, up to its limit; and the result says whether all answers are clean. `are` says which answers these may be: all, unless the limit was reached.
+abbrev pub PrintsThose : (Type 0 → List (Item Worth Worth) → Type 0) → Printer SoughtTest → Printer SoughtTest → Option (List ℕ) → Option (List ℕ) → Bool → Type 0
+PrintsThose are old new before after =
+    PrintsSuch (are (new.left ≡ Some 0)) (sought_of takes_of old.filter) (style_of old.lines) old.left new.left
+    (append_known before (gathered_of old.lines)) (append_known after (gathered_of new.lines))

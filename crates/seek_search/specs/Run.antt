@@ -1,24 +1,35 @@
 -- What a call of the program prints.
-use Rattle.std.specs.Prelude.{ℕ, Bool, List, Option}
+use Rattle.std.specs.Prelude.{◌≡◌, ℕ, Bool, true, false, List, Option, None}
+use Rattle.std.specs.declared.sync.Arc.{Arc}
 use Rattle.jwalk.specs.jwalk_model.FileSystem.{Functions}
 use Rattle.jwalk_ignore.specs.Rules.Texts.{Texts}
+use Rattle.jwalk_ignore.specs.jwalk_ignore_rules.declared.rules.chain.Chain.{Chain}
 use Rattle.seek_words.specs.AsksFor.{AskFor}
 use Rattle.seek_words.specs.declared.asked.Asked.{Asked}
 use Rattle.seek_found.specs.Found.{PrintsClean}
 use Rattle.seek_found.specs.Sought.{IsFor, takes_by}
 use Rattle.seek_found.specs.declared.sought.Sought.{Sought}
+use Rattle.seek_found.specs.Times.{AreTimes}
+use Rattle.seek_search.specs.Goes.{CallsOf, FindsOne, PrintsYielded}
 use Rattle.seek_search.specs.KeptLinks.{functions_kept}
-use Rattle.seek_search.specs.Search.{sought_asked, style_asked, yielded_by}
+use Rattle.seek_search.specs.Search.{limit_asked, sought_asked, style_asked, yielded_by}
+use Rattle.jwalk_ignore.specs.declared.callback.excluding.Excluding.{Excluding}
+use Rattle.seek_search.specs.declared.kept_links.KeptLinks.{KeptLinks}
+use Rattle.jwalk_ignore.specs.declared.callback.kept_rules.KeptRules.{KeptRules}
 
 -- Over a file system and texts that always answer the same, the line of each entry that is looked for is printed, among all that is gone over, and there is no error among that. A link that leads nowhere is none, and is gone over itself.
 abbrev pub PrintsAsked : Functions → Texts → Bool → Asked → Sought → Option (List ℕ) → Option (List ℕ) → Type 0
 PrintsAsked fs texts on_terminal asked sought =
     PrintsClean (yielded_by (functions_kept asked.follow fs) texts asked) (sought_asked texts asked (takes_by sought)) (style_asked on_terminal asked)
 
--- The words ask for a search, what names are looked for is what the pattern says, and what is asked for is printed, if the file system and the texts are fixed.
-pub record Searches (fixed : Type 0) (fs : Functions) (texts : Texts) (on_terminal : Bool) (words : List (List ℕ)) (old new : Option (List ℕ)) : Type 0 where
-  pub asked : Asked
-  pub ask : AskFor words asked
-  pub sought : Sought
-  pub is_for : IsFor asked sought
-  pub prints : fixed → PrintsAsked fs texts on_terminal asked sought old new
+module _ {T C Z B X A D Q E G H F : Type 0} (plain : CallsOf T G (Arc (KeptLinks Z) B) Excluding A H F) (honouring : CallsOf T C (Arc (KeptLinks Z) B) (KeptRules X) A (Chain D × Q) E) where
+  -- The words ask for a search, and what names are looked for is what the pattern says, and the times that are asked for are known. If it is quiet, nothing is written, and one of the answers of its walks is found. Else their lines are printed as is asked for, and all of them are clean. If there is no limit, and the file system and the texts are fixed, the answers are those that are asked for.
+  pub record Searches (disk : Z) (reads : X) (fixed : Type 0) (fs : Functions) (texts : Texts) (on_terminal : Bool) (words : List (List ℕ)) (old new : Option (List ℕ)) : Type 0 where
+    pub asked : Asked
+    pub ask : AskFor words asked
+    pub sought : Sought
+    pub is_for : IsFor asked sought
+    pub times : fixed → AreTimes fs asked asked.times
+    pub quiet : asked.quiet ≡ true → (new ≡ old) × FindsOne plain honouring disk reads asked (takes_by sought)
+    pub yielded : asked.quiet ≡ false → PrintsYielded plain honouring disk reads on_terminal asked (takes_by sought) old new true
+    pub prints : fixed → limit_asked asked ≡ None → PrintsAsked fs texts on_terminal asked sought old new

@@ -1,5 +1,5 @@
 -- What a search goes over, and what it finds.
-use Rattle.std.specs.Prelude.{ℕ, ◌==◌, Bool, false, not, List, [], ◌∷◌, flat_map, length, Option, None, Some, Result, Ok, Err, if◌then◌else◌}
+use Rattle.std.specs.Prelude.{ℕ, zero, suc, ◌==◌, Bool, false, not, List, [], ◌∷◌, flat_map, length, Option, None, Some, Result, Ok, Err, if◌then◌else◌}
 use Rattle.std.specs.declared.io.ErrorKind.{ErrorKind}
 use Rattle.jwalk.specs.jwalk_model.Counted.{Worth, blank}
 use Rattle.jwalk.specs.jwalk_model.Entry.{Item}
@@ -15,8 +15,15 @@ use Rattle.seek_words.specs.Sought.{Sought}
 use Rattle.seek_words.specs.declared.paths.Style.{Style}
 use Rattle.seek_search.specs.Options.{options_for}
 use Rattle.seek_search.specs.declared.options.WalkOptions.{WalkOptions}
+use Rattle.seek_words.specs.Metadata.{needs_metadata}
 use Rattle.seek_words.specs.Asks.{texts_of}
 use Rattle.seek_words.specs.declared.asked.Asked.{Asked}
+
+-- a number, if there is one above 0
+abbrev pub positive : Option ℕ → Option ℕ
+positive None = None
+positive (Some zero) = None
+positive (Some (suc n)) = Some (suc n)
 
 -- what is asked of walks
 abbrev pub walk_options : Asked → WalkOptions
@@ -24,13 +31,18 @@ walk_options asked = record {
   sort = asked.sort;
   hidden = asked.hidden;
   follow = asked.follow;
-  metadata = not (length asked.sizes.items == 0);
+  metadata = needs_metadata asked;
+  one_file_system = asked.one_file_system;
   greatest = asked.depths.greatest;
 }
 
 -- the options of walks. Whether a crew reads makes no difference to what they yield.
 abbrev pub options_asked : Asked → Options
 options_asked asked = options_for (walk_options asked) false
+
+-- how many entries may be found, if there is a limit: one, if only the status is asked for
+abbrev pub limit_asked : Asked → Option ℕ
+limit_asked asked = if asked.quiet then Some 1 else positive asked.max_results
 
 -- how ignore files are used
 abbrev pub settings_asked : Asked → Settings
@@ -74,10 +86,14 @@ front_at (Err kind) = join [] []
 abbrev pub front_asked : Texts → Asked → Option (List ℕ)
 front_asked texts asked = if asked.full_path then Some (front_at (texts.absolute_of [])) else None
 
--- what is looked for, where these texts pass
-abbrev pub sought_asked : Texts → Asked → (List ℕ → Bool → Bool) → Sought
-sought_asked texts asked takes = record {
-  wanted = record { depths = asked.depths; kinds = asked.kinds; extensions = texts_of asked.extensions.items; sizes = asked.sizes.items };
+-- what is looked for, where these texts pass, and this is in front of a relative path
+abbrev pub sought_before : Option (List ℕ) → Asked → (List ℕ → Bool → Bool) → Sought
+sought_before front asked takes = record {
+  wanted = record { depths = asked.depths; kinds = asked.kinds; extensions = texts_of asked.extensions.items; sizes = asked.sizes.items; times = asked.times };
   takes = takes;
-  front = front_asked texts asked;
+  front = front;
 }
+
+-- the same over texts that always answer the same
+abbrev pub sought_asked : Texts → Asked → (List ℕ → Bool → Bool) → Sought
+sought_asked texts asked = sought_before (front_asked texts asked) asked

@@ -19,6 +19,8 @@ pub struct WalkOptions {
     pub hidden: bool,
     /// Links are followed.
     pub follow: bool,
+    /// Directories on another file system than the root are not read.
+    pub one_file_system: bool,
     /// Entries keep the metadata that their type came with.
     pub metadata: bool,
     /// The greatest depth, if there is one.
@@ -55,6 +57,7 @@ impl WalkOptions {
             .sort(self.sort)
             .skip_hidden(!self.hidden)
             .follow_links(self.follow)
+            .same_file_system(self.one_file_system)
             .keep_metadata(self.metadata);
         if let Some(greatest) = self.greatest {
             walk = walk.max_depth(greatest);

@@ -1,25 +1,32 @@
 //! A call of the program.
-ghost use Rattle.std.specs.Prelude.{◌≡◌, ◌≤◌, ◌⊎◌, ℕ, Some, true, flat_map, map, string_bytes, IfOk};
+ghost use Rattle.std.specs.Prelude.{◌≡◌, ◌≤◌, ◌⊎◌, ℕ, None, Some, true, flat_map, is_some, map, string_bytes, IfOk};
 ghost use Rattle.std.specs.Arc.{arc_value};
 ghost use Rattle.std.specs.Option.{option_map};
 ghost use Rattle.seek_words.specs.Asks.{texts_of};
 ghost use Rattle.seek_words.specs.AsksFor.{AskForText};
+ghost use Rattle.seek_words.specs.Filter.{sought_of};
+ghost use Rattle.seek_words.specs.Lines.{style_of};
 ghost use Rattle.seek_words.specs.Subject.{front_of};
 ghost use Rattle.seek_found.specs.Call.{AskForSearch, Ends};
-ghost use Rattle.seek_search.specs.Printed.{PrintsAll};
+ghost use Rattle.seek_found.specs.Roots.{AreBelow};
+ghost use Rattle.seek_found.specs.Sought.{takes_by};
+ghost use Rattle.seek_found.specs.SoughtTest.{takes_of};
+ghost use Rattle.seek_search.specs.Goes.{FindsOne, PrintsYielded, YieldedBelow};
+ghost use Rattle.seek_search.specs.Printed.{PrintsAll, PrintsThose};
 ghost use Rattle.seek_search.specs.Run.{PrintsAsked, Searches};
-ghost use Rattle.seek_search.specs.Search.{front_asked, style_asked, yielded_below, yielded_by};
+ghost use Rattle.seek_search.specs.Search.{front_asked, limit_asked, roots_asked, style_asked, yielded_below, yielded_by};
 
 use crate::kept_links::KeptLinks;
-use crate::search::Search;
+use crate::search::{HonouringWalk, PlainWalk, Search};
 use jwalk::Crew;
 use jwalk::file_system::{Fault, FileSystem};
 use jwalk_ignore::texts::Texts;
-use seek_found::call::{read_call, status_of};
+use seek_found::call::{Ended, read_call, status_of};
 use seek_found::printer::Printer;
 use seek_found::report::report_hidden;
 use seek_found::sought::Sought;
 use seek_found::sought_test::SoughtTest;
+use seek_found::times::times_of;
 use seek_words::asked::Asked;
 use seek_words::filter::Filter;
 use seek_words::halt::Halt;
@@ -29,6 +36,7 @@ use seek_words::paths::Style;
 use seek_words::subject::AbsolutePath;
 use seek_words::wanted::Wanted;
 use std::alloc::{AllocError, Global};
+use std::io;
 use std::io::Write;
 use std::sync::{Arc, Wait};
 use std::thread::{Threads, available_parallelism};
@@ -73,7 +81,8 @@ fn path_of<X: Texts>(
     asked: &Asked<'_>,
     texts: &X,
 ) -> Result<Option<AbsolutePath>, AllocError>
-    ensures { X.IsFixed texts.now → IfOk result (λ path. option_map front_of path ≡ front_asked (X.functions texts.now) asked.now) }
+    ensures asked { IfOk result (λ path. is_some path ≡ asked.now.full_path) }
+    ensures front { X.IsFixed texts.now → IfOk result (λ path. option_map front_of path ≡ front_asked (X.functions texts.now) asked.now) }
 {
     if !asked.full_path {
         return Ok(None);
@@ -82,6 +91,19 @@ fn path_of<X: Texts>(
         Ok(here) => Ok(Some(AbsolutePath::below(alloc, here.as_str())?)),
         Err(Fault::Io(_)) => Ok(Some(AbsolutePath::below(alloc, "")?)),
         Err(Fault::Memory) => Err(AllocError),
+    }
+}
+
+/// Returns how many entries may be found, if there is a limit.
+fn limit_of(asked: &Asked<'_>) -> Option<usize>
+    ensures { result ≡ limit_asked asked.now }
+{
+    if asked.quiet {
+        return Some(1);
+    }
+    match asked.max_results {
+        None | Some(0) => None,
+        Some(most) => Some(most),
     }
 }
 
@@ -96,7 +118,7 @@ fn style_of(on_terminal: bool, asked: &Asked<'_>) -> Style
     }
 }
 
-/// Searches below each of these roots. Returns whether there was no error.
+/// Searches below each of these roots, in two halves. Returns whether there was no error.
 fn search_each<
     T: Wait + Threads + Clock + Clone + Drop + Send + Sync + 'static,
     S: FileSystem + Send + Sync + 'static,
@@ -111,16 +133,28 @@ fn search_each<
     out: &mut W,
     err: &mut E,
 ) -> Result<bool, Halt>
-    ensures { IfOk result (λ clean. S.IsFixed (arc_value search.now.disk) → X.IsFixed (arc_value search.now.texts)
+    ensures yielded { IfOk result (PrintsThose (λ may_stop. AreBelow (YieldedBelow ⟦<PlainWalk<T, S> as Iterator>⟧.next_gives
+        ⟦<HonouringWalk<T, S, X> as Iterator>⟧.next_gives (arc_value search.now.disk) (arc_value search.now.texts)
+        search.now.asked.now) may_stop (texts_of roots.now)) printer.old printer.new (W.contents out.old) (W.contents out.new)) }
+    ensures whole { IfOk result (λ clean. S.IsFixed (arc_value search.now.disk) → X.IsFixed (arc_value search.now.texts)
         → PrintsAll
         (flat_map (yielded_below (S.functions (arc_value search.now.disk)) (X.functions (arc_value search.now.texts)) search.now.asked.now)
         (texts_of roots.now)) printer.old printer.new (W.contents out.old) (W.contents out.new) clean) }
+    ensures sought { sought_of takes_of printer.new.filter ≡ sought_of takes_of printer.old.filter }
+    ensures style { style_of printer.new.lines ≡ style_of printer.old.lines }
 {
-    let mut clean = true;
-    for root in roots {
-        clean &= search.below(alloc, root, printer, out, err)?;
+    match roots {
+        [] => Ok(true),
+        [root] => search.below(alloc, root, printer, out, err),
+        _ => {
+            let (first, rest) = roots.split_at(roots.len() / 2);
+            let clean = search_each(alloc, search, first, printer, out, err)?;
+            if printer.is_full() {
+                return Ok(clean);
+            }
+            Ok(clean & search_each(alloc, search, rest, printer, out, err)?)
+        }
     }
-    Ok(clean)
 }
 
 /// Searches below all roots that are asked for. Returns whether there was no error.
@@ -137,7 +171,11 @@ fn search_roots<
     out: &mut W,
     err: &mut E,
 ) -> Result<bool, Halt>
-    ensures { IfOk result (λ clean. S.IsFixed (arc_value search.now.disk) → X.IsFixed (arc_value search.now.texts)
+    ensures yielded { IfOk result (PrintsThose (λ may_stop. AreBelow (YieldedBelow ⟦<PlainWalk<T, S> as Iterator>⟧.next_gives
+        ⟦<HonouringWalk<T, S, X> as Iterator>⟧.next_gives (arc_value search.now.disk) (arc_value search.now.texts)
+        search.now.asked.now) may_stop (roots_asked search.now.asked.now)) printer.old printer.new
+        (W.contents out.old) (W.contents out.new)) }
+    ensures whole { IfOk result (λ clean. S.IsFixed (arc_value search.now.disk) → X.IsFixed (arc_value search.now.texts)
         → PrintsAll
         (yielded_by (S.functions (arc_value search.now.disk)) (X.functions (arc_value search.now.texts)) search.now.asked.now)
         printer.old printer.new (W.contents out.old) (W.contents out.new) clean) }
@@ -149,7 +187,7 @@ fn search_roots<
     search_each(alloc, search, roots, printer, out, err)
 }
 
-/// Searches as is asked for. Returns whether there was no error.
+/// Searches as is asked for, with the names that are looked for.
 fn search_asked<
     T: Wait + Threads + Clock + Clone + Drop + Send + Sync + 'static,
     S: FileSystem + Send + Sync + 'static,
@@ -166,8 +204,14 @@ fn search_asked<
     on_terminal: bool,
     out: &mut W,
     err: &mut E,
-) -> Result<bool, Halt>
-    ensures { IfOk result (λ clean. clean ≡ true → S.IsFixed disk → X.IsFixed texts
+) -> Result<Ended, Halt>
+    ensures yielded { IfOk result (λ ended. PrintsYielded ⟦<PlainWalk<T, KeptLinks<S>> as Iterator>⟧.next_gives
+        ⟦<HonouringWalk<T, KeptLinks<S>, X> as Iterator>⟧.next_gives disk texts on_terminal asked.now (takes_by sought.now)
+        (W.contents out.old) (W.contents out.new) ended.clean) }
+    ensures found { IfOk result (λ ended. asked.now.quiet ≡ true → ended.full ≡ true
+        → FindsOne ⟦<PlainWalk<T, KeptLinks<S>> as Iterator>⟧.next_gives
+        ⟦<HonouringWalk<T, KeptLinks<S>, X> as Iterator>⟧.next_gives disk texts asked.now (takes_by sought.now)) }
+    ensures whole { IfOk result (λ ended. limit_asked asked.now ≡ None → ended.clean ≡ true → S.IsFixed disk → X.IsFixed texts
         → PrintsAsked (S.functions disk) (X.functions texts) on_terminal asked.now sought.now
         (W.contents out.old) (W.contents out.new)) }
 {
@@ -176,6 +220,7 @@ fn search_asked<
         kinds: asked.kinds,
         extensions: asked.extensions.as_slice(),
         sizes: asked.sizes.as_slice(),
+        times: asked.times,
     };
     let filter = Filter {
         wanted,
@@ -183,7 +228,12 @@ fn search_asked<
         path: path_of(alloc, asked, &texts)?,
     };
     let lines = Lines::new(alloc, style_of(on_terminal, asked))?;
-    let mut printer = Printer { filter, lines };
+    let left = limit_of(asked);
+    let mut printer = Printer {
+        filter,
+        lines,
+        left,
+    };
     let search = Search {
         asked,
         disk: shared(
@@ -201,15 +251,20 @@ fn search_asked<
     if clean && !printer.lines.has_printed() && finds_none_shown(asked) {
         report_hidden(asked.pattern, err);
     }
-    Ok(clean)
+    Ok(Ended {
+        clean,
+        full: printer.is_full(),
+    })
 }
 
 /// Searches the disk as the words ask, of which the first is the program's name. Prints the path of each entry that is
 /// looked for, and reports errors on `err`. Returns the status. If the output is a terminal, control characters in paths
 /// are written as question marks.
 ///
-/// The status is 0 if all was searched and there was no error. It is 1 if there was one, if memory ran out, or if the
-/// output can't be written. It is 2 for bad words, and then nothing is printed.
+/// The status is 0 if all was searched, or as much as was asked for, and there was no error. It is 1 if there was one, if
+/// the times that are named aren't known, if memory ran out, or if the output can't be written. It is 2 for bad words, and
+/// then nothing is printed. If the words ask for the status alone, nothing is printed. Then it is 0 as soon as one entry
+/// is found, and 1 if none is.
 pub fn run<
     T: Wait + Threads + Clock + Clone + Drop + Send + Sync + 'static,
     S: FileSystem + Send + Sync + 'static,
@@ -232,13 +287,29 @@ pub fn run<
         → (result ≡ 2) ⊎ (result ≡ 1) }
     ensures untouched { result ≡ 2 → W.contents out.new ≡ W.contents out.old }
     ensures done { result ≡ 0 → AskForText (map string_bytes words.now)
-        ⊎ Searches (S.IsFixed disk × X.IsFixed texts) (S.functions disk) (X.functions texts) on_terminal
+        ⊎ Searches ⟦<PlainWalk<T, KeptLinks<S>> as Iterator>⟧.next_gives
+        ⟦<HonouringWalk<T, KeptLinks<S>, X> as Iterator>⟧.next_gives disk texts
+        (S.IsFixed disk × X.IsFixed texts) (S.functions disk) (X.functions texts) on_terminal
         (map string_bytes words.now) (W.contents out.old) (W.contents out.new) }
 {
-    let (asked, sought) = match read_call(alloc, words, out, err) {
+    let (mut asked, sought) = match read_call(alloc, words, out, err) {
         Ok(read) => read,
         Err(status) => return status,
     };
+    match times_of(rt, &disk, &asked) {
+        Ok(times) => asked.times = times,
+        Err(untimed) => {
+            untimed.report(err);
+            return 1;
+        }
+    }
+    if asked.quiet {
+        let mut sink = io::sink();
+        let ended = search_asked(
+            rt, alloc, disk, texts, &asked, &sought, false, &mut sink, err,
+        );
+        return status_of(true, ended, err);
+    }
     let ended = search_asked(
         rt,
         alloc,
@@ -250,5 +321,5 @@ pub fn run<
         out,
         err,
     );
-    status_of(ended, err)
+    status_of(false, ended, err)
 }

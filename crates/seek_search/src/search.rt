@@ -1,21 +1,24 @@
 //! A search below roots.
-ghost use Rattle.std.specs.Prelude.{◌≡◌, IfOk};
+ghost use Rattle.std.specs.Prelude.{◌≡◌, false, IfOk};
 ghost use Rattle.std.specs.Arc.{arc_value};
 ghost use Rattle.seek_words.specs.Filter.{sought_of};
 ghost use Rattle.seek_words.specs.Lines.{style_of};
-ghost use Rattle.jwalk.specs.WalkDir.{callback_of, file_system_of, options_of, root_of, state_of};
+ghost use Rattle.jwalk.specs.jwalk_model.Options.{with_skip_hidden};
+ghost use Rattle.jwalk.specs.WalkDir.{callback_of, described, file_system_of, options_of, root_of, state_of, with_callback, Sets};
 ghost use Rattle.jwalk_ignore.specs.Callback.Given.{no_rules_yet, rules_alone};
 ghost use Rattle.jwalk_ignore.specs.Callback.IgnoreViews.{next_of, settings_of, texts_of};
 ghost use Rattle.jwalk_ignore.specs.Callback.Excluding.{excluded_of};
 ghost use Rattle.jwalk_ignore.specs.Callback.Kept.{ignoring_walk};
-ghost use Rattle.seek_search.specs.Printed.{PrintsAll, PrintsWalk};
+ghost use Rattle.seek_search.specs.Goes.{IsHonouring, IsPlain, Yielded, YieldedBelow};
+ghost use Rattle.seek_search.specs.Printed.{PrintsAll, PrintsThose, PrintsWalk};
 ghost use Rattle.seek_search.specs.Search.{all_below, excluded_asked, kept_below, walk_options, yielded_below};
 ghost use Rattle.seek_found.specs.SoughtTest.{takes_of};
 
 use crate::options::WalkOptions;
+use jwalk::crew::Session;
 use jwalk::file_system::FileSystem;
 use jwalk::read_dir::{NoProcess, ProcessReadDir};
-use jwalk::{ClientState, Crew, WalkDirGeneric};
+use jwalk::{ClientState, Crew, DirEntryIter, WalkDirGeneric};
 use jwalk_ignore::builder::with_hidden_shown;
 use jwalk_ignore::excluding::Excluding;
 use jwalk_ignore::ignore_files::IgnoreFiles;
@@ -31,6 +34,15 @@ use std::io::Write;
 use std::sync::{Arc, Wait};
 use std::thread::Threads;
 use std::time::Clock;
+
+/// A walk under way that a crew may read for.
+pub(crate) type CrewWalk<T, C, S, P> = DirEntryIter<C, S, P, Global, Session<T, C, S, P, Global>>;
+
+/// One without ignore files.
+pub(crate) type PlainWalk<T, S> = CrewWalk<T, ((), ()), Arc<S>, Excluding>;
+
+/// One that honours them.
+pub(crate) type HonouringWalk<T, S, X> = CrewWalk<T, KeptStates, Arc<S>, KeptRules<X>>;
 
 /// A walk that isn't begun, with the states of ignore files.
 type Plain<T, S> = WalkDirGeneric<KeptStates, Arc<S>, NoProcess, Global, Crew<T>>;
@@ -55,6 +67,8 @@ where
     requires { P.IsLawful (callback_of walk) }
     ensures whole { IfOk result (PrintsWalk S.FileSystem P.ProcessReadDir C.ReadDirState.Clone C.DirEntryState.Default walk
         printer.old printer.new (W.contents out.old) (W.contents out.new)) }
+    ensures yielded { IfOk result (PrintsThose (Yielded ⟦<CrewWalk<T, C, S, P> as Iterator>⟧.next_gives (λ it. it ≡ walk))
+        printer.old printer.new (W.contents out.old) (W.contents out.new)) }
     ensures sought { sought_of takes_of printer.new.filter ≡ sought_of takes_of printer.old.filter }
     ensures style { style_of printer.new.lines ≡ style_of printer.old.lines }
 {
@@ -71,21 +85,23 @@ fn search_walk<
     E: Write,
 >(
     walk: Plain<T, S>,
-    rules: IgnoreFiles<Arc<X>, Excluding>,
+    rules: KeptRules<X>,
     printer: &mut Printer<'_, SoughtTest<'_>>,
     out: &mut W,
     err: &mut E,
 ) -> Result<bool, Halt>
-    ensures whole { IfOk result (λ clean. S.IsFixed (arc_value (file_system_of walk)) → X.IsFixed (arc_value (texts_of rules))
+    ensures whole { IfOk result (λ clean. S.IsFixed (arc_value (file_system_of walk)) → X.IsFixed (arc_value (texts_of rules.rules))
         → rules_alone (state_of walk) ≡ no_rules_yet → PrintsAll
-        (ignoring_walk (S.functions (arc_value (file_system_of walk))) (X.functions (arc_value (texts_of rules)))
-        (settings_of rules) (excluded_of (next_of rules)) (options_of walk) (root_of walk))
+        (ignoring_walk (S.functions (arc_value (file_system_of walk))) (X.functions (arc_value (texts_of rules.rules)))
+        (settings_of rules.rules) (excluded_of (next_of rules.rules)) (options_of walk) (root_of walk))
         printer.old printer.new (W.contents out.old) (W.contents out.new) clean) }
+    ensures yielded { IfOk result (PrintsThose (Yielded ⟦<HonouringWalk<T, S, X> as Iterator>⟧.next_gives
+        (Sets (record (with_callback rules (described walk)) { options = with_skip_hidden false (options_of walk) })))
+        printer.old printer.new (W.contents out.old) (W.contents out.new)) }
     ensures sought { sought_of takes_of printer.new.filter ≡ sought_of takes_of printer.old.filter }
     ensures style { style_of printer.new.lines ≡ style_of printer.old.lines }
 {
-    let walk = with_hidden_shown(walk, KeptRules { rules });
-    print_begun(walk, printer, out, err)
+    print_begun(with_hidden_shown(walk, rules), printer, out, err)
 }
 
 /// What is asked for, and what it is looked for in.
@@ -112,7 +128,8 @@ impl<
             sort: self.asked.sort,
             hidden: self.asked.hidden,
             follow: self.asked.follow,
-            metadata: !self.asked.sizes.is_empty(),
+            one_file_system: self.asked.one_file_system,
+            metadata: self.asked.needs_metadata(),
             greatest: self.asked.depths.greatest,
         }
     }
@@ -130,6 +147,9 @@ impl<
             (all_below (S.functions (arc_value self.now.disk)) self.now.asked.now
             (excluded_asked self.now.asked.now root.now) root.now)
             printer.old printer.new (W.contents out.old) (W.contents out.new) clean) }
+        ensures yielded { IfOk result (PrintsThose (Yielded ⟦<PlainWalk<T, S> as Iterator>⟧.next_gives
+            (IsPlain (arc_value self.now.disk) self.now.asked.now root.now))
+            printer.old printer.new (W.contents out.old) (W.contents out.new)) }
         ensures sought { sought_of takes_of printer.new.filter ≡ sought_of takes_of printer.old.filter }
         ensures style { style_of printer.new.lines ≡ style_of printer.old.lines }
     {
@@ -156,6 +176,9 @@ impl<
             (kept_below (S.functions (arc_value self.now.disk)) (X.functions (arc_value self.now.texts)) self.now.asked.now
             (excluded_asked self.now.asked.now root.now) root.now)
             printer.old printer.new (W.contents out.old) (W.contents out.new) clean) }
+        ensures yielded { IfOk result (PrintsThose (Yielded ⟦<HonouringWalk<T, S, X> as Iterator>⟧.next_gives
+            (IsHonouring (arc_value self.now.disk) (arc_value self.now.texts) self.now.asked.now root.now))
+            printer.old printer.new (W.contents out.old) (W.contents out.new)) }
         ensures sought { sought_of takes_of printer.new.filter ≡ sought_of takes_of printer.old.filter }
         ensures style { style_of printer.new.lines ≡ style_of printer.old.lines }
     {
@@ -168,7 +191,7 @@ impl<
         let walk = self
             .options()
             .walk_of::<KeptStates, _, _, _>(disk, root, &self.crew)?;
-        search_walk(walk, rules, printer, out, err)
+        search_walk(walk, KeptRules { rules }, printer, out, err)
     }
 
     /// Searches below a root, prints what is found and reports errors. Returns whether there was none.
@@ -184,6 +207,9 @@ impl<
             → PrintsAll
             (yielded_below (S.functions (arc_value self.now.disk)) (X.functions (arc_value self.now.texts)) self.now.asked.now root.now)
             printer.old printer.new (W.contents out.old) (W.contents out.new) clean) }
+        ensures yielded { IfOk result (PrintsThose (λ may_stop. YieldedBelow ⟦<PlainWalk<T, S> as Iterator>⟧.next_gives
+            ⟦<HonouringWalk<T, S, X> as Iterator>⟧.next_gives (arc_value self.now.disk) (arc_value self.now.texts)
+            self.now.asked.now may_stop root.now) printer.old printer.new (W.contents out.old) (W.contents out.new)) }
         ensures sought { sought_of takes_of printer.new.filter ≡ sought_of takes_of printer.old.filter }
         ensures style { style_of printer.new.lines ≡ style_of printer.old.lines }
     {

@@ -1,14 +1,21 @@
 -- Arguments of a command, added one after another.
-use Rattle.std.proofs.Common.{◌≡◌, ◌∙◌, true, false, List, [], ◌∷◌, map, Option, None, Some, ap, ap₂, refl, sym}
+use Rattle.std.proofs.Common.{◌≡◌, ◌∙◌, Bor, Bool, true, false, List, [], ◌∷◌, map, Option, None, Some, ap, ap₂, refl, sym}
 use Rattle.std.specs.Prelude.{All, is_some, option_map}
+use Rattle.std.proofs.lemmas.List.{map-append}
 use Rattle.std.proofs.lemmas.List.Elements.{All-head, All-tail}
 use Rattle.clap.specs.Faults.{is_simple_and_free}
 use Rattle.clap.specs.Simple.{with_rule}
-use Rattle.clap.specs.Words.{AddsArg, AddsInTurn, App, Rule, app_of, is_simple, rule_of}
+use Rattle.clap.specs.Words.{AddsAliases, AddsArg, AddsInTurn, App, Rule, Text, app_of, is_simple, rule_of}
 use Rattle.clap.specs.declared.builder.arg.Arg.{Arg}
 use Rattle.clap.specs.declared.builder.command.Command.{Command}
 use Rattle.clap.proofs.OnLiterals.{clap_on_literals}
-use Rattle.seek_words.specs.Command.{HaveRules, IsSeek, with_rules}
+use Rattle.seek_words.specs.Command.{HaveRules, IsSeek, with_name, with_rules}
+
+-- one more name of an argument
+pub one_named : (old new : Arg) (name : Bor Text) (visible : Bool) → AddsAliases old new ((name, visible) ∷ []) → rule_of new ≡ with_name name.now (rule_of old)
+one_named old new name visible adds =
+    ap rule_of adds.0
+    ∙ ap (λ (names : List Text). record (rule_of old) { aliases = names }) (ap (map (λ alias. alias.0.now)) adds.1 ∙ map-append (λ alias. alias.0.now) old.aliases.items ((name, visible) ∷ []))
 
 -- one argument more
 pub one_added : {old new : Command} {arg : Arg} {app : App} {rule : Rule} → AddsArg old arg new → arg.global ≡ false → rule_of arg ≡ rule → app_of old ≡ app → app_of new ≡ with_rule app rule

@@ -1,16 +1,16 @@
 -- The statuses of words that ask for no search.
-use Rattle.std.proofs.Common.{◌≡◌, codes, ◌≤◌, ◌⊎◌, ℕ, List, inl, inr, refl, subst, sym, ap, ◌∙◌, arith}
+use Rattle.std.proofs.Common.{◌≡◌, Bor, ◌≤◌, ◌⊎◌, ℕ, List, inl, inr, refl, subst, sym, ap, ◌∙◌, arith}
 use Rattle.std.specs.Prelude.{Result, Ok, Err, IfErr}
 use Rattle.std.specs.Result.{IsErrAnd}
 use Rattle.clap.specs.Words.{App, IsAmong, HasKind, Kinds, Row, Text, fault_of, kind_of}
+use Rattle.clap.specs.declared.error.Error.{Error}
 use Rattle.clap.specs.declared.error.kind.ErrorKind.{ErrorKind}
 use Rattle.clap.specs.declared.error.kind.ErrorKind.TheVariants.{InvalidValue, UnknownArgument, InvalidSubcommand, NoEquals, ValueValidation, TooManyValues, TooFewValues, WrongNumberOfValues, ArgumentConflict, MissingRequiredArgument, MissingSubcommand, DisplayHelp, DisplayHelpOnMissingArgumentOrSubcommand, DisplayVersion, Io, Format, OutOfMemory}
-use Rattle.seek_words.specs.Asks.{values_in}
 use Rattle.seek_words.specs.AsksFor.{AskForText, GiveValues}
-use Rattle.seek_words.specs.Refusal.{IsRefusedFor, IsRefusedSize, status_of}
+use Rattle.seek_words.specs.Refusal.{IsRefusedFor, IsRefusedValue, status_of}
 use Rattle.seek_words.specs.Status.{status_of_kind}
 use Rattle.seek_words.specs.declared.refusal.Refusal.{Refusal}
-use Rattle.seek_words.specs.declared.refusal.Refusal.TheVariants.{Words, Conflict, NoSize, Slash, Memory}
+use Rattle.seek_words.specs.declared.refusal.Refusal.TheVariants.{Words, Conflict, NoSize, NoTime, Slash, Memory}
 
 -- only help and version end with 0
 zero_kind : (k : ErrorKind) → status_of_kind k ≡ 0 → (k ≡ DisplayHelp) ⊎ (k ≡ DisplayVersion)
@@ -45,6 +45,7 @@ pub asked_for_text : (words : List Text) (refusal : Refusal) → IsRefusedFor wo
 asked_for_text words (Words error) refused zero = (refused.0, refused.1, among_kinds (kind_of error) (fault_of refused.0 words) zero refused.2)
 asked_for_text words (Conflict one other) refused zero = absurd (cc)
 asked_for_text words (NoSize text) refused zero = absurd (cc)
+asked_for_text words (NoTime text) refused zero = absurd (cc)
 asked_for_text words (Slash pattern) refused zero = absurd (cc)
 asked_for_text words Memory refused zero = absurd (cc)
 
@@ -71,17 +72,33 @@ pub refusal_most : (refusal : Refusal) → status_of refusal ≤ 2
 refusal_most (Words error) = kind_most (kind_of error)
 refusal_most (Conflict one other) = omega arith
 refusal_most (NoSize text) = omega arith
+refusal_most (NoTime text) = omega arith
 refusal_most (Slash pattern) = omega arith
 refusal_most Memory = omega arith
 
--- sizes that are refused are why words are
-pub size_refused : (words : List Text) (rows : List Row) → GiveValues words rows → (refusal : Refusal) → IsRefusedSize (values_in rows (codes "size")) refusal → IsRefusedFor words refusal
-size_refused words rows read (Words error) why = absurd why
-size_refused words rows read (Conflict one other) why = absurd why
-size_refused words rows read (NoSize text) why =
-    (read.app, read.is_seek, subst (λ (it : List Row). IsRefusedSize (values_in it (codes "size")) (NoSize text)) read.values why)
-size_refused words rows read (Slash pattern) why = absurd why
-size_refused words rows read Memory why = tt
+-- values that are refused are why words are
+no_words : (rows : List Row) (error : Error) → IsRefusedValue rows (Words error) → ⊥
+no_words rows error (inl why) = why
+no_words rows error (inr (inl why)) = why
+no_words rows error (inr (inr why)) = why
+
+no_conflict : (rows : List Row) (one other : Bor Text) → IsRefusedValue rows (Conflict one other) → ⊥
+no_conflict rows one other (inl why) = why
+no_conflict rows one other (inr (inl why)) = why
+no_conflict rows one other (inr (inr why)) = why
+
+no_slash : (rows : List Row) (pattern : Bor Text) → IsRefusedValue rows (Slash pattern) → ⊥
+no_slash rows pattern (inl why) = why
+no_slash rows pattern (inr (inl why)) = why
+no_slash rows pattern (inr (inr why)) = why
+
+pub value_refused : (words : List Text) (rows : List Row) → GiveValues words rows → (refusal : Refusal) → IsRefusedValue rows refusal → IsRefusedFor words refusal
+value_refused words rows read (Words error) why = absurd (no_words rows error why)
+value_refused words rows read (Conflict one other) why = absurd (no_conflict rows one other why)
+value_refused words rows read (NoSize text) why = (read.app, read.is_seek, subst (λ (it : List Row). IsRefusedValue it (NoSize text)) read.values why)
+value_refused words rows read (NoTime text) why = (read.app, read.is_seek, subst (λ (it : List Row). IsRefusedValue it (NoTime text)) read.values why)
+value_refused words rows read (Slash pattern) why = absurd (no_slash rows pattern why)
+value_refused words rows read Memory why = tt
 
 -- why words are refused is why the refusal is returned
 pub returned_for : {X : Type 0} (words : List Text) (result : Result X Refusal) (refusal : Refusal) → IsErrAnd result (λ it. it ≡ refusal) → IsRefusedFor words refusal → IfErr result (IsRefusedFor words)

@@ -6,3 +6,4 @@ pub mod ExtensionFacts
 pub mod PathFacts
 pub mod MaskedFacts
 pub mod SizeFacts
+pub mod TimeFacts

@@ -11,10 +11,14 @@ has_value rows id = is_some (first_of id rows)
 abbrev pub has_both_cases : List Row → Bool
 has_both_cases rows = is_named rows (codes "ignore-case") && is_named rows (codes "case-sensitive")
 
+-- whether the pattern is to be a glob and a text
+abbrev pub has_both_readings : List Row → Bool
+has_both_readings rows = is_named rows (codes "glob") && is_named rows (codes "fixed-strings")
+
 -- whether there is an exact depth beside another
 abbrev pub has_both_depths : List Row → Bool
 has_both_depths rows = has_value rows (codes "exact-depth") && (has_value rows (codes "min-depth") || has_value rows (codes "max-depth"))
 
 -- whether two options exclude each other
 abbrev pub has_conflict : List Row → Bool
-has_conflict rows = has_both_cases rows || has_both_depths rows
+has_conflict rows = has_both_cases rows || (has_both_readings rows || has_both_depths rows)

@@ -10,4 +10,4 @@ begins_escaped_dot text = bytes_eq (take 3 text) (94 ∷ 92 ∷ 46 ∷ [])
 -- whether a pattern for names can find hidden ones alone, by how it begins, and they don't come
 abbrev pub finds_none_shown : Asked → Bool
 finds_none_shown asked =
-    not asked.hidden && (not asked.full_path && (if asked.glob then is_hidden asked.pattern.now else begins_escaped_dot asked.pattern.now))
+    not asked.hidden && (not asked.full_path && (not asked.fixed && (if asked.glob then is_hidden asked.pattern.now else begins_escaped_dot asked.pattern.now)))

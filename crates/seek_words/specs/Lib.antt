@@ -15,6 +15,10 @@ pub mod Absolute
 pub mod Subject
 pub mod Lines
 pub mod Size
+pub mod Time
+pub mod Seen
+pub mod Times
+pub mod Metadata
 pub mod Wanted
 pub mod Sought
 pub mod Filter

@@ -1,14 +1,15 @@
 -- Why words are refused.
-use Rattle.std.specs.Prelude.{◌≡◌, ℕ, true, false, codes, List, None}
+use Rattle.std.specs.Prelude.{◌≡◌, ◌⊎◌, ℕ, true, false, codes, List, Option, None, Some}
 use Rattle.std.specs.List.{list_any, Contains}
-use Rattle.clap.specs.Words.{App, HasKind, Text, fault_of, kind_of, matches_of}
+use Rattle.clap.specs.Words.{App, HasKind, Row, Text, fault_of, first_of, kind_of, matches_of}
 use Rattle.seek_words.specs.Asks.{Asks, is_slash, values_in}
 use Rattle.seek_words.specs.Command.{IsSeek}
 use Rattle.seek_words.specs.Conflict.{has_conflict}
 use Rattle.seek_words.specs.Size.{size_in}
+use Rattle.seek_words.specs.Time.{time_in}
 use Rattle.seek_words.specs.declared.asked.Asked.{Asked}
 use Rattle.seek_words.specs.declared.refusal.Refusal.{Refusal}
-use Rattle.seek_words.specs.declared.refusal.Refusal.TheVariants.{Words, Conflict, NoSize, Slash, Memory}
+use Rattle.seek_words.specs.declared.refusal.Refusal.TheVariants.{Words, Conflict, NoSize, NoTime, Slash, Memory}
 use Rattle.seek_words.specs.Status.{status_of_kind}
 
 -- the status that the program ends with
@@ -16,6 +17,7 @@ abbrev pub status_of : Refusal → ℕ
 status_of (Words error) = status_of_kind (kind_of error)
 status_of (Conflict one other) = 2
 status_of (NoSize text) = 2
+status_of (NoTime text) = 2
 status_of (Slash pattern) = 2
 status_of Memory = 1
 
@@ -30,11 +32,23 @@ IsRefusedSize texts (NoSize text) = Contains texts text.now × (size_in text.now
 IsRefusedSize texts Memory = Unit {0}
 IsRefusedSize texts _ = ⊥
 
--- Why words are refused: they aren't those of the command line, or ask for a text; options exclude each other; a size is none; the pattern has a slash and is compared with names; or memory ran out.
+-- Why a time is refused: the text that is named stands for none.
+abbrev pub IsRefusedTime : Option Text → Refusal → Type 0
+IsRefusedTime named (NoTime text) = (named ≡ Some text.now) × (time_in text.now ≡ None)
+IsRefusedTime named _ = ⊥
+
+-- Why a value is refused: that of a size, or of a time.
+abbrev pub IsRefusedValue : List Row → Refusal → Type 0
+IsRefusedValue rows refusal =
+    IsRefusedSize (values_in rows (codes "size")) refusal
+    ⊎ (IsRefusedTime (first_of (codes "changed-within") rows) refusal ⊎ IsRefusedTime (first_of (codes "changed-before") rows) refusal)
+
+-- Why words are refused: they aren't those of the command line, or ask for a text; options exclude each other; a size or a time is none; the pattern has a slash and is compared with names; or memory ran out.
 abbrev pub IsRefusedFor : List Text → Refusal → Type 0
 IsRefusedFor words (Words error) = (app : App) × IsSeek app × HasKind (fault_of app words) error
 IsRefusedFor words (Conflict one other) = (app : App) × IsSeek app × (has_conflict (matches_of app words) ≡ true)
-IsRefusedFor words (NoSize text) = (app : App) × IsSeek app × IsRefusedSize (values_in (matches_of app words) (codes "size")) (NoSize text)
+IsRefusedFor words (NoSize text) = (app : App) × IsSeek app × IsRefusedValue (matches_of app words) (NoSize text)
+IsRefusedFor words (NoTime text) = (app : App) × IsSeek app × IsRefusedValue (matches_of app words) (NoTime text)
 IsRefusedFor words (Slash pattern) = (app : App) × IsSeek app × (asked : Asked) × Asks (matches_of app words) asked × NamesSlash asked
 IsRefusedFor words Memory = Unit {0}
 

@@ -63,6 +63,10 @@ abbrev pub bytes_in : List ℕ → Option ℕ
 bytes_in text =
     if digit_count text == 0 then None else in_bytes (in_64_bits (number_of (take (digit_count text) text))) (bytes_of (drop (digit_count text) text))
 
+-- the number that a text writes in digits alone
+abbrev pub digits_number : List ℕ → Option ℕ
+digits_number text = if (length text == 0) || nat_lt (digit_count text) (length text) then None else in_64_bits (number_of text)
+
 -- the sizes that a text stands for: from a number of bytes on behind a `+`, up to it behind a `-`, and else this one
 abbrev pub size_in : List ℕ → Option Size
 size_in [] = None

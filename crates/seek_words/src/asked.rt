@@ -1,8 +1,12 @@
 //! What a call asks for.
+ghost use Rattle.std.specs.Prelude.{◌≡◌};
+
 use crate::case::Case;
 use crate::depths::Depths;
 use crate::kinds::Kinds;
 use crate::size::Size;
+use crate::time::Time;
+use crate::times::Times;
 use std::alloc::Global;
 
 /// What a call asks for.
@@ -14,6 +18,10 @@ pub struct Asked<'w> {
     pub roots: Vec<&'w str, Global>,
     /// The pattern is a glob, which takes the whole name.
     pub glob: bool,
+    /// The pattern is a text, which a name has in it.
+    pub fixed: bool,
+    /// More patterns, which count too.
+    pub others: Vec<&'w str, Global>,
     /// The pattern is compared with the absolute path.
     pub full_path: bool,
     /// Whether the case of letters counts.
@@ -24,6 +32,8 @@ pub struct Asked<'w> {
     pub no_ignore: bool,
     /// Links are followed.
     pub follow: bool,
+    /// Directories on another file system than the root aren't read.
+    pub one_file_system: bool,
     /// The entries of a directory are in the order of their names.
     pub sort: bool,
     /// The depths of what is looked for.
@@ -34,10 +44,40 @@ pub struct Asked<'w> {
     pub extensions: Vec<&'w str, Global>,
     /// The sizes of what is looked for, which are of files; any entry, if there are none.
     pub sizes: Vec<Size, Global>,
+    /// Entries were modified later than this, if it is named.
+    pub changed_within: Option<Time>,
+    /// Entries were modified before this, if it is named.
+    pub changed_before: Option<Time>,
+    /// Entries were modified later than this file, if it is named.
+    pub newer_than: Option<&'w str>,
+    /// When entries were modified, by the clock and the disk. The words alone say nothing of it.
+    pub times: Times,
     /// Lines of an ignore file, for what is left out.
     pub excludes: Vec<&'w str, Global>,
+    /// How many paths are printed at most, if that was named.
+    pub max_results: Option<usize>,
+    /// No path is printed, and the status says whether there is one.
+    pub quiet: bool,
     /// A zero byte is behind each path, in place of a line feed.
     pub print0: bool,
     /// How many threads read directories, if that was named.
     pub threads: Option<usize>,
+}
+
+impl<'w> Asked<'w> {
+    ghost use Rattle.seek_words.specs.Metadata.{names_time, needs_metadata};
+
+    /// Returns whether a time is named.
+    fn names_time(&self) -> bool
+        ensures { result ≡ names_time self.now }
+    {
+        self.changed_within.is_some() || self.changed_before.is_some() || self.newer_than.is_some()
+    }
+
+    /// Returns whether metadata of entries is asked for.
+    pub fn needs_metadata(&self) -> bool
+        ensures { result ≡ needs_metadata self.now }
+    {
+        !self.sizes.is_empty() || self.names_time() || self.kinds.names_mode()
+    }
 }

@@ -1,13 +1,13 @@
 //! The command line.
 ghost use Rattle.std.specs.Prelude.{◌≡◌, ◌∷◌, [], false, map, IfOk};
 ghost use Rattle.clap.specs.Words.{app_of, rule_of};
-ghost use Rattle.seek_words.specs.Command.{flag_rule, valued_rule, listed_rule, depth_rule, sort_rule, threads_rule, kind_rule, kind_names, pattern_rule, root_rule, named_app, with_rules, pattern_rules, walk_rules, HaveRules, AreFilters, IsSeek};
+ghost use Rattle.seek_words.specs.Command.{flag_rule, long_flag_rule, valued_rule, listed_rule, number_rule, threads_rule, kind_rule, kind_names, and_rule, within_rule, max_depth_rule, one_rule, file_system_rule, with_name, pattern_rule, root_rule, named_app, with_rules, pattern_rules, case_rules, walk_rules, reach_rules, time_rules, print_rules, HasRule, HaveRules, AreFilters, IsSeek};
 
 use clap::{Arg, ArgAction, Command};
 use std::alloc::{AllocError, Global};
 
 /// The names of types.
-static KINDS: [&str; 9] = [
+static KINDS: [&str; 19] = [
     "f",
     "file",
     "d",
@@ -15,6 +15,16 @@ static KINDS: [&str; 9] = [
     "directory",
     "l",
     "symlink",
+    "x",
+    "executable",
+    "p",
+    "pipe",
+    "s",
+    "socket",
+    "b",
+    "block-device",
+    "c",
+    "char-device",
     "o",
     "other",
 ];
@@ -29,6 +39,25 @@ fn flag<'a>(alloc: Global, id: &'a str, short: char, help: &'a str) -> Arg<'a>
         .long(id)
         .action(ArgAction::Count)
         .help(help)
+}
+
+/// Returns an option of one long word, which may be repeated.
+fn long_flag<'a>(alloc: Global, id: &'a str, help: &'a str) -> Arg<'a>
+    ensures rule { rule_of result ≡ long_flag_rule id.entry.now }
+    ensures local { result.global ≡ false }
+{
+    Arg::new(alloc, id)
+        .long(id)
+        .action(ArgAction::Count)
+        .help(help)
+}
+
+/// Returns the same option, which has one more long name.
+fn also_named<'a>(arg: Arg<'a>, name: &'a str) -> Result<Arg<'a>, AllocError>
+    ensures rule { IfOk result (λ it. rule_of it ≡ with_name name.entry.now (rule_of arg.entry)) }
+    ensures local { IfOk result (λ it. it.global ≡ arg.entry.global) }
+{
+    arg.visible_alias(name)
 }
 
 /// Returns an option with a value.
@@ -53,15 +82,29 @@ fn listed<'a>(alloc: Global, id: &'a str, short: char, value: &'a str, help: &'a
         .action(ArgAction::Append)
 }
 
-/// Returns an option with a depth.
-fn depth<'a>(alloc: Global, id: &'a str, help: &'a str) -> Arg<'a>
-    ensures rule { rule_of result ≡ depth_rule id.entry.now }
+/// Returns an option with a number.
+fn number<'a>(alloc: Global, id: &'a str, help: &'a str) -> Arg<'a>
+    ensures rule { rule_of result ≡ number_rule id.entry.now }
     ensures local { result.global ≡ false }
 {
     valued(alloc, id, "N", help).value_parser(clap::value_parser!(usize))
 }
 
-/// Returns the options that say how a name is compared.
+/// Returns the option with more patterns.
+fn and_option<'a>(alloc: Global) -> Arg<'a>
+    ensures rule { rule_of result ≡ and_rule }
+    ensures local { result.global ≡ false }
+{
+    valued(
+        alloc,
+        "and",
+        "PATTERN",
+        "One more pattern, which counts too",
+    )
+    .action(ArgAction::Append)
+}
+
+/// Returns the options that say how a pattern is read.
 fn pattern_options<'a>(alloc: Global) -> Result<Vec<Arg<'a>>, AllocError>
     ensures { IfOk result (λ options. HaveRules options.items pattern_rules) }
 {
@@ -74,10 +117,25 @@ fn pattern_options<'a>(alloc: Global) -> Result<Vec<Arg<'a>>, AllocError>
         ),
         flag(
             alloc,
+            "fixed-strings",
+            'F',
+            "The pattern is a text, which a name has in it",
+        ),
+        and_option(alloc),
+        flag(
+            alloc,
             "full-path",
             'p',
             "The pattern is compared with the absolute path",
         ),
+    ]?)
+}
+
+/// Returns the options that say whether the case of letters counts.
+fn case_options<'a>(alloc: Global) -> Result<Vec<Arg<'a>>, AllocError>
+    ensures { IfOk result (λ options. HaveRules options.items case_rules) }
+{
+    Ok(vec![in alloc;
         flag(
             alloc,
             "ignore-case",
@@ -91,17 +149,6 @@ fn pattern_options<'a>(alloc: Global) -> Result<Vec<Arg<'a>>, AllocError>
             "The case of letters counts [default: if the pattern has an upper-case letter]",
         ),
     ]?)
-}
-
-/// Returns the option that sorts.
-fn sort_option<'a>(alloc: Global) -> Arg<'a>
-    ensures rule { rule_of result ≡ sort_rule }
-    ensures local { result.global ≡ false }
-{
-    Arg::new(alloc, "sort")
-        .long("sort")
-        .action(ArgAction::Count)
-        .help("The entries of a directory by their names")
 }
 
 /// Returns the option with the number of threads.
@@ -135,7 +182,28 @@ fn walk_options<'a>(alloc: Global) -> Result<Vec<Arg<'a>>, AllocError>
             "Leave out what this line of an ignore file names",
         ),
         flag(alloc, "follow", 'L', "Follow links"),
-        sort_option(alloc),
+    ]?)
+}
+
+/// Returns the option that stays on the file system of the root.
+fn file_system_option<'a>(alloc: Global) -> Result<Arg<'a>, AllocError>
+    ensures { IfOk result (HasRule file_system_rule) }
+{
+    let stays = long_flag(
+        alloc,
+        "one-file-system",
+        "Read no directory on another file system than the root",
+    );
+    also_named(also_named(stays, "mount")?, "xdev")
+}
+
+/// Returns the options that say how far a walk goes, and how it goes.
+fn reach_options<'a>(alloc: Global) -> Result<Vec<Arg<'a>>, AllocError>
+    ensures { IfOk result (λ options. HaveRules options.items reach_rules) }
+{
+    Ok(vec![in alloc;
+        file_system_option(alloc)?,
+        long_flag(alloc, "sort", "The entries of a directory by their names",),
         threads_option(alloc),
     ]?)
 }
@@ -150,10 +218,18 @@ fn kind_option<'a>(alloc: Global) -> Arg<'a>
         "type",
         't',
         "TYPE",
-        "The type: file, dir, link or other",
+        "The type: file, dir, symlink, executable, pipe, socket, block-device, char-device or other",
     )
     .value_parser(KINDS.as_slice())
     .hide_possible_values(true)
+}
+
+/// Returns the option with the greatest depth.
+fn max_depth_option<'a>(alloc: Global) -> Result<Arg<'a>, AllocError>
+    ensures { IfOk result (HasRule max_depth_rule) }
+{
+    let depth = number(alloc, "max-depth", "The greatest depth").short('d');
+    also_named(depth, "maxdepth")
 }
 
 /// Returns the options that say which of them are looked for.
@@ -161,9 +237,9 @@ fn filter_options<'a>(alloc: Global) -> Result<Vec<Arg<'a>>, AllocError>
     ensures { IfOk result (λ options. AreFilters options.items) }
 {
     Ok(vec![in alloc;
-        depth(alloc, "min-depth", "The least depth"),
-        depth(alloc, "max-depth", "The greatest depth").short('d'),
-        depth(alloc, "exact-depth", "The depth, where a root has depth 0"),
+        number(alloc, "min-depth", "The least depth"),
+        max_depth_option(alloc)?,
+        number(alloc, "exact-depth", "The depth, where a root has depth 0",),
         kind_option(alloc),
         listed(alloc, "extension", 'e', "EXT", "The name's extension"),
         listed(
@@ -172,6 +248,62 @@ fn filter_options<'a>(alloc: Global) -> Result<Vec<Arg<'a>>, AllocError>
             'S',
             "SIZE",
             "The size of a file: +N and a unit for at least, -N for at most, N for exactly that",
+        ),
+    ]?)
+}
+
+/// Returns the option with the time that entries were modified after.
+fn within_option<'a>(alloc: Global) -> Result<Arg<'a>, AllocError>
+    ensures { IfOk result (HasRule within_rule) }
+{
+    let within = valued(
+        alloc,
+        "changed-within",
+        "TIME",
+        "Modified later than this: how long ago, as 2h, or a date",
+    );
+    also_named(within, "newer")
+}
+
+/// Returns the options with times.
+fn time_options<'a>(alloc: Global) -> Result<Vec<Arg<'a>>, AllocError>
+    ensures { IfOk result (λ options. HaveRules options.items time_rules) }
+{
+    Ok(vec![in alloc;
+        within_option(alloc)?,
+        valued(alloc, "changed-before", "TIME", "Modified before this",),
+        valued(
+            alloc,
+            "newer-than-file",
+            "FILE",
+            "Modified later than this file",
+        ),
+    ]?)
+}
+
+/// Returns the option for one result.
+fn one_option<'a>(alloc: Global) -> Arg<'a>
+    ensures rule { rule_of result ≡ one_rule }
+    ensures local { result.global ≡ false }
+{
+    Arg::new(alloc, "one-result")
+        .short('1')
+        .action(ArgAction::Count)
+        .help("The same as --max-results 1")
+}
+
+/// Returns the options that say what is printed of what is found.
+fn print_options<'a>(alloc: Global) -> Result<Vec<Arg<'a>>, AllocError>
+    ensures { IfOk result (λ options. HaveRules options.items print_rules) }
+{
+    Ok(vec![in alloc;
+        number(alloc, "max-results", "Print at most N paths"),
+        one_option(alloc),
+        flag(
+            alloc,
+            "quiet",
+            'q',
+            "Print nothing: the status says whether there is a result",
         ),
         flag(
             alloc,
@@ -212,8 +344,19 @@ fn named<'a>(alloc: Global) -> Result<Command<'a>, AllocError>
 pub(crate) fn command<'a>(alloc: Global) -> Result<Command<'a>, AllocError>
     ensures { IfOk result (λ all. IsSeek (app_of all)) }
 {
-    let compared = pattern_options(alloc)?;
+    let patterns = pattern_options(alloc)?;
+    let cases = case_options(alloc)?;
     let walked = walk_options(alloc)?;
+    let reached = reach_options(alloc)?;
     let filtered = filter_options(alloc)?;
-    named(alloc)?.args(compared)?.args(walked)?.args(filtered)
+    let timed = time_options(alloc)?;
+    let printed = print_options(alloc)?;
+    named(alloc)?
+        .args(patterns)?
+        .args(cases)?
+        .args(walked)?
+        .args(reached)?
+        .args(filtered)?
+        .args(timed)?
+        .args(printed)
 }

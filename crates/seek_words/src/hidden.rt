@@ -24,7 +24,7 @@ fn begins_dot(text: &[u8]) -> bool
 pub fn finds_none_shown(asked: &Asked<'_>) -> bool
     ensures { result ≡ finds_none_shown asked.now }
 {
-    if asked.hidden || asked.full_path {
+    if asked.hidden || asked.full_path || asked.fixed {
         return false;
     }
     let pattern = asked.pattern.as_bytes();

@@ -1,7 +1,25 @@
 //! The types of what is looked for.
 ghost use Rattle.std.specs.Prelude.{◌≡◌};
+ghost use Rattle.std.specs.Option.{option_copied};
+ghost use Rattle.seek_words.specs.Kinds.{is_executable, has_format};
 
+use crate::seen::details_seen;
 use jwalk_model::file_type::FileType;
+use jwalk_model::metadata::Metadata;
+
+/// Returns whether a mode lets someone execute the file.
+fn is_executable(mode: u32) -> bool
+    ensures { result ≡ is_executable mode }
+{
+    mode & 0o111 != 0
+}
+
+/// Returns whether a mode is that of this type of file.
+fn has_format(mode: u32, format: u32) -> bool
+    ensures { result ≡ has_format mode format }
+{
+    mode & 0o170000 == format
+}
 
 /// The types of what is looked for. If none is named, all are.
 #[derive(Clone, Copy, Debug, PartialEq, Eq)]
@@ -12,18 +30,35 @@ pub struct Kinds {
     pub dir: bool,
     /// Links are named.
     pub link: bool,
-    /// All else is named.
+    /// Regular files that may be executed are named.
+    pub executable: bool,
+    /// Pipes are named.
+    pub pipe: bool,
+    /// Sockets are named.
+    pub socket: bool,
+    /// Block devices are named.
+    pub block: bool,
+    /// Character devices are named.
+    pub char: bool,
+    /// All that is no file, directory or link is named.
     pub other: bool,
 }
 
 impl Kinds {
-    ghost use Rattle.seek_words.specs.Kinds.{is_named, names_none, has_kind};
+    ghost use Rattle.seek_words.specs.Kinds.{is_named, is_special, names_mode, names_none, has_mode, has_modes, has_kind};
+
+    /// Returns whether a type is named that only a mode tells.
+    pub fn names_mode(self) -> bool
+        ensures { result ≡ names_mode self }
+    {
+        self.executable || self.pipe || self.socket || self.block || self.char
+    }
 
     /// Returns whether no type is named.
     fn names_none(self) -> bool
         ensures { result ≡ names_none self }
     {
-        !self.file && !self.dir && !self.link && !self.other
+        !self.file && !self.dir && !self.link && !self.other && !self.names_mode()
     }
 
     /// Returns whether a type is named.
@@ -38,10 +73,37 @@ impl Kinds {
         }
     }
 
-    /// Returns whether an entry of this type is looked for.
-    pub fn has(self, file_type: FileType) -> bool
-        ensures { result ≡ has_kind self file_type }
+    /// Returns whether a type is named that this mode tells, which isn't that of a regular file.
+    fn is_special(self, mode: u32) -> bool
+        ensures { result ≡ is_special self mode }
     {
-        self.names_none() || self.names(file_type)
+        (self.pipe && has_format(mode, 0o010000))
+            || (self.socket && has_format(mode, 0o140000))
+            || (self.block && has_format(mode, 0o060000))
+            || (self.char && has_format(mode, 0o020000))
+    }
+
+    /// Returns whether a type is named that this mode tells.
+    fn has_mode(self, file_type: FileType, mode: u32) -> bool
+        ensures { result ≡ has_mode self file_type mode }
+    {
+        (self.executable && file_type.is_file() && is_executable(mode)) || self.is_special(mode)
+    }
+
+    /// Returns whether the mode is known, and a type is named that it tells.
+    fn has_modes(self, file_type: FileType, seen: Option<&Metadata>) -> bool
+        ensures { result ≡ has_modes self file_type (option_copied seen.entry) }
+    {
+        match details_seen(seen) {
+            Some(details) => self.has_mode(file_type, details.mode),
+            None => false,
+        }
+    }
+
+    /// Returns whether an entry of this type and with this metadata is looked for.
+    pub fn has(self, file_type: FileType, seen: Option<&Metadata>) -> bool
+        ensures { result ≡ has_kind self file_type (option_copied seen.entry) }
+    {
+        self.names_none() || self.names(file_type) || self.has_modes(file_type, seen)
     }
 }

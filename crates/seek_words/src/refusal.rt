@@ -16,6 +16,8 @@ pub enum Refusal<'w> {
     Conflict(&'static str, &'static str),
     /// This is no size.
     NoSize(&'w str),
+    /// This is no time.
+    NoTime(&'w str),
     /// This pattern has a slash, and isn't compared with paths.
     Slash(&'w str),
     /// Memory ran out.
@@ -43,7 +45,8 @@ impl<'w> Refusal<'w> {
     {
         match self {
             Refusal::Words(error) => status_of_kind(error.kind()),
-            Refusal::Conflict(_, _) | Refusal::NoSize(_) | Refusal::Slash(_) => 2,
+            Refusal::Conflict(_, _) | Refusal::NoSize(_) | Refusal::NoTime(_) | Refusal::Slash(_) =>
+                2,
             Refusal::Memory => 1,
         }
     }
@@ -73,6 +76,10 @@ impl<'w> fmt::Display for Refusal<'w> {
             Refusal::NoSize(text) => writeln!(
                 f,
                 "seek: '{text}' is no size: write a number and a unit, as in +10k, with + for at least and - for at most that"
+            ),
+            Refusal::NoTime(text) => writeln!(
+                f,
+                "seek: '{text}' is no time: write how long ago it is, as in 2h or 3days, or a date, as in 2024-05-01 or '2024-05-01 10:00:00'"
             ),
             Refusal::Slash(pattern) => writeln!(
                 f,

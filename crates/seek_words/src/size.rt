@@ -3,7 +3,7 @@ ghost use Rattle.std.specs.Prelude.{◌≡◌, ◌*◌};
 ghost use Rattle.std.specs.List.{list_all};
 ghost use Rattle.std.specs.Option.{option_copied};
 ghost use Rattle.jwalk_model.specs.Metadata.{len_of};
-ghost use Rattle.seek_words.specs.Size.{bytes_in, bytes_of, bytes_of_ten, bytes_of_two, digit_count, has_sizes, in_64_bits, is_size, is_sized, is_unit, number_of, with_digit};
+ghost use Rattle.seek_words.specs.Size.{bytes_in, bytes_of, bytes_of_ten, bytes_of_two, digit_count, digits_number, has_sizes, in_64_bits, is_size, is_sized, is_unit, number_of, with_digit};
 
 use jwalk_model::file_type::FileType;
 use jwalk_model::metadata::Metadata;
@@ -113,6 +113,16 @@ fn bytes_in(text: &[u8]) -> Option<u64>
     }
     let (digits, unit) = text.split_at(count);
     number_of(digits)?.checked_mul(bytes_of(unit)?)
+}
+
+/// Returns the number that a text writes in digits alone, if it has at most 64 bits.
+pub(crate) fn digits_number(text: &[u8]) -> Option<u64>
+    ensures { result ≡ digits_number text.now }
+{
+    if text.is_empty() || digit_count(text) < text.len() {
+        return None;
+    }
+    number_of(text)
 }
 
 impl Size {

@@ -6,6 +6,7 @@ use crate::depths::Depths;
 use crate::extension::has_one;
 use crate::kinds::Kinds;
 use crate::size::{Size, is_sized};
+use crate::times::Times;
 use jwalk_model::file_type::FileType;
 use jwalk_model::metadata::Metadata;
 
@@ -20,6 +21,8 @@ pub struct Wanted<'w> {
     pub extensions: &'w [&'w str],
     /// The sizes of files; any entry, if there are none.
     pub sizes: &'w [Size],
+    /// When entries were modified.
+    pub times: Times,
 }
 
 impl<'w> Wanted<'w> {
@@ -36,8 +39,9 @@ impl<'w> Wanted<'w> {
         ensures { result ≡ is_wanted (wants_of self.now) depth file_type name.now (option_copied seen.entry) }
     {
         self.depths.has(depth)
-            && self.kinds.has(file_type)
+            && self.kinds.has(file_type, seen)
             && has_one(name, self.extensions)
             && is_sized(self.sizes, file_type, seen)
+            && self.times.has(seen)
     }
 }

@@ -1,12 +1,13 @@
 //! What words ask for.
-ghost use Rattle.std.specs.Prelude.{◌≡◌, [], codes, is_some, map, unwrap_or, IfOk, IfErr, Some};
+ghost use Rattle.std.specs.Prelude.{◌≡◌, [], codes, is_some, map, option_map, unwrap_or, IfOk, IfErr, Some};
 ghost use Rattle.std.specs.List.{list_any};
 ghost use Rattle.clap.specs.Words.{found_of, rows_of, first_of, one_of};
-ghost use Rattle.seek_words.specs.Asks.{is_either_named, is_named, values_in, texts_of, IsNumberOf, case_in, depths_by, AreDepthsIn, names_one, kinds_in, is_slash, Asks};
+ghost use Rattle.seek_words.specs.Asks.{is_either_named, is_named, values_in, texts_of, IsNumberOf, case_in, depths_by, AreDepthsIn, names_one, kinds_in, is_slash, AreResultsIn, Asks};
 ghost use Rattle.seek_words.specs.AsksFor.{AskFor, GiveValues};
 ghost use Rattle.seek_words.specs.Conflict.{has_conflict, has_value};
-ghost use Rattle.seek_words.specs.Refusal.{IsRefusedFor, IsRefusedSize};
+ghost use Rattle.seek_words.specs.Refusal.{IsRefusedFor, IsRefusedSize, IsRefusedTime, IsRefusedValue};
 ghost use Rattle.seek_words.specs.Size.{size_in};
+ghost use Rattle.seek_words.specs.Time.{time_in};
 
 use crate::asked::Asked;
 use crate::case::Case;
@@ -15,6 +16,8 @@ use crate::depths::Depths;
 use crate::kinds::Kinds;
 use crate::refusal::Refusal;
 use crate::size::Size;
+use crate::time::Time;
+use crate::times::Times;
 use clap::ArgMatches;
 use std::alloc::{AllocError, Global};
 use std::convert::AsStr;
@@ -66,11 +69,28 @@ fn pattern_of<'w>(found: &ArgMatches<'w>) -> &'w str
     }
 }
 
+/// Returns the value that an option has.
+fn value_of<'w>(found: &ArgMatches<'w>, id: &str) -> Option<&'w str>
+    ensures { option_map (λ it. it.now) result ≡ first_of id.now (rows_of (found_of found.now)) }
+{
+    found.get_str(id)
+}
+
 /// Returns the number that an option has.
 fn number_of(found: &ArgMatches<'_>, id: &str) -> Option<usize>
     ensures { IsNumberOf (one_of id.now (rows_of (found_of found.now))) result }
 {
     found.get_one::<usize>(id)
+}
+
+/// Returns how many paths are printed at most.
+fn results_of(found: &ArgMatches<'_>) -> Option<usize>
+    ensures { AreResultsIn (rows_of (found_of found.now)) result }
+{
+    if is_named(found, "one-result") {
+        return Some(1);
+    }
+    number_of(found, "max-results")
 }
 
 /// Returns whether the case of letters counts.
@@ -127,6 +147,11 @@ fn kinds_of(names: &[&str]) -> Kinds
         file: names_one(names, "f", "file"),
         dir: names_one(names, "d", "d") || names_one(names, "dir", "directory"),
         link: names_one(names, "l", "symlink"),
+        executable: names_one(names, "x", "executable"),
+        pipe: names_one(names, "p", "pipe"),
+        socket: names_one(names, "s", "socket"),
+        block: names_one(names, "b", "block-device"),
+        char: names_one(names, "c", "char-device"),
         other: names_one(names, "o", "other"),
     }
 }
@@ -147,32 +172,66 @@ fn sizes_of<'w>(alloc: Global, texts: &[&'w str]) -> Result<Vec<Size>, Refusal<'
     Ok(sizes)
 }
 
+/// Returns the sizes that are named.
+fn sizes_named<'w>(alloc: Global, found: &ArgMatches<'w>) -> Result<Vec<Size>, Refusal<'w>>
+    ensures sizes { IfOk result (λ sizes. map Some sizes.items ≡ map size_in (values_in (rows_of (found_of found.now)) (codes "size"))) }
+    ensures refused { IfErr result (IsRefusedSize (values_in (rows_of (found_of found.now)) (codes "size"))) }
+{
+    let texts = values_of(alloc, found, "size")?;
+    sizes_of(alloc, texts.as_slice())
+}
+
+/// Returns the time that an option has.
+fn time_named<'w>(found: &ArgMatches<'w>, id: &str) -> Result<Option<Time>, Refusal<'w>>
+    ensures time { IfOk result (λ time. option_map Some time ≡ option_map time_in (first_of id.now (rows_of (found_of found.now)))) }
+    ensures refused { IfErr result (IsRefusedTime (first_of id.now (rows_of (found_of found.now)))) }
+{
+    let Some(text) = value_of(found, id) else {
+        return Ok(None);
+    };
+    match Time::read(text) {
+        Some(time) => Ok(Some(time)),
+        None => Err(Refusal::NoTime(text)),
+    }
+}
+
+/// Returns the types that are named.
+fn kinds_named(alloc: Global, found: &ArgMatches<'_>) -> Result<Kinds, AllocError>
+    ensures { IfOk result (λ kinds. kinds ≡ kinds_in (values_in (rows_of (found_of found.now)) (codes "type"))) }
+{
+    let names = values_of(alloc, found, "type")?;
+    Ok(kinds_of(names.as_slice()))
+}
+
 /// Returns what is asked for by words that were read.
 fn asked_of<'w>(alloc: Global, found: &ArgMatches<'w>) -> Result<Asked<'w>, Refusal<'w>>
     ensures asked { IfOk result (Asks (rows_of (found_of found.now))) }
-    ensures refused { IfErr result (IsRefusedSize (values_in (rows_of (found_of found.now)) (codes "size"))) }
+    ensures refused { IfErr result (IsRefusedValue (rows_of (found_of found.now))) }
 {
-    let roots = values_of(alloc, found, "root")?;
-    let kinds = values_of(alloc, found, "type")?;
-    let extensions = values_of(alloc, found, "extension")?;
-    let texts = values_of(alloc, found, "size")?;
-    let sizes = sizes_of(alloc, texts.as_slice())?;
-    let excludes = values_of(alloc, found, "exclude")?;
     Ok(Asked {
         pattern: pattern_of(found),
-        roots,
+        roots: values_of(alloc, found, "root")?,
         glob: is_named(found, "glob"),
+        fixed: is_named(found, "fixed-strings"),
+        others: values_of(alloc, found, "and")?,
         full_path: is_named(found, "full-path"),
         case: case_of(found),
         hidden: is_either_named(found, "hidden", "unrestricted"),
         no_ignore: is_either_named(found, "no-ignore", "unrestricted"),
         follow: is_named(found, "follow"),
+        one_file_system: is_named(found, "one-file-system"),
         sort: is_named(found, "sort"),
         depths: depths_of(found),
-        kinds: kinds_of(kinds.as_slice()),
-        extensions,
-        sizes,
-        excludes,
+        kinds: kinds_named(alloc, found)?,
+        extensions: values_of(alloc, found, "extension")?,
+        sizes: sizes_named(alloc, found)?,
+        changed_within: time_named(found, "changed-within")?,
+        changed_before: time_named(found, "changed-before")?,
+        newer_than: value_of(found, "newer-than-file"),
+        times: Times::ANY,
+        excludes: values_of(alloc, found, "exclude")?,
+        max_results: results_of(found),
+        quiet: is_named(found, "quiet"),
         print0: is_named(found, "print0"),
         threads: number_of(found, "threads"),
     })
@@ -198,6 +257,9 @@ fn conflict_of(found: &ArgMatches<'_>) -> Option<(&'static str, &'static str)>
 {
     if is_named(found, "ignore-case") && is_named(found, "case-sensitive") {
         return Some(("ignore-case", "case-sensitive"));
+    }
+    if is_named(found, "glob") && is_named(found, "fixed-strings") {
+        return Some(("glob", "fixed-strings"));
     }
     if !has_value(found, "exact-depth") {
         return None;
@@ -226,8 +288,8 @@ fn matches_of<'w, S: AsStr>(alloc: Global, words: &'w [S]) -> Result<ArgMatches<
 ///
 /// # Errors
 ///
-/// If the words are bad or ask for help or the version; if two options exclude each other; if a size is none; if the
-/// pattern has a slash and isn't compared with paths; or if memory runs out.
+/// If the words are bad or ask for help or the version; if two options exclude each other; if a size or a time is
+/// none; if the pattern has a slash and isn't compared with paths; or if memory runs out.
 pub fn read_words<'w, S: AsStr>(alloc: Global, words: &'w [S]) -> Result<Asked<'w>, Refusal<'w>>
     ensures asked { IfOk result (AskFor (map S.text words.entry.now)) }
     ensures refused { IfErr result (IsRefusedFor (map S.text words.entry.now)) }

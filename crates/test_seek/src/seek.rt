@@ -2,6 +2,7 @@
 mod disk;
 mod errors;
 mod folder;
+mod kept;
 mod names;
 mod options;
 mod output;

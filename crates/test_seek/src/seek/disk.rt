@@ -11,10 +11,10 @@ use std::io;
 type Row = (&'static [&'static str], &'static [&'static str]);
 
 /// The words for one thread and for three.
-const THREADS: &[&str] = &["-j1", "-j3"];
+pub(crate) const THREADS: &[&str] = &["-j1", "-j3"];
 
 /// Returns the words of a call with this root.
-fn with_root<'w>(
+pub(crate) fn with_root<'w>(
     alloc: Global,
     words: &[&'w str],
     root: &'w str,
@@ -25,7 +25,7 @@ fn with_root<'w>(
 }
 
 /// Returns the lines of these names below a folder.
-fn lines_of(alloc: Global, folder: &str, names: &[&str]) -> Result<String, AllocError> {
+pub(crate) fn lines_of(alloc: Global, folder: &str, names: &[&str]) -> Result<String, AllocError> {
     let mut lines = String::new(alloc);
     for name in names {
         lines.push_str(folder)?;
@@ -146,5 +146,17 @@ fn a_root_that_is_missing_on_the_disk(rt: HostRuntime) -> io::Result<()> {
         (out.written().len(), status, err.written().is_empty()),
         (0, 1, false)
     );
+    Ok(())
+}
+
+#[test]
+fn one_file_system(rt: HostRuntime) -> io::Result<()> {
+    for word in ["--one-file-system", "--mount", "--xdev"] {
+        let disk = RealFs::new(rt.clone()?);
+        let texts = RealTexts::new(rt.clone()?);
+        let words: &[&str] = &[word, "^ptmx$", "/dev"];
+        let want = ("/dev/ptmx\n", "", 0);
+        assert!(rt; comes(&rt, disk, texts, "-j1", words, &want), "{word}");
+    }
     Ok(())
 }

@@ -1,5 +1,8 @@
 //! Folders on the disk, made for one test and removed after it.
-use std::os::unix::fs::symlink;
+use std::fs::{File, Permissions};
+use std::io::ErrorKind;
+use std::os::unix::fs::{PermissionsExt, symlink};
+use std::time::{Duration, SystemTime};
 use std::{env, fs, io, process};
 
 /// One step of filling a folder. Paths begin at the folder.
@@ -10,6 +13,10 @@ pub(crate) enum Step {
     File(&'static str, &'static str),
     /// A link: its text, and its path.
     Link(&'static str, &'static str),
+    /// When a file was modified: seconds since 1970 and nanoseconds behind them, and its path.
+    Modified(u64, u32, &'static str),
+    /// The permissions of a file, and its path.
+    Mode(u32, &'static str),
 }
 
 /// The path of something in a folder.
@@ -17,11 +24,30 @@ fn path_in(rt: &HostRuntime, folder: &str, below: &str) -> io::Result<String> {
     Ok(format!(in rt.alloc(); "{folder}/{below}")?)
 }
 
+/// Sets when a file was modified.
+fn set_modified(rt: &HostRuntime, path: &str, since_1970: Duration) -> io::Result<()> {
+    let file = File::open(rt, path)?;
+    match SystemTime::UNIX_EPOCH.checked_add(since_1970) {
+        Some(time) => file.set_modified(time),
+        None => Err(io::Error::from(ErrorKind::InvalidInput)),
+    }
+}
+
 fn take(rt: &HostRuntime, folder: &str, step: Step) -> io::Result<()> {
     match step {
         Step::Dir(at) => fs::create_dir(rt, path_in(rt, folder, at)?.as_str()),
         Step::File(text, at) => fs::write(rt, path_in(rt, folder, at)?.as_str(), text),
         Step::Link(text, at) => symlink(rt, text, path_in(rt, folder, at)?.as_str()),
+        Step::Modified(seconds, nanoseconds, at) => set_modified(
+            rt,
+            path_in(rt, folder, at)?.as_str(),
+            Duration::new(seconds, nanoseconds),
+        ),
+        Step::Mode(mode, at) => fs::set_permissions(
+            rt,
+            path_in(rt, folder, at)?.as_str(),
+            Permissions::from_mode(mode),
+        ),
     }
 }
 

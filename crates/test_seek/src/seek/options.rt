@@ -91,6 +91,7 @@ fn max_depth(rt: HostRuntime) {
     prints(&rt, &["-d", "1", ".", "/t"], TOP);
     prints(&rt, &["-d1", ".", "/t"], TOP);
     prints(&rt, &["--max-depth=1", ".", "/t"], TOP);
+    prints(&rt, &["--maxdepth", "1", ".", "/t"], TOP);
     prints(&rt, &["--max-depth", "0", ".", "/t"], "");
 }
 
@@ -216,6 +217,43 @@ fn glob(rt: HostRuntime) {
 }
 
 #[test]
+fn fixed_strings(rt: HostRuntime) {
+    prints(&rt, &["-F", ".rs", "/t"], "/t/sub/c.rs\n/t/sub/deep/a.rs\n");
+    prints(
+        &rt,
+        &["-F", "-tf", ".", "/t"],
+        "/t/a.txt\n/t/B.TXT\n/t/sub/c.rs\n/t/sub/notes.tar.gz\n/t/sub/deep/a.rs\n",
+    );
+    prints(&rt, &["-F", "A.", "/t"], "");
+    prints(
+        &rt,
+        &["-F", "-i", "A.", "/t"],
+        "/t/a.txt\n/t/sub/deep/a.rs\n",
+    );
+    prints(&rt, &["--fixed-strings", "b.t", "/t"], "/t/B.TXT\n");
+    prints(&rt, &["-F", "^a", "/t"], "");
+    prints(&rt, &["-F", "-p", "sub/c", "/t"], "/t/sub/c.rs\n");
+}
+
+#[test]
+fn more_patterns(rt: HostRuntime) {
+    prints(&rt, &["rs", "--and", "^c", "/t"], "/t/sub/c.rs\n");
+    prints(
+        &rt,
+        &["-i", "t", "--and", "TX", "/t"],
+        "/t/a.txt\n/t/B.TXT\n",
+    );
+    prints(
+        &rt,
+        &["-g", "*.rs", "--and", "a*", "/t"],
+        "/t/sub/deep/a.rs\n",
+    );
+    prints(&rt, &["--and=e", "--and=p", ".", "/t"], "/t/sub/deep\n");
+    prints(&rt, &["-F", ".", "--and=^", "/t"], "");
+    prints_by(&rt, "-j1", &["a", "--and", "(", "/t"], "", 2);
+}
+
+#[test]
 fn full_path(rt: HostRuntime) {
     prints(
         &rt,
@@ -310,4 +348,46 @@ fn threads(rt: HostRuntime) {
         0,
     );
     prints_by(&rt, "-j0", &["txt", "/t"], "", 2);
+}
+
+#[test]
+fn results(rt: HostRuntime) {
+    const BOTH: &str = "/t/a.txt\n/t/B.TXT\n";
+    const ROWS: &[Row] = &[
+        (&["-1", "txt", "/t"], TREE, &[], ("/t/a.txt\n", "", 0)),
+        (&["--max-results=2", "txt", "/t"], TREE, &[], (BOTH, "", 0)),
+        (
+            &["--max-results", "3", "txt", "/t"],
+            TREE,
+            &[],
+            (BOTH, "", 0),
+        ),
+        (&["--max-results=0", "txt", "/t"], TREE, &[], (BOTH, "", 0)),
+        (
+            &["--max-results=2", "^a", "/t/sub", "/t", "/no"],
+            TREE,
+            &[],
+            ("/t/sub/deep/a.rs\n/t/a.txt\n", "", 0),
+        ),
+        (
+            &["-I1", "^a", "/t/sub", "/no", "/t"],
+            TREE,
+            &[],
+            ("/t/sub/deep/a.rs\n", "", 0),
+        ),
+    ];
+    all_come(&rt, ROWS);
+}
+
+#[test]
+fn quiet(rt: HostRuntime) {
+    const MISSING: &str = "seek: /no: entity not found\n";
+    const ROWS: &[Row] = &[
+        (&["-q", "txt", "/t", "/no"], TREE, &[], ("", "", 0)),
+        (&["--quiet", "nothing", "/t"], TREE, &[], ("", "", 1)),
+        (&["-q", "txt", "/no", "/t"], TREE, &[], ("", MISSING, 0)),
+        (&["-q", "txt", "/no"], TREE, &[], ("", MISSING, 1)),
+        (&["-q1", "-I", "txt", "/t"], TREE, &[], ("", "", 0)),
+    ];
+    all_come(&rt, ROWS);
 }

@@ -23,9 +23,16 @@ fn bad_words_are_named(rt: HostRuntime) {
     const ROWS: &[(&[&str], &str)] = &[
         (&["--hiden"], "'--hiden'"),
         (&["-x"], "'-x'"),
+        (&["a", "-x", "rm"], "`seek -0 .. | xargs -0 COMMAND`"),
+        (
+            &["a", "--exec-batch", "rm"],
+            "`seek -0 .. | xargs -0 COMMAND`",
+        ),
+        (&["-g", "-F"], "--fixed-strings"),
+        (&["*.md", "/t"], "try -g"),
         (&["-t", "q", ".", "/t"], "'q'"),
         (&["-d", "one", ".", "/t"], "'one'"),
-        (&["-d", "-1", ".", "/t"], "-1"),
+        (&["-d", "-1", ".", "/t"], "--max-depth"),
         (&["--max-depth"], "--max-depth"),
         (
             &["--min-depth", "18446744073709551616", "."],

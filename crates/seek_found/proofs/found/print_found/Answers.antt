@@ -1,47 +1,56 @@
-use Rattle.std.proofs.Common.{◌∙◌, refl, subst}
+use Rattle.std.proofs.Common.{◌≡◌, ◌∙◌, ◌∷◌, [], refl, subst}
 use Rattle.std.specs.Io.KnownBytes.{Appends, append_known}
 use Rattle.jwalk_job.specs.Entry.{item}
 use Rattle.seek_words.specs.Filter.{sought_of}
 use Rattle.seek_words.specs.Lines.{style_of, gathered_of}
 use Rattle.seek_found.specs.Found.{found_line}
-use Rattle.seek_found.proofs.FoundFacts.{none_found, one_found, all_found}
+use Rattle.seek_found.specs.Limit.{left_after}
+use Rattle.seek_found.proofs.FoundFacts.{none_found, one_found, enough_found, all_found}
 use Rattle.seek_found.proofs.found.print_found.Goals as goal
 
-pub loop-answer-init : goal.loop-answer-init
-loop-answer-init g c = record {
+pub loop-answers-init : goal.loop-answers-init
+loop-answers-init g c = record {
   can = c.requires.can;
   ends = c.requires.ends;
   so_far = none_found g.I.Iterator.next_gives c.args.answers.now
-      (sought_of g.T.NameTest.takes c.args.printer.now.filter) (style_of c.args.printer.now.lines)
+      (sought_of g.T.NameTest.takes c.args.printer.now.filter) (style_of c.args.printer.now.lines) c.args.printer.now.left
       (append_known (g.W.Write.contents c.args.out.now) (gathered_of c.args.printer.now.lines));
   sought = refl;
   style = refl;
 }
 
-pub loop-answer-preserved : goal.loop-answer-preserved
-loop-answer-preserved g c =
-    let held = c.loop-answer.invariant in
+pub loop-answers-preserved : goal.loop-answers-preserved
+loop-answers-preserved g c =
+    let held = c.loop-answers.invariant in
     let on = c.in-Some.ensures.goes.on held.ends in
-    let old = append_known (g.W.Write.contents c.loop-answer.out) (gathered_of c.loop-answer.printer.lines) in
+    let old = append_known (g.W.Write.contents c.loop-answers.out) (gathered_of c.loop-answers.printer.lines) in
     let new = append_known (g.W.Write.contents c.print.new.out) (gathered_of c.print.new.self.lines) in
     let answer = item c.in-Some.answer in
     let sought = sought_of g.T.NameTest.takes c.args.printer.now.filter in
-    let printed = subst (λ s. Appends old new (found_line s (style_of c.loop-answer.printer.lines) answer)) held.sought c.in_ok-clean.ensures.printed in
+    let printed = subst (λ s. Appends old new (found_line s (style_of c.loop-answers.printer.lines) answer)) held.sought c.in_ok-clean.ensures.printed in
     record {
       can = on.0;
       ends = on.1;
-      so_far = one_found g.I.Iterator.next_gives c.args.answers.now
-          sought (style_of c.args.printer.now.lines) c.loop-answer.answers c.next.new.self
+      so_far = one_found g.I.Iterator.next_gives c.args.answers.now sought (style_of c.args.printer.now.lines) c.args.printer.now.left
+          c.loop-answers.answers c.next.new.self c.loop-answers.printer.left c.print.new.self.left
           (append_known (g.W.Write.contents c.args.out.now) (gathered_of c.args.printer.now.lines)) old new
-          c.loop-answer.clean c.in_ok-clean.field-0 c.in-Some.answer held.so_far c.in-Some.ensures.steps
-          (subst (λ s. Appends old new (found_line sought s answer)) held.style printed) c.in_ok-clean.ensures.clean;
+          c.loop-answers.clean c.in_ok-clean.field-0 c.in-Some.answer held.so_far (c.is_full.ensures.room c.loop-answers-test.true) c.in-Some.ensures.steps
+          (subst (λ s. Appends old new (found_line sought s answer)) held.style printed)
+          (subst (λ s. c.print.new.self.left ≡ left_after s c.loop-answers.printer.left (answer ∷ [])) held.sought c.in_ok-clean.ensures.left) c.in_ok-clean.ensures.clean;
       sought = c.print.ensures.sought ∙ held.sought;
       style = c.print.ensures.style ∙ held.style;
     }
 
 pub returns-clause-printed : goal.returns-clause-printed
 returns-clause-printed g c =
-    all_found g.I.Iterator.next_gives c.args.answers.now
-    (sought_of g.T.NameTest.takes c.args.printer.now.filter) (style_of c.args.printer.now.lines) c.loop-answer.answers c.next.new.self
+    enough_found g.I.Iterator.next_gives c.args.answers.now
+    (sought_of g.T.NameTest.takes c.args.printer.now.filter) (style_of c.args.printer.now.lines) c.args.printer.now.left c.loop-answers.answers c.loop-answers.printer.left
     (append_known (g.W.Write.contents c.args.out.now) (gathered_of c.args.printer.now.lines))
-    (append_known (g.W.Write.contents c.loop-answer.out) (gathered_of c.loop-answer.printer.lines)) c.loop-answer.clean c.loop-answer.invariant.so_far c.in_default.ensures.steps
+    (append_known (g.W.Write.contents c.loop-answers.out) (gathered_of c.loop-answers.printer.lines)) c.loop-answers.clean c.loop-answers.invariant.so_far (c.is_full.ensures.full c.loop-answers-test.false)
+
+pub returns-in_default-clause-printed : goal.returns-in_default-clause-printed
+returns-in_default-clause-printed g c =
+    all_found g.I.Iterator.next_gives c.args.answers.now
+    (sought_of g.T.NameTest.takes c.args.printer.now.filter) (style_of c.args.printer.now.lines) c.args.printer.now.left c.loop-answers.answers c.next.new.self c.loop-answers.printer.left
+    (append_known (g.W.Write.contents c.args.out.now) (gathered_of c.args.printer.now.lines))
+    (append_known (g.W.Write.contents c.loop-answers.out) (gathered_of c.loop-answers.printer.lines)) c.loop-answers.clean c.loop-answers.invariant.so_far c.in_default.ensures.steps

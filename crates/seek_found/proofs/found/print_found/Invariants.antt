@@ -6,13 +6,13 @@ use Rattle.seek_words.specs.Lines.{style_of, gathered_of}
 use Rattle.seek_found.proofs.FoundFacts.{FoundSoFar}
 use Rattle.seek_found.proofs.found.print_found.Given as goal
 
-abbrev pub invariant-loop-answer : goal.invariant-loop-answer
-invariant-loop-answer g l =
+abbrev pub invariant-loop-answers : goal.invariant-loop-answers
+invariant-loop-answers g l =
     record {
       can : g.I.Iterator.can_next l.answers;
       ends : IsFinite (g.I.Iterator.remaining l.answers);
       so_far : FoundSoFar g.I.Iterator.next_gives l.fn.answers
-          (sought_of g.T.NameTest.takes l.fn.printer.filter) (style_of l.fn.printer.lines) l.answers
+          (sought_of g.T.NameTest.takes l.fn.printer.filter) (style_of l.fn.printer.lines) l.fn.printer.left l.answers l.printer.left
           (append_known (g.W.Write.contents l.fn.out) (gathered_of l.fn.printer.lines))
           (append_known (g.W.Write.contents l.out) (gathered_of l.printer.lines)) l.clean;
       sought : sought_of g.T.NameTest.takes l.printer.filter ≡ sought_of g.T.NameTest.takes l.fn.printer.filter;
@@ -20,5 +20,5 @@ invariant-loop-answer g l =
     }
 
 -- at most how many answers are to come
-abbrev pub decreases-loop-answer : goal.decreases-loop-answer
-decreases-loop-answer g l = size (g.I.Iterator.remaining l.answers)
+abbrev pub decreases-loop-answers : goal.decreases-loop-answers
+decreases-loop-answers g l = size (g.I.Iterator.remaining l.answers)

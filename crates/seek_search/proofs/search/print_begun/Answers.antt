@@ -1,8 +1,11 @@
-use Rattle.std.proofs.Common.{◌∙◌, map, subst, sym}
+use Rattle.std.proofs.Common.{◌∙◌, map, inl, inr, refl, subst, sym}
 use Rattle.std.proofs.lemmas.Result.{IfOk-weaker}
 use Rattle.jwalk.specs.jwalk_job.Entry.{item}
+use Rattle.jwalk.specs.WalkDir.{stateless}
 use Rattle.jwalk.proofs.CleanFacts.{clean_whole}
 use Rattle.jwalk.proofs.WholeFacts.{steady_begun}
+use Rattle.seek_found.proofs.LimitFacts.{never_full}
+use Rattle.seek_found.proofs.RootsFacts.{counted_printed}
 use Rattle.seek_found.proofs.WholeFacts.{clean_entries, printed_whole}
 use Rattle.seek_search.proofs.search.print_begun.Goals as goal
 
@@ -15,8 +18,25 @@ returns-clause-whole g c =
     let it = c.into_iter-answers.result in
     let begun = c.into_iter-answers.ensures in
     IfOk-weaker c.print_found.result _ _
-    (λ clean prints. λ given steady is.
+    (λ clean prints. λ given steady none is.
     let steadily = steady_begun _ _ _ _ _ given walk it begun.steady begun.starts steady in
-    printed_whole given _ _ _ _ clean (map item prints.0) _ is prints.2 prints.3
-    (clean_whole _ _ _ _ _ given walk it prints.0 begun.begins.0 begun.begins.1.holds steadily begun.starts steady prints.1 (clean_entries prints.0 (sym prints.2 ∙ is))))
+    elim prints.calls [
+      | inl drains ↦ printed_whole given _ _ _ _ clean (map item prints.answered) _ is prints.all prints.lines
+          (clean_whole _ _ _ _ _ given walk it prints.answered begun.begins.0 begun.begins.1.holds steadily begun.starts steady drains (clean_entries prints.answered (sym prints.all ∙ is)))
+      | inr stopped ↦ absurd (never_full _ (map item prints.answered) none prints.limit stopped.0)
+    ])
+    c.print_found.ensures.printed
+
+pub returns-clause-yielded : goal.returns-clause-yielded
+returns-clause-yielded g c =
+    IfOk-weaker c.print_found.result _ _
+    (λ clean prints. counted_printed stateless _ _ _ _ _ _ _ clean prints.answered (record {
+      walk = c.args.walk;
+      is_so = refl;
+      it = c.into_iter-answers.result;
+      starts = c.into_iter-answers.ensures.starts;
+      yielded = prints.answered;
+      called = prints.calls;
+      counted = refl;
+    }) prints.within prints.limit prints.lines prints.all)
     c.print_found.ensures.printed

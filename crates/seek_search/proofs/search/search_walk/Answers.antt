@@ -3,7 +3,7 @@ use Rattle.std.specs.Arc.{arc_value}
 use Rattle.std.proofs.lemmas.Result.{IfOk-weaker}
 use Rattle.jwalk.specs.jwalk_model.Counted.{blank, both}
 use Rattle.jwalk.specs.jwalk_job.Job.{IsSteady}
-use Rattle.jwalk.specs.WalkDir.{file_system_of, callback_of}
+use Rattle.jwalk.specs.WalkDir.{file_system_of, callback_of, Sets}
 use Rattle.jwalk_ignore.specs.Rules.ChainWorth.{chain_worth}
 use Rattle.jwalk_ignore.specs.Callback.Given.{rules_alone}
 use Rattle.jwalk_ignore.specs.Callback.IgnoreViews.{ignoring, next_of, settings_of, texts_of}
@@ -11,6 +11,8 @@ use Rattle.jwalk_ignore.specs.Callback.Excluding.{excluded_of, excluding}
 use Rattle.jwalk_ignore.specs.Callback.Kept.{given_kept}
 use Rattle.seek_found.proofs.CleanFacts.{printed_as}
 use Rattle.jwalk_ignore.proofs.KeptFacts.{ignores_kept, whole_of}
+use Rattle.seek_found.proofs.RootsFacts.{printed_such}
+use Rattle.seek_search.proofs.SearchFacts.{yielded_so}
 use Rattle.seek_search.proofs.search.search_walk.Goals as goal
 
 pub returns-clause-whole : goal.returns-clause-whole
@@ -18,13 +20,13 @@ returns-clause-whole g c =
     let rules = c.args.rules in
     let set = c.with_hidden_shown-walk.ensures in
     let walk = c.with_hidden_shown-walk.result in
-    let texts = g.X.Texts.functions (arc_value (texts_of rules)) in
-    let given = given_kept (settings_of rules) texts (excluded_of (next_of rules)) in
-    let made = ignoring (settings_of rules) texts (excluding (excluded_of (next_of rules))) in
+    let texts = g.X.Texts.functions (arc_value (texts_of rules.rules)) in
+    let given = given_kept (settings_of rules.rules) texts (excluded_of (next_of rules.rules)) in
+    let made = ignoring (settings_of rules.rules) texts (excluding (excluded_of (next_of rules.rules))) in
     let over : arc_value (file_system_of walk) ≡ arc_value (file_system_of c.args.walk) = ap arc_value set.file_system in
-    let from : arc_value (texts_of (callback_of walk).rules) ≡ arc_value (texts_of rules) = ap (λ x. arc_value (texts_of x.rules)) set.callback in
+    let from : arc_value (texts_of (callback_of walk).rules) ≡ arc_value (texts_of rules.rules) = ap (λ x. arc_value (texts_of x.rules)) set.callback in
     IfOk-weaker c.print_begun.result _ _
-    (λ clean whole. λ fixed told state is.
+    (λ clean whole. λ fixed told state none is.
     let steady : IsSteady _ _ _ _ (file_system_of walk) (callback_of walk) given
     = record {
       file_system = subst g.S.FileSystem.IsFixed (sym over) fixed;
@@ -32,5 +34,10 @@ returns-clause-whole g c =
       clones = λ x y h. ap (λ chain. both (chain_worth chain) blank) h.0;
       default = λ x h. refl;
     } in
-    printed_as (whole_of made (ap g.S.FileSystem.functions over) set.options set.root (ap rules_alone set.state ∙ state)) (whole given steady is))
+    printed_as (whole_of made (ap g.S.FileSystem.functions over) set.options set.root (ap rules_alone set.state ∙ state)) (whole given steady none is))
     c.print_begun.ensures.whole
+
+pub returns-clause-yielded : goal.returns-clause-yielded
+returns-clause-yielded g c =
+    let set = c.with_hidden_shown.ensures in
+    IfOk-weaker c.print_begun.result _ _ (λ clean. printed_such (yielded_so _ (λ it is. subst (Sets _) (sym is) set))) c.print_begun.ensures.yielded

@@ -2,7 +2,7 @@ use Rattle.std.proofs.Common.{◌≡◌, ◌∙◌, ap, false, map, sym, subst, 
 use Rattle.std.specs.Prelude.{is_some}
 use Rattle.seek_words.specs.Asks.{Asks}
 use Rattle.seek_words.specs.Conflict.{has_conflict}
-use Rattle.seek_words.proofs.EndFacts.{returned_for, size_refused}
+use Rattle.seek_words.proofs.EndFacts.{returned_for, value_refused}
 use Rattle.seek_words.proofs.words.read_words.Goals.{else-not-asked-via-then-not-asked+else-has_slash, else-not-asked-via-else-not-asked}
 use Rattle.seek_words.proofs.words.read_words.Goals as goal
 
@@ -15,7 +15,7 @@ pub returns-in_err-asked-clause-refused : goal.returns-in_err-asked-clause-refus
 returns-in_err-asked-clause-refused g c =
     let refusal = c.in_err-asked.field-0.0 in
     returned_for (map g.S.AsStr.text c.args.words.now) c.from_residual-in_err-asked.result refusal c.from_residual-in_err-asked.ensures.1
-    (size_refused _ _ c.in_ok-found.ensures.read refusal c.in_err-asked.ensures.refused)
+    (value_refused _ _ c.in_ok-found.ensures.read refusal c.in_err-asked.ensures.refused)
 
 pub returns-then-has_slash-clause-refused : goal.returns-then-has_slash-clause-refused
 returns-then-has_slash-clause-refused g c =

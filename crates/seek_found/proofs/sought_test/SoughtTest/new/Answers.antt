@@ -1,10 +1,7 @@
-use Rattle.std.proofs.Common.{◌∙◌, ℕ, Bool, List, ap, sym}
-use Rattle.std.specs.Prelude.{is_some}
-use Rattle.regex.specs.Patterns.{Re, find_str}
-use Rattle.seek_found.specs.Sought.{takes_by}
+use Rattle.std.proofs.Common.{◌∙◌, ap, ap₂, map}
+use Rattle.seek_found.specs.NamePattern.{takes_name}
+use Rattle.seek_found.specs.Sought.{takes_all}
 use Rattle.seek_found.proofs.sought_test.SoughtTest.new.Goals as goal
 
-pub returns-in_ok-matcher-in-Expression : goal.returns-in_ok-matcher-in-Expression
-returns-in_ok-matcher-in-Expression c =
-    let finds : Re → List ℕ → Bool → Bool = λ re text is_dir. is_some (find_str re text 0) in
-    ap finds c.in_ok-matcher-in-Expression.ensures.pattern ∙ ap takes_by (sym c.in-Expression.is)
+pub returns : goal.returns
+returns c = ap₂ takes_all c.in_ok-new.ensures (c.in_ok-tests_of.ensures ∙ ap (map takes_name) c.as_slice.ensures.value)

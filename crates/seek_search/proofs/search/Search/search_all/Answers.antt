@@ -13,7 +13,9 @@ use Rattle.jwalk_ignore.specs.Callback.Kept.{given_excluding}
 use Rattle.seek_search.specs.Search.{excluded_asked, options_asked}
 use Rattle.seek_found.proofs.CleanFacts.{printed_as}
 use Rattle.jwalk_ignore.proofs.KeptFacts.{whole_of}
-use Rattle.seek_search.proofs.SearchFacts.{same_by_crew}
+use Rattle.seek_search.proofs.SearchFacts.{same_by_crew, yielded_so}
+use Rattle.seek_found.proofs.RootsFacts.{printed_such}
+use Rattle.seek_search.specs.Goes.{IsPlain}
 use Rattle.seek_search.proofs.search.Search.search_all.Goals as goal
 
 pub returns-clause-whole : goal.returns-clause-whole
@@ -32,7 +34,7 @@ returns-clause-whole g c =
     = set.options ∙ built.options ∙ ap (λ (o : WalkOptions). options_for o (is_some self.crew)) c.options.ensures in
     let root : root_of walk ≡ c.args.root.now = set.root ∙ built.root ∙ c.in_ok-root.ensures.ok in
     IfOk-weaker c.print_begun.result _ _
-    (λ clean whole. λ fixed is.
+    (λ clean whole. λ fixed none is.
     let steady : IsSteady _ _ _ _ (file_system_of walk) (callback_of walk) given
     = record {
       file_system = subst g.S.FileSystem.IsFixed (sym over) fixed;
@@ -43,5 +45,21 @@ returns-clause-whole g c =
     printed_as
     (whole_of (excluding excluded) (ap g.S.FileSystem.functions over) options root refl
     ∙ same_by_crew (excluding excluded) (is_some self.crew) (g.S.FileSystem.functions (arc_value self.disk)) (options_asked asked) c.args.root.now blank)
-    (whole given steady is))
+    (whole given steady none is))
     c.print_begun.ensures.whole
+
+pub returns-clause-yielded : goal.returns-clause-yielded
+returns-clause-yielded g c =
+    let self = c.args.self.now in
+    let asked = self.asked.now in
+    let built = c.in_ok-walk.ensures in
+    let set = c.process_read_dir.ensures in
+    let walk = c.process_read_dir.result in
+    let plain : IsPlain (arc_value self.disk) asked c.args.root.now walk = record {
+      over = ap arc_value (set.file_system ∙ built.file_system) ∙ c.in_ok-disk.ensures.cases;
+      below = set.root ∙ built.root ∙ c.in_ok-root.ensures.ok;
+      by_crew = is_some self.crew;
+      options = set.options ∙ built.options ∙ ap (λ (o : WalkOptions). options_for o (is_some self.crew)) c.options.ensures;
+      excluded = ap excluded_of set.callback ∙ c.in_ok-excluding.ensures ∙ ap (λ l. excluded_by (texts_of l) c.args.root.now) c.as_slice.ensures.value;
+    } in
+    IfOk-weaker c.print_begun.result _ _ (λ clean. printed_such (yielded_so _ (λ it is. subst (IsPlain (arc_value self.disk) asked c.args.root.now) (sym is) plain))) c.print_begun.ensures.yielded

@@ -1,8 +1,9 @@
-use Rattle.std.proofs.Common.{◌≡◌, ◌∙◌, ap, subst, sym}
+use Rattle.std.proofs.Common.{◌≡◌, ◌∙◌, false, ap, subst, sym}
 use Rattle.std.specs.Prelude.{is_some}
 use Rattle.std.specs.Arc.{arc_value}
 use Rattle.std.proofs.lemmas.Result.{IfOk-weaker}
 use Rattle.jwalk.specs.jwalk_model.Counted.{blank, both}
+use Rattle.jwalk.specs.jwalk_model.Options.{with_skip_hidden}
 use Rattle.jwalk.specs.WalkDir.{file_system_of, options_of, state_of}
 use Rattle.jwalk_ignore.specs.Rules.ChainWorth.{chain_worth}
 use Rattle.jwalk_ignore.specs.Callback.Given.{no_rules_yet, rules_alone}
@@ -11,11 +12,13 @@ use Rattle.jwalk_ignore.specs.declared.callback.settings.Settings.{Settings}
 use Rattle.seek_search.specs.Options.{options_for, with_crew}
 use Rattle.seek_search.specs.declared.options.WalkOptions.{WalkOptions}
 use Rattle.seek_found.proofs.CleanFacts.{printed_as}
+use Rattle.seek_found.proofs.RootsFacts.{printed_such}
 use Rattle.seek_words.specs.Asks.{texts_of}
 use Rattle.jwalk_ignore.specs.Callback.Excluding.{excluded_by, excluded_of, excluding}
 use Rattle.seek_search.specs.Search.{excluded_asked, options_asked, settings_asked}
 use Rattle.jwalk_ignore.proofs.KeptFacts.{ignoring_same}
-use Rattle.seek_search.proofs.SearchFacts.{hidden_by_crew}
+use Rattle.seek_search.proofs.SearchFacts.{hidden_by_crew, yielded_so}
+use Rattle.seek_search.specs.Goes.{IsHonouring}
 use Rattle.seek_search.proofs.search.Search.search_kept.Goals as goal
 
 pub returns-clause-whole : goal.returns-clause-whole
@@ -38,9 +41,28 @@ returns-clause-whole g c =
     = built.options ∙ ap (λ (o : WalkOptions). options_for o (is_some self.crew)) c.options.ensures in
     let state : rules_alone (state_of walk) ≡ no_rules_yet = ap (λ chain. both (chain_worth chain) blank) built.state.0 in
     IfOk-weaker c.search_walk.result _ _
-    (λ clean whole. λ fixed told is.
+    (λ clean whole. λ fixed told none is.
     printed_as
     (ignoring_same (ap g.S.FileSystem.functions over) (ap g.X.Texts.functions from) settings lines options (built.root ∙ c.in_ok-root.ensures.ok)
     ∙ hidden_by_crew (ignoring (settings_asked asked) texts (excluding excluded)) (is_some self.crew) (g.S.FileSystem.functions (arc_value self.disk)) (options_asked asked) c.args.root.now no_rules_yet)
-    (whole (subst g.S.FileSystem.IsFixed (sym over) fixed) (subst g.X.Texts.IsFixed (sym from) told) state is))
+    (whole (subst g.S.FileSystem.IsFixed (sym over) fixed) (subst g.X.Texts.IsFixed (sym from) told) state none is))
     c.search_walk.ensures.whole
+
+pub returns-clause-yielded : goal.returns-clause-yielded
+returns-clause-yielded g c =
+    let self = c.args.self.now in
+    let asked = self.asked.now in
+    let built = c.in_ok-walk.ensures in
+    let set = c.then-rules.ensures in
+    IfOk-weaker c.search_walk.result _ _
+    (λ clean. printed_such (yielded_so _ (λ it is. record {
+      over = ap arc_value (is.file_system ∙ built.file_system) ∙ c.in_ok-disk.ensures.cases;
+      below = is.root ∙ built.root ∙ c.in_ok-root.ensures.ok;
+      by_crew = is_some self.crew;
+      options = is.options ∙ ap (with_skip_hidden false) (built.options ∙ ap (λ (o : WalkOptions). options_for o (is_some self.crew)) c.options.ensures);
+      texts_read = ap (λ x. arc_value (texts_in x.rules)) is.callback ∙ ap arc_value (set.texts ∙ c.keep_hidden.ensures.texts ∙ c.new-2.ensures.texts) ∙ c.in_ok-clone.ensures.cases;
+      settings = ap (λ x. settings_of x.rules) is.callback ∙ set.settings ∙ c.keep_hidden.ensures.settings ∙ ap (λ (s : Settings). record s { keeps_hidden = asked.hidden }) c.new-2.ensures.settings;
+      excluded = ap (λ x. excluded_of (next_of x.rules)) is.callback ∙ ap excluded_of set.next ∙ c.in_ok-excluding.ensures ∙ ap (λ l. excluded_by (texts_of l) c.args.root.now) c.as_slice.ensures.value;
+      begins = ap rules_alone is.state ∙ ap (λ chain. both (chain_worth chain) blank) built.state.0;
+    })))
+    c.search_walk.ensures.yielded

@@ -1,0 +1,127 @@
+-- What is printed of the answers below roots, one root after another.
+use Rattle.std.proofs.Common.{◌≡◌, ◌≢◌, ◌⊎◌, ◌∙◌, ℕ, Bool, true, ◌&&◌, List, [], ◌∷◌, ◌++◌, map, Option, Some, Result, append_assoc, append-nil, inl, inr, ap, ap₂, refl, subst, sym}
+use Rattle.std.specs.List.{list_all}
+use Rattle.std.specs.Io.KnownBytes.{Appends, append_known}
+use Rattle.std.proofs.lemmas.Grind.{flat_map-append}
+use Rattle.jwalk_model.specs.Counted.{Worth}
+use Rattle.jwalk_model.specs.Entry.{Item}
+use Rattle.jwalk_job.specs.declared.dir_entry.DirEntry.{DirEntry}
+use Rattle.jwalk_job.specs.declared.error.Error.{Error}
+use Rattle.jwalk_job.specs.Entry.{item}
+use Rattle.jwalk_job.specs.Given.{Given, counted_item, counted_list}
+use Rattle.seek_words.specs.Sought.{Sought}
+use Rattle.seek_words.specs.declared.paths.Style.{Style}
+use Rattle.seek_found.specs.Found.{found_line, found_lines, is_clean}
+use Rattle.seek_found.specs.Limit.{left_after, up_to}
+use Rattle.seek_found.specs.Roots.{AreBelow, Below, PrintsSuch}
+use Rattle.seek_found.proofs.CleanFacts.{all_seam, first_written, rest_written}
+use Rattle.seek_found.proofs.FoundFacts.{appends_none, appends_then}
+use Rattle.seek_found.proofs.LimitFacts.{left_as_before, left_then, up_to_more, up_to_none}
+use Rattle.seek_found.proofs.WholeFacts.{all_clean, same_after, same_lines, same_up_to}
+
+module _ {sought : Sought} {style : Style} {left left' : Option ℕ} {old new : Option (List ℕ)} {clean : Bool} where
+  -- answers of which more is known
+  pub printed_such : {are be : List (Item Worth Worth) → Type 0} → ((xs : List (Item Worth Worth)) → are xs → be xs) → PrintsSuch are sought style left left' old new clean → PrintsSuch be sought style left left' old new clean
+  printed_such more printed = record {
+    answers = printed.answers;
+    such = more printed.answers printed.such;
+    within = printed.within;
+    limit = printed.limit;
+    lines = printed.lines;
+    all = printed.all;
+  }
+
+  -- the same, as what is looked for is known otherwise
+  pub such_printed_by : {are : List (Item Worth Worth) → Type 0} {sought' : Sought} {style' : Style} {left'' : Option ℕ} → sought ≡ sought' → style ≡ style' → left ≡ left'' → PrintsSuch are sought style left left' old new clean → PrintsSuch are sought' style' left'' left' old new clean
+  such_printed_by {are} {sought'} {style'} sought_is style_is left_is printed =
+      subst (λ (l : Option ℕ). PrintsSuch are sought' style' l left' old new clean) left_is
+      (subst (λ (s : Style). PrintsSuch are sought' s left left' old new clean) style_is (subst (λ (s : Sought). PrintsSuch are s style left left' old new clean) sought_is printed))
+
+-- what is printed of answers is printed of what they count as
+pub counted_printed : {C A R E : Type 0} (given : Given R E) (are : List (Item Worth Worth) → Type 0) (sought : Sought) (style : Style) (left left' : Option ℕ) (old new : Option (List ℕ)) (clean : Bool) (xs : List (Result (DirEntry C A R E) (Error A)))
+    → are (counted_list given xs) → up_to sought left (map item xs) ≡ map item xs → left' ≡ left_after sought left (map item xs) → Appends old new (found_lines sought style (map item xs)) → clean ≡ list_all is_clean (map item xs) → PrintsSuch are sought style left left' old new clean
+counted_printed given are sought style left left' old new clean xs such within limit lines all = record {
+  answers = counted_list given xs;
+  such = such;
+  within = same_up_to given sought left (map item xs) ∙ ap (map (counted_item given)) within;
+  limit = limit ∙ sym (same_after given sought left (map item xs));
+  lines = subst (λ l. Appends old new l) (sym (same_lines given sought style (map item xs))) lines;
+  all = all ∙ sym (all_clean given (map item xs));
+}
+
+-- lines that are gathered first and written last
+pub such_written_last : {are : List (Item Worth Worth) → Type 0} {sought : Sought} {style : Style} {left left' : Option ℕ} {clean : Bool} (old mid new : Option (List ℕ)) (none last : List ℕ) → none ≡ []
+    → PrintsSuch are sought style left left' (append_known old none) (append_known mid last) clean → Appends mid new last → PrintsSuch are sought style left left' old new clean
+such_written_last {sought} {style} old mid new none last empty printed rest = record {
+  answers = printed.answers;
+  such = printed.such;
+  within = printed.within;
+  limit = printed.limit;
+  lines = first_written old new none (found_lines sought style printed.answers) empty (rest_written (append_known old none) mid new last (found_lines sought style printed.answers) printed.lines rest);
+  all = printed.all;
+}
+
+-- where the search may not stop, all answers are there
+all_there : (below : Below) (may_stop : Type 0) (roots : List (List ℕ)) (xs : List (Item Worth Worth)) → ¬ may_stop → AreBelow below may_stop roots xs → AreBelow below ⊥ roots xs
+all_there below may_stop [] xs on are = are
+all_there below may_stop (root ∷ roots) xs on (inl (first, (rest, own, more, is))) = inl (first, (rest, own, all_there below may_stop roots rest on more, is))
+all_there below may_stop (root ∷ roots) xs on (inr (stops, last)) = absurd (on stops)
+
+module _ (below : Below) (may_stop : Type 0) where
+  -- all answers below roots, and then those below others
+  more_roots : (roots others : List (List ℕ)) (xs ys : List (Item Worth Worth)) → AreBelow below ⊥ roots xs → AreBelow below may_stop others ys → AreBelow below may_stop (roots ++ others) (xs ++ ys)
+  more_roots [] others xs ys none more = subst (λ l. AreBelow below may_stop others (l ++ ys)) (sym none) more
+  more_roots (root ∷ roots) others xs ys (inl (first, (rest, own, so_far, is))) more =
+      inl (first, (rest ++ ys, own, more_roots roots others rest ys so_far more, ap (λ l. l ++ ys) is ∙ append_assoc first rest ys))
+  more_roots (root ∷ roots) others xs ys (inr (stops, last)) more = absurd stops
+
+  -- where it stopped, others aren't searched
+  stopped : (roots others : List (List ℕ)) (xs : List (Item Worth Worth)) → may_stop → AreBelow below may_stop roots xs → AreBelow below may_stop (roots ++ others) xs
+  stopped [] [] xs stops are = are
+  stopped [] (other ∷ others) xs stops are = inr (stops, inl are)
+  stopped (root ∷ roots) others xs stops (inl (first, (rest, own, more, is))) = inl (first, (rest, own, stopped roots others rest stops more, is))
+  stopped (root ∷ roots) others xs stops (inr last) = inr last
+
+  -- the answers below one root
+  pub one_root : (root : List ℕ) (xs : List (Item Worth Worth)) → below ⊥ root xs ⊎ (may_stop × below may_stop root xs) → AreBelow below may_stop (root ∷ []) xs
+  one_root root xs (inl own) = inl (xs, ([], own, refl, sym (append-nil xs)))
+  one_root root xs (inr (stops, own)) = inr (stops, inr own)
+
+  -- nothing is printed of no roots
+  pub no_roots_printed : (sought : Sought) (style : Style) (left : Option ℕ) (old : Option (List ℕ)) → PrintsSuch (AreBelow below may_stop []) sought style left left old old true
+  no_roots_printed sought style left old = record {
+    answers = [];
+    such = refl;
+    within = up_to_none sought left;
+    limit = sym (left_as_before Worth Worth sought left);
+    lines = appends_none old;
+    all = refl;
+  }
+
+  -- what is printed of roots, if the search stops there
+  pub roots_stopped : {sought : Sought} {style : Style} {left left' : Option ℕ} {old new : Option (List ℕ)} {clean : Bool} (roots others : List (List ℕ)) → may_stop
+      → PrintsSuch (AreBelow below may_stop roots) sought style left left' old new clean → PrintsSuch (AreBelow below may_stop (roots ++ others)) sought style left left' old new clean
+  roots_stopped roots others stops printed = printed_such (λ xs. stopped roots others xs stops) printed
+
+  -- what is printed of roots, and then of others
+  pub roots_printed : {stops : Type 0} {sought sought' : Sought} {style style' : Style} (roots others : List (List ℕ)) (left mid left' : Option ℕ) (a b c : Option (List ℕ)) (clean more : Bool) → ¬ stops → sought' ≡ sought → style' ≡ style
+      → PrintsSuch (AreBelow below stops roots) sought style left mid a b clean → PrintsSuch (AreBelow below may_stop others) sought' style' mid left' b c more → PrintsSuch (AreBelow below may_stop (roots ++ others)) sought style left left' a c (clean && more)
+  roots_printed {stops} {sought} {style} roots others left mid left' a b c clean more on sought_is style_is before after =
+      let rest = such_printed_by sought_is style_is refl after in
+      let seam = ap (λ l. up_to sought l rest.answers) (sym before.limit) in
+      record {
+        answers = before.answers ++ rest.answers;
+        such = more_roots roots others before.answers rest.answers (all_there below stops roots before.answers on before.such) rest.such;
+        within = up_to_more sought left before.answers rest.answers before.within ∙ ap (λ l. before.answers ++ l) (seam ∙ rest.within);
+        limit = rest.limit ∙ ap (λ l. left_after sought l rest.answers) before.limit ∙ sym (left_then sought left before.answers rest.answers);
+        lines = rw (flat_map-append (found_line sought style) before.answers rest.answers) (appends_then a b c (found_lines sought style before.answers) (found_lines sought style rest.answers) before.lines rest.lines);
+        all = ap₂ (λ p q. p && q) before.all rest.all ∙ sym (all_seam sought style before.answers rest.answers);
+      }
+
+-- a search that may stop may do so for a weaker cause
+pub may_stop_sooner : (below : Below) (may_stop other : Type 0) → (may_stop → other) → ((root : List ℕ) (xs : List (Item Worth Worth)) → below may_stop root xs → below other root xs)
+    → (roots : List (List ℕ)) (xs : List (Item Worth Worth)) → AreBelow below may_stop roots xs → AreBelow below other roots xs
+may_stop_sooner below may_stop other more each [] xs are = are
+may_stop_sooner below may_stop other more each (root ∷ roots) xs (inl (first, (rest, own, are, is))) = inl (first, (rest, own, may_stop_sooner below may_stop other more each roots rest are, is))
+may_stop_sooner below may_stop other more each (root ∷ roots) xs (inr (stops, inl none)) = inr (more stops, inl none)
+may_stop_sooner below may_stop other more each (root ∷ roots) xs (inr (stops, inr last)) = inr (more stops, inr (each root xs last))
