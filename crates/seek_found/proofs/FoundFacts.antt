@@ -26,6 +26,10 @@ pub appends_none : (a : Option (List ℕ)) → Appends a a []
 appends_none None = tt
 appends_none (Some ws) = sym (append-nil ws)
 
+-- and then nothing more
+pub appends_nothing : (a b c : Option (List ℕ)) (xs : List ℕ) → Appends a b xs → Appends b c [] → Appends a c xs
+appends_nothing a b c xs first second = subst (λ l. Appends a c l) (append-nil xs) (appends_then a b c xs [] first second)
+
 and_true : (b : Bool) → (b && true) ≡ b
 and_true true = refl
 and_true false = refl

@@ -14,20 +14,29 @@ use seek_words::halt::Halt;
 use seek_words::name_test::NameTest;
 use std::alloc::Allocator;
 use std::io::Write;
+use std::time::Clock;
 
-/// Prints what passes of a walk's answers, up to the limit, and reports the errors. Returns whether there was none.
+/// Prints what passes of a walk's answers, up to the limit, and reports the errors. Returns whether there was none. Lines
+/// that are gathered are written at the first answer that comes 100 milliseconds after the oldest of them.
 ///
 /// # Errors
 ///
 /// If memory runs out, or if the output can't be written.
 pub fn print_found<
+    K: Clock,
     T: NameTest,
     W: Write,
     E: Write,
     C: ClientState,
     A: Allocator + Copy,
     I: Iterator<Item = Answer<DirEntry<C, A>, A>>,
->(answers: &mut I, printer: &mut Printer<'_, T>, out: &mut W, err: &mut E) -> Result<bool, Halt>
+>(
+    answers: &mut I,
+    printer: &mut Printer<'_, T>,
+    clock: &K,
+    out: &mut W,
+    err: &mut E,
+) -> Result<bool, Halt>
     requires can { I.can_next answers.old }
     requires ends { IsFinite (I.remaining answers.old) }
     ensures printed { IfOk result (PrintsFound I.next_gives answers.old (sought_of T.takes printer.old.filter)
@@ -43,6 +52,7 @@ pub fn print_found<
             return Ok(clean);
         };
         clean &= printer.print(answer, out, err)?;
+        printer.lines.write_old(clock, out)?;
     }
     Ok(clean)
 }

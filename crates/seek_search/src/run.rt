@@ -235,6 +235,7 @@ fn search_asked<
         left,
     };
     let search = Search {
+        clock: rt,
         asked,
         disk: shared(
             alloc,

@@ -58,6 +58,7 @@ fn print_begun<
 >(
     walk: WalkDirGeneric<C, S, P, Global, Crew<T>>,
     printer: &mut Printer<'_, SoughtTest<'_>>,
+    clock: &T,
     out: &mut W,
     err: &mut E,
 ) -> Result<bool, Halt>
@@ -73,7 +74,7 @@ where
     ensures style { style_of printer.new.lines ≡ style_of printer.old.lines }
 {
     let mut answers = walk.into_iter();
-    print_found(&mut answers, printer, out, err)
+    print_found(&mut answers, printer, clock, out, err)
 }
 
 /// Begins a walk that honours these rules, and prints what is found by it.
@@ -87,6 +88,7 @@ fn search_walk<
     walk: Plain<T, S>,
     rules: KeptRules<X>,
     printer: &mut Printer<'_, SoughtTest<'_>>,
+    clock: &T,
     out: &mut W,
     err: &mut E,
 ) -> Result<bool, Halt>
@@ -101,12 +103,13 @@ fn search_walk<
     ensures sought { sought_of takes_of printer.new.filter ≡ sought_of takes_of printer.old.filter }
     ensures style { style_of printer.new.lines ≡ style_of printer.old.lines }
 {
-    print_begun(with_hidden_shown(walk, rules), printer, out, err)
+    print_begun(with_hidden_shown(walk, rules), printer, clock, out, err)
 }
 
 /// What is asked for, and what it is looked for in.
 #[derive(Drop)]
 pub(crate) struct Search<'a, 'w, T: Drop, S: FileSystem, X: Texts> {
+    pub(crate) clock: &'a T,
     pub(crate) asked: &'a Asked<'w>,
     pub(crate) disk: Arc<S>,
     pub(crate) texts: Arc<X>,
@@ -159,7 +162,13 @@ impl<
         let walk = self
             .options()
             .walk_of::<((), ()), _, _, _>(disk, root, &self.crew)?;
-        print_begun(walk.process_read_dir(excluding), printer, out, err)
+        print_begun(
+            walk.process_read_dir(excluding),
+            printer,
+            self.clock,
+            out,
+            err,
+        )
     }
 
     /// Searches below a root, with its ignore files.
@@ -191,7 +200,7 @@ impl<
         let walk = self
             .options()
             .walk_of::<KeptStates, _, _, _>(disk, root, &self.crew)?;
-        search_walk(walk, KeptRules { rules }, printer, out, err)
+        search_walk(walk, KeptRules { rules }, printer, self.clock, out, err)
     }
 
     /// Searches below a root, prints what is found and reports errors. Returns whether there was none.

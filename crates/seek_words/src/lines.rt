@@ -7,17 +7,23 @@ use crate::halt::Halt;
 use crate::paths::Style;
 use std::alloc::{AllocError, Global};
 use std::io::Write;
+use std::time::{Clock, Duration};
 
 /// How many bytes of lines are gathered before they are written. A buffer of twice the length takes the last line too.
 /// It stays below 64 KiB, at which a free makes the C library's allocator put all its small pieces together.
 const GATHERED: usize = 16384;
 
-/// Lines that are gathered, and written once there are enough. For a terminal each is written at once.
+/// How many milliseconds a line is gathered at most while answers come.
+const LONGEST: u128 = 100;
+
+/// Lines that are gathered, and written once there are enough, or once the oldest is 100 milliseconds old. For a terminal
+/// each is written at once.
 #[derive(Drop)]
 pub struct Lines {
     style: Style,
     gathered: Vec<u8>,
     has_printed: bool,
+    oldest: Option<Duration>,
 }
 
 impl Lines {
@@ -37,6 +43,7 @@ impl Lines {
             style,
             gathered: Vec::with_capacity(alloc, 2 * GATHERED)?,
             has_printed: false,
+            oldest: None,
         })
     }
 
@@ -58,6 +65,7 @@ impl Lines {
             return Err(Halt::Output);
         }
         self.gathered.clear();
+        self.oldest = None;
         Ok(())
     }
 
@@ -77,6 +85,34 @@ impl Lines {
         self.style.write(folder, name, &mut self.gathered)?;
         self.has_printed = true;
         if self.gathered.len() < GATHERED && !self.style.to_terminal {
+            return Ok(());
+        }
+        self.write_gathered(out)
+    }
+
+    /// Writes the lines that are gathered, if the first of these calls that met the oldest was 100 milliseconds ago. The
+    /// clock is read only if lines are gathered; if it can't be read, they stay.
+    ///
+    /// # Errors
+    ///
+    /// If the output can't be written.
+    pub fn write_old<T: Clock, W: Write>(&mut self, clock: &T, out: &mut W) -> Result<(), Halt>
+        ensures kept { OnOk result (Appends (append_known (W.contents out.old) (gathered_of self.old))
+            (append_known (W.contents out.new) (gathered_of self.new)) []) }
+        ensures style { style_of self.new ≡ style_of self.old }
+        ensures as_before { has_printed self.new ≡ has_printed self.old }
+    {
+        if self.gathered.is_empty() {
+            return Ok(());
+        }
+        let Ok(now) = clock.monotonic() else {
+            return Ok(());
+        };
+        let Some(oldest) = self.oldest else {
+            self.oldest = Some(now);
+            return Ok(());
+        };
+        if now.saturating_sub(oldest).as_millis() < LONGEST {
             return Ok(());
         }
         self.write_gathered(out)
