@@ -23,6 +23,7 @@ fn main(rt: HostRuntime) -> ExitCode {
     let status = match call_of(&rt) {
         Ok((words, (disk, texts))) => run(
             &rt,
+            &rt,
             rt.alloc(),
             disk,
             texts,

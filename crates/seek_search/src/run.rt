@@ -121,13 +121,14 @@ fn style_of(on_terminal: bool, asked: &Asked<'_>) -> Style
 /// Searches below each of these roots, in two halves. Returns whether there was no error.
 fn search_each<
     T: Wait + Threads + Clock + Clone + Drop + Send + Sync + 'static,
+    K: Clock,
     S: FileSystem + Send + Sync + 'static,
     X: Texts + Send + Sync + 'static,
     W: Write,
     E: Write,
 >(
     alloc: Global,
-    search: &Search<'_, '_, T, S, X>,
+    search: &Search<'_, '_, T, K, S, X>,
     roots: &[&str],
     printer: &mut Printer<'_, SoughtTest<'_>>,
     out: &mut W,
@@ -160,13 +161,14 @@ fn search_each<
 /// Searches below all roots that are asked for. Returns whether there was no error.
 fn search_roots<
     T: Wait + Threads + Clock + Clone + Drop + Send + Sync + 'static,
+    K: Clock,
     S: FileSystem + Send + Sync + 'static,
     X: Texts + Send + Sync + 'static,
     W: Write,
     E: Write,
 >(
     alloc: Global,
-    search: &Search<'_, '_, T, S, X>,
+    search: &Search<'_, '_, T, K, S, X>,
     printer: &mut Printer<'_, SoughtTest<'_>>,
     out: &mut W,
     err: &mut E,
@@ -190,12 +192,14 @@ fn search_roots<
 /// Searches as is asked for, with the names that are looked for.
 fn search_asked<
     T: Wait + Threads + Clock + Clone + Drop + Send + Sync + 'static,
+    K: Clock,
     S: FileSystem + Send + Sync + 'static,
     X: Texts + Send + Sync + 'static,
     W: Write,
     E: Write,
 >(
     rt: &T,
+    clock: &K,
     alloc: Global,
     disk: S,
     texts: X,
@@ -235,7 +239,7 @@ fn search_asked<
         left,
     };
     let search = Search {
-        clock: rt,
+        clock,
         asked,
         disk: shared(
             alloc,
@@ -268,12 +272,14 @@ fn search_asked<
 /// is found, and 1 if none is.
 pub fn run<
     T: Wait + Threads + Clock + Clone + Drop + Send + Sync + 'static,
+    K: Clock,
     S: FileSystem + Send + Sync + 'static,
     X: Texts + Send + Sync + 'static,
     W: Write,
     E: Write,
 >(
     rt: &T,
+    clock: &K,
     alloc: Global,
     disk: S,
     texts: X,
@@ -297,7 +303,7 @@ pub fn run<
         Ok(read) => read,
         Err(status) => return status,
     };
-    match times_of(rt, &disk, &asked) {
+    match times_of(clock, &disk, &asked) {
         Ok(times) => asked.times = times,
         Err(untimed) => {
             untimed.report(err);
@@ -307,12 +313,13 @@ pub fn run<
     if asked.quiet {
         let mut sink = io::sink();
         let ended = search_asked(
-            rt, alloc, disk, texts, &asked, &sought, false, &mut sink, err,
+            rt, clock, alloc, disk, texts, &asked, &sought, false, &mut sink, err,
         );
         return status_of(true, ended, err);
     }
     let ended = search_asked(
         rt,
+        clock,
         alloc,
         disk,
         texts,

@@ -50,6 +50,7 @@ type Plain<T, S> = WalkDirGeneric<KeptStates, Arc<S>, NoProcess, Global, Crew<T>
 /// Begins a walk that a crew may read for, and prints what is found by it.
 fn print_begun<
     T: Wait + Threads + Clock + Drop + Send + Sync + 'static,
+    K: Clock,
     C: ClientState + Send + 'static,
     S: FileSystem + Send + Sync + 'static,
     P: ProcessReadDir<C, Global> + Send + Sync + 'static,
@@ -58,7 +59,7 @@ fn print_begun<
 >(
     walk: WalkDirGeneric<C, S, P, Global, Crew<T>>,
     printer: &mut Printer<'_, SoughtTest<'_>>,
-    clock: &T,
+    clock: &K,
     out: &mut W,
     err: &mut E,
 ) -> Result<bool, Halt>
@@ -80,6 +81,7 @@ where
 /// Begins a walk that honours these rules, and prints what is found by it.
 fn search_walk<
     T: Wait + Threads + Clock + Clone + Drop + Send + Sync + 'static,
+    K: Clock,
     S: FileSystem + Send + Sync + 'static,
     X: Texts + Send + Sync + 'static,
     W: Write,
@@ -88,7 +90,7 @@ fn search_walk<
     walk: Plain<T, S>,
     rules: KeptRules<X>,
     printer: &mut Printer<'_, SoughtTest<'_>>,
-    clock: &T,
+    clock: &K,
     out: &mut W,
     err: &mut E,
 ) -> Result<bool, Halt>
@@ -108,8 +110,8 @@ fn search_walk<
 
 /// What is asked for, and what it is looked for in.
 #[derive(Drop)]
-pub(crate) struct Search<'a, 'w, T: Drop, S: FileSystem, X: Texts> {
-    pub(crate) clock: &'a T,
+pub(crate) struct Search<'a, 'w, T: Drop, K: Clock, S: FileSystem, X: Texts> {
+    pub(crate) clock: &'a K,
     pub(crate) asked: &'a Asked<'w>,
     pub(crate) disk: Arc<S>,
     pub(crate) texts: Arc<X>,
@@ -120,9 +122,10 @@ impl<
     'a,
     'w,
     T: Wait + Threads + Clock + Clone + Drop + Send + Sync + 'static,
+    K: Clock,
     S: FileSystem + Send + Sync + 'static,
     X: Texts + Send + Sync + 'static,
-> Search<'a, 'w, T, S, X> {
+> Search<'a, 'w, T, K, S, X> {
     /// Returns what is asked of the walks.
     fn options(&self) -> WalkOptions
         ensures { result ≡ walk_options self.now.asked.now }

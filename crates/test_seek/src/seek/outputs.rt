@@ -1,8 +1,32 @@
 //! Outputs that end a run.
 use crate::seek::output::Output;
-use crate::seek::runs::{TREE, all_come, called, comes_over_tree};
+use crate::seek::runs::{TREE, all_come, called, called_by, comes_over_tree};
+use jwalk_ignore::memory_texts::MemoryTexts;
 use std::alloc::{AllocError, Global};
+use std::io;
+use std::io::ErrorKind;
+use std::sync::atomic::{AtomicU64, Ordering};
+use std::time::{Clock, Duration};
 use test_fixtures::host::Host;
+use walk_text::tree::build_tree;
+
+/// A clock on which `step` milliseconds pass between two readings.
+#[derive(Drop)]
+struct Ticking {
+    step: u64,
+    readings: AtomicU64,
+}
+
+impl Clock for Ticking {
+    fn monotonic(&self) -> io::Result<Duration> {
+        let before = self.readings.fetch_add(1, Ordering::SeqCst);
+        Ok(Duration::from_millis(before.wrapping_mul(self.step)))
+    }
+
+    fn since_1970(&self) -> io::Result<Duration> {
+        Err(io::Error::from(ErrorKind::Unsupported))
+    }
+}
 
 /// The lines of a directory of that many files.
 fn files(alloc: Global, count: u64) -> Result<String, AllocError> {
@@ -101,4 +125,32 @@ fn each_line_is_written_at_once_to_a_terminal(rt: HostRuntime) {
         );
         assert_eq!(rt; out.written(), want.as_bytes());
     }
+}
+
+/// Whether the first write has these lines, where `step` milliseconds pass between two answers.
+fn writes_first(rt: &impl Host, step: u64, want: &str) -> bool {
+    let lines = "d /r\nf 1 /r/a\nf 1 /r/b\nf 1 /r/c\nf 1 /r/d\n";
+    let clock = Ticking {
+        step,
+        readings: AtomicU64::new(0),
+    };
+    let mut out = Output::taking(rt.alloc(), 1);
+    let mut err = Output::new(rt.alloc());
+    let words: &[&str] = &[".", "/r"];
+    let texts = MemoryTexts::new(rt.alloc());
+    let Ok(disk) = build_tree(rt.alloc(), lines.as_bytes()) else {
+        return false;
+    };
+    called_by(
+        rt, &clock, disk, texts, "-j1", words, false, &mut out, &mut err,
+    );
+    out.written() == want.as_bytes()
+}
+
+#[test]
+fn gathered_lines_are_written_a_tenth_of_a_second_after_the_oldest(rt: HostRuntime) {
+    assert!(rt; writes_first(&rt, 100, "/r/a\n/r/b\n"));
+    assert!(rt; writes_first(&rt, 50, "/r/a\n/r/b\n/r/c\n"));
+    assert!(rt; writes_first(&rt, 49, "/r/a\n/r/b\n/r/c\n/r/d\n"));
+    assert!(rt; writes_first(&rt, 10, "/r/a\n/r/b\n/r/c\n/r/d\n"));
 }

@@ -6,6 +6,7 @@ use jwalk_ignore::texts::Texts;
 use seek_search::run::run;
 use std::alloc::{AllocError, Global};
 use std::process::Abort;
+use std::time::Clock;
 use test_fixtures::host::Host;
 use walk_text::tree::build_tree;
 
@@ -42,9 +43,11 @@ fn texts_of(alloc: Global, files: &[RulesFile<'_>]) -> Result<MemoryTexts, Alloc
     Ok(texts)
 }
 
-/// Runs a call over a disk, whose output is a terminal or not, and returns the status. 255 if memory runs out before.
-pub(crate) fn called_on<S: FileSystem + Send + Sync + 'static, X: Texts + Send + Sync + 'static>(
+/// Runs a call over a disk, by a clock, whose output is a terminal or not, and returns the status. 255 if memory runs out
+/// before.
+pub(crate) fn called_by<S: FileSystem + Send + Sync + 'static, X: Texts + Send + Sync + 'static>(
     rt: &impl Host,
+    clock: &impl Clock,
     disk: S,
     texts: X,
     threads: &str,
@@ -56,6 +59,7 @@ pub(crate) fn called_on<S: FileSystem + Send + Sync + 'static, X: Texts + Send +
     match words_of(rt.alloc(), threads, words) {
         Ok(words) => run(
             rt,
+            clock,
             rt.alloc(),
             disk,
             texts,
@@ -66,6 +70,20 @@ pub(crate) fn called_on<S: FileSystem + Send + Sync + 'static, X: Texts + Send +
         ),
         Err(AllocError) => 255,
     }
+}
+
+/// The same by the runtime's clock.
+pub(crate) fn called_on<S: FileSystem + Send + Sync + 'static, X: Texts + Send + Sync + 'static>(
+    rt: &impl Host,
+    disk: S,
+    texts: X,
+    threads: &str,
+    words: &[&str],
+    on_terminal: bool,
+    out: &mut Output,
+    err: &mut Output,
+) -> u8 {
+    called_by(rt, rt, disk, texts, threads, words, on_terminal, out, err)
 }
 
 /// Runs a call over the tree of these lines and files of rules, whose output is a terminal or not, and returns the

@@ -5,7 +5,7 @@ use Rattle.seek_words.specs.Filter.{sought_of}
 use Rattle.seek_words.specs.Lines.{style_of, gathered_of}
 use Rattle.seek_found.specs.Found.{found_line}
 use Rattle.seek_found.specs.Limit.{left_after}
-use Rattle.seek_found.proofs.FoundFacts.{none_found, one_found, enough_found, all_found}
+use Rattle.seek_found.proofs.FoundFacts.{appends_nothing, none_found, one_found, enough_found, all_found}
 use Rattle.seek_found.proofs.found.print_found.Goals as goal
 
 pub loop-answers-init : goal.loop-answers-init
@@ -24,10 +24,12 @@ loop-answers-preserved g c =
     let held = c.loop-answers.invariant in
     let on = c.in-Some.ensures.goes.on held.ends in
     let old = append_known (g.W.Write.contents c.loop-answers.out) (gathered_of c.loop-answers.printer.lines) in
-    let new = append_known (g.W.Write.contents c.print.new.out) (gathered_of c.print.new.self.lines) in
+    let mid = append_known (g.W.Write.contents c.print.new.out) (gathered_of c.print.new.self.lines) in
+    let new = append_known (g.W.Write.contents c.write_old.new.out) (gathered_of c.write_old.new.self) in
     let answer = item c.in-Some.answer in
     let sought = sought_of g.T.NameTest.takes c.args.printer.now.filter in
-    let printed = subst (λ s. Appends old new (found_line s (style_of c.loop-answers.printer.lines) answer)) held.sought c.in_ok-clean.ensures.printed in
+    let found = subst (λ s. Appends old mid (found_line s (style_of c.loop-answers.printer.lines) answer)) held.sought c.in_ok-clean.ensures.printed in
+    let printed = subst (λ s. Appends old mid (found_line sought s answer)) held.style found in
     record {
       can = on.0;
       ends = on.1;
@@ -35,10 +37,10 @@ loop-answers-preserved g c =
           c.loop-answers.answers c.next.new.self c.loop-answers.printer.left c.print.new.self.left
           (append_known (g.W.Write.contents c.args.out.now) (gathered_of c.args.printer.now.lines)) old new
           c.loop-answers.clean c.in_ok-clean.field-0 c.in-Some.answer held.so_far (c.is_full.ensures.room c.loop-answers-test.true) c.in-Some.ensures.steps
-          (subst (λ s. Appends old new (found_line sought s answer)) held.style printed)
+          (appends_nothing old mid new (found_line sought (style_of c.args.printer.now.lines) answer) printed c.in_ok-write_old.ensures.kept)
           (subst (λ s. c.print.new.self.left ≡ left_after s c.loop-answers.printer.left (answer ∷ [])) held.sought c.in_ok-clean.ensures.left) c.in_ok-clean.ensures.clean;
       sought = c.print.ensures.sought ∙ held.sought;
-      style = c.print.ensures.style ∙ held.style;
+      style = c.write_old.ensures.style ∙ (c.print.ensures.style ∙ held.style);
     }
 
 pub returns-clause-printed : goal.returns-clause-printed
