@@ -44,7 +44,7 @@ impl<'s> PatternTest<'s> {
     }
 }
 
-#[tactic(auto, using(crate::proofs::TestFacts::kept, crate::proofs::TestFacts::one_passed, crate::proofs::TestFacts::one_failed, crate::proofs::TestFacts::all_passed))]
+#[tactic(auto, using(crate::proofs::TestFacts::all_passed))]
 /// Returns whether a text passes each of these tests.
 pub fn all_pass(tests: &mut [PatternTest<'_>], text: &str, is_dir: bool) -> bool
     ensures answer { result ≡ list_all (λ takes. takes text.now is_dir) (map takes_of tests.old) }

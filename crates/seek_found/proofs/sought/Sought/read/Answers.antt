@@ -8,7 +8,7 @@ use Rattle.seek_found.proofs.sought.Sought.read.Goals as goal
 
 pub returns-in_err-first-clause-rejected : goal.returns-in_err-first-clause-rejected
 returns-in_err-first-clause-rejected c =
-    returned (IsBadFor c.args.asked.now) c.from_residual-in_err-first.result c.in_err-first.field-0.0 c.from_residual-in_err-first.ensures.1 (inl c.in_err-first.ensures.rejected)
+    returned (IsBadFor c.args.asked.now) c.from_residual.result c.in_err-first.field-0.0 c.from_residual.ensures.1 (inl c.in_err-first.ensures.rejected)
 
 pub returns-in_err-others-clause-rejected : goal.returns-in_err-others-clause-rejected
 returns-in_err-others-clause-rejected c =
