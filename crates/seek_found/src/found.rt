@@ -15,7 +15,7 @@ use seek_words::name_test::NameTest;
 use std::alloc::Allocator;
 use std::io::Write;
 
-/// Prints what passes of a walk's answers, up to the limit, and reports the errors. Returns whether there was none.
+/// Prints those of a walk's answers that pass, up to the limit, and reports the errors. Returns whether there was none.
 ///
 /// # Errors
 ///
