@@ -1,6 +1,6 @@
 //! The ordered queue and the board at work, and the same work on the standard library's heap alone, to be timed from
-//! outside: `test_bench_order PART SHAPE COUNT ..`. Each three words are a job, and it prints a line for each: the words,
-//! and a digest of the addresses in the order in which they came.
+//! outside: `test_bench_order PART SHAPE COUNT ..`. Each three words are a job. The program prints a line for each job:
+//! the words, and a digest of the addresses in their order.
 #![tactic(auto)]
 
 mod digest;
