@@ -1,6 +1,7 @@
 //! Rows of trees.
 use crate::ignore::tree_rows::TreeRow;
 
+/// Trees, with what is kept of each.
 const ROWS: &[TreeRow] = &[
     (
         ".gitignore=*sub/**|\nc.o\nk.o/\nk.o/.gitignore=!k.o[!a]|\nk.o/.h\nk.o/b/\nk.o/b/b\nsub/\nsub/a",
@@ -186,7 +187,7 @@ const ROWS: &[TreeRow] = &[
     ),
 ];
 
-/// A function, so that the table isn't in the proofs of its callers.
+/// Returns them. What calls this has none of the table in its own proof.
 pub(crate) fn rows() -> &'static [TreeRow] {
     ROWS
 }

@@ -1,6 +1,7 @@
 //! Rows of trees.
 use crate::ignore::tree_rows::TreeRow;
 
+/// Trees, with what is kept of each.
 const ROWS: &[TreeRow] = &[
     (
         ".git/info/exclude=[!a]\\a|!k.o|subsub?|\n.gitignore=?sub|sub|\n.h\nab/\nab/sub\nb",
@@ -180,7 +181,7 @@ const ROWS: &[TreeRow] = &[
     ),
 ];
 
-/// A function, so that the table isn't in the proofs of its callers.
+/// Returns them. What calls this has none of the table in its own proof.
 pub(crate) fn rows() -> &'static [TreeRow] {
     ROWS
 }
