@@ -1,4 +1,4 @@
--- What is printed of answers, one list after another.
+-- The text that is printed for answers, one list after another.
 use Rattle.std.proofs.Common.{◌≡◌, ◌∙◌, ℕ, ◌&&◌, List, [], ◌∷◌, ◌++◌, Option, None, Some, append-nil, ap, ap₂, refl, subst, sym}
 use Rattle.std.specs.List.{list_all}
 use Rattle.std.specs.Io.KnownBytes.{Appends, append_known}
@@ -9,7 +9,7 @@ use Rattle.seek_words.specs.declared.paths.Style.{Style}
 use Rattle.seek_found.specs.Found.{found_line, found_lines, is_clean, PrintsClean}
 use Rattle.seek_found.proofs.FoundFacts.{appends_then, appends_none, and_and}
 
--- what was gathered is written at the end
+-- gathered lines are written at the end
 pub rest_written : (old mid new : Option (List ℕ)) (gathered text : List ℕ) → Appends old (append_known mid gathered) text → Appends mid new gathered → Appends old new text
 rest_written None mid new gathered text first rest = tt
 rest_written (Some ws) None new gathered text first rest = absurd first
@@ -32,7 +32,7 @@ module _ {R E : Type 0} (sought : Sought) (style : Style) where
   pub clean_none : (old : Option (List ℕ)) → PrintsClean {R = R} {E = E} [] sought style old old
   clean_none old = record { lines = appends_none old; clean = refl }
 
-  -- answers behind others
+  -- answers after others
   pub clean_then : (xs ys : List (Item R E)) (a b c : Option (List ℕ)) → PrintsClean xs sought style a b → PrintsClean ys sought style b c → PrintsClean (xs ++ ys) sought style a c
   clean_then xs ys a b c first second = record {
     lines = rw (flat_map-append (found_line sought style) xs ys) (appends_then a b c (found_lines sought style xs) (found_lines sought style ys) first.lines second.lines);

@@ -24,7 +24,7 @@ at_most_two (suc zero) most = inr (inl refl)
 at_most_two (suc (suc zero)) most = inr (inr refl)
 at_most_two (suc (suc (suc n))) most = absurd (omega (arith, most))
 
--- words that are refused end with the refusal's status, or with 1 where a text can't be written
+-- refused words end with the refusal's status, or with 1 if a text can't be written
 pub refused_ends : (words : List (List ℕ)) (refusal : Refusal) (status : ℕ) → IsRefusedFor words refusal
     → (0 < status_for refusal → status ≡ status_for refusal) → (status_for refusal ≡ 0 → status ≤ 1) → Ends words status
 refused_ends words refusal status refused told text =
@@ -34,7 +34,7 @@ refused_ends words refusal status refused told text =
       | inr (inr two) ↦ inl (inl (refusal, refused, two), told (omega (arith, two)) ∙ two)
     ]
 
--- only a text ends with 0 among what is refused
+-- of the refusals, only a text ends with 0
 pub text_asked : (words : List (List ℕ)) (refusal : Refusal) (status : ℕ) → IsRefusedFor words refusal → (0 < status_for refusal → status ≡ status_for refusal) → status ≡ 0 → AskForText words
 text_asked words refusal status refused told is =
     elim (at_most_two (status_for refusal) (refusal_most refusal)) [
@@ -43,7 +43,7 @@ text_asked words refusal status refused told is =
       | inr (inr two) ↦ absurd (omega (arith, is, two, told (omega (arith, two))))
     ]
 
--- a pattern that is rejected ends with its status
+-- a rejected pattern ends with its status
 pub rejected_ends : (words : List (List ℕ)) (asked : Asked) → AskFor words asked → (why : BadPattern) → IsBadFor asked why → (status : ℕ) → status ≡ status_of why → Ends words status
 rejected_ends words asked ask (bad.Expression pattern error) is status told = inl (inr (asked, ask, bad.Expression pattern error, is, refl), told)
 rejected_ends words asked ask (bad.Glob pattern) is status told = inl (inr (asked, ask, bad.Glob pattern, is, refl), told)

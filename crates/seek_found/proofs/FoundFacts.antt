@@ -1,4 +1,4 @@
--- What is printed of calls, one after another.
+-- The text that is printed for calls, one after another.
 use Rattle.std.proofs.Common.{◌≡◌, ◌≢◌, ◌∙◌, ℕ, Bool, true, false, ◌&&◌, List, [], ◌∷◌, ◌++◌, Option, Some, None, Result, map, append_assoc, append-nil, inl, inr, sym, ap, refl, subst}
 use Rattle.std.proofs.lemmas.List.{map-append}
 use Rattle.std.specs.Iterator.{Yields}
@@ -14,7 +14,7 @@ use Rattle.seek_found.specs.Found.{found_line, found_lines, is_clean, PrintsFoun
 use Rattle.seek_found.specs.Limit.{left_after, up_to}
 use Rattle.seek_found.proofs.LimitFacts.{left_as_before, left_then, more_within, up_to_none}
 
--- one text is written and then another
+-- one text is written, and then another
 pub appends_then : (a b c : Option (List ℕ)) (xs ys : List ℕ) → Appends a b xs → Appends b c ys → Appends a c (xs ++ ys)
 appends_then None b c xs ys first second = tt
 appends_then (Some ws) None c xs ys first second = absurd first
@@ -48,13 +48,14 @@ module _ {R E X : Type 0} (view : X → Item R E) where
   clean_more [] x = and_true (is_clean (view x))
   clean_more (y ∷ xs) x = ap (λ b. is_clean (view y) && b) (clean_more xs x) ∙ sym (and_and (is_clean (view y)) (list_all is_clean (map view xs)) (is_clean (view x)))
 
--- calls that go on with one more
+-- one more call
 one_called : {S X : Type 0} (steps : S → Option X → S → Type 0) (xs : List X) (x : X) (s t u : S) → Yields steps s xs t → steps t (Some x) u → Yields steps s (xs ++ x ∷ []) u
 one_called steps [] x s t u same last = (u, subst (λ k. steps k (Some x) u) (sym same) last, refl)
 one_called steps (y ∷ xs) x s t u (j, first, more) last = (j, first, one_called steps xs x j t u more last)
 
 module _ {S C A R E : Type 0} (steps : S → Option (Result (DirEntry C A R E) (Error A)) → S → Type 0) (start : S) (sought : Sought) (style : Style) (left : Option ℕ) where
-  -- Calls yielded these so far, and none is beyond the limit. What is looked for of them is printed, and it is known whether all are clean.
+  -- Calls yielded these so far, and none is beyond the limit. The lines of those that are looked for are printed, and
+  -- `clean` says whether all are clean.
   pub record FoundSoFar (now : S) (left' : Option ℕ) (old new : Option (List ℕ)) (clean : Bool) : Type 0 where
     pub answered : List (Result (DirEntry C A R E) (Error A))
     pub calls : Yields steps start answered now
@@ -99,7 +100,7 @@ module _ {S C A R E : Type 0} (steps : S → Option (Result (DirEntry C A R E) (
     all = so_far.all;
   }
 
-  -- no call more, where the limit is reached
+  -- no further call, if the limit is reached
   pub enough_found : (now : S) (left' : Option ℕ) (old new : Option (List ℕ)) (clean : Bool) → FoundSoFar now left' old new clean → left' ≡ Some 0 → PrintsFound steps start sought style left left' old new clean
   enough_found now left' old new clean so_far full = record {
     answered = so_far.answered;

@@ -7,7 +7,7 @@ use Rattle.jwalk_ignore_rules.specs.Rules.{LastMatch, Says}
 use Rattle.jwalk_ignore_rules.specs.declared.rules.decision.Decision.TheVariants.{Unsaid}
 use Rattle.jwalk_ignore_rules.proofs.MatchingFacts.{says_computed}
 
--- what is said tells whether it matches
+-- the decision says whether the pattern matches
 said_match : (keeps m : Bool) → decision_of keeps ≡ (if m then decision_of keeps else Unsaid) → m ≡ true
 said_match keeps true is = refl
 said_match true false is = absurd (cc)
@@ -23,7 +23,7 @@ module _ (p : Pattern) (path : List ℕ) (is_dir : Bool) where
   says_match true last = last
   says_match false last = last
 
-  -- the answer of a call is what is computed
+  -- the answer of a call is the computed one
   pub matches_computed : (b : Bool) → (IsTrue b ↔ Matches p path is_dir) → b ≡ matches p path is_dir
   matches_computed true told =
       sym (said_match p.keeps (matches p path is_dir)

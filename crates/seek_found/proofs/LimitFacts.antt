@@ -10,7 +10,7 @@ left_none : (R E : Type 0) (sought : Sought) (n : ℕ) → left_of {R = R} {E = 
 left_none R E sought zero = refl
 left_none R E sought (suc n) = refl
 
--- no answers leave a limit as it is
+-- no answers leave a limit unchanged
 pub left_as_before : (R E : Type 0) (sought : Sought) (left : Option ℕ) → left_after {R = R} {E = E} sought left [] ≡ left
 left_as_before R E sought None = refl
 left_as_before R E sought (Some n) = ap Some (left_none R E sought n)
@@ -20,7 +20,7 @@ module _ {R E : Type 0} (sought : Sought) where
   first_none zero = refl
   first_none (suc n) = refl
 
-  -- where none of the first answers is beyond the limit, the others are limited by what is left
+  -- if none of the first answers is beyond the limit, the rest of it limits the others
   first_more : (xs ys : List (Item R E)) (n : ℕ) → first_of sought n xs ≡ xs → first_of sought n (xs ++ ys) ≡ xs ++ first_of sought (left_of sought n xs) ys
   first_more [] ys zero within = refl
   first_more [] ys (suc n) within = refl
@@ -40,17 +40,17 @@ module _ {R E : Type 0} (sought : Sought) where
   first_then [] ys (suc n) = refl
   first_then (x ∷ xs) ys (suc n) = ap (λ l. x ∷ l) (first_then xs ys (if is_hit sought x then n else suc n))
 
-  -- what is left after answers and then others
+  -- the rest of a limit after answers and then others
   pub left_then : (left : Option ℕ) (xs ys : List (Item R E)) → left_after sought left (xs ++ ys) ≡ left_after sought (left_after sought left xs) ys
   left_then None xs ys = refl
   left_then (Some n) xs ys = ap Some (left_more xs ys n)
 
-  -- the answers up to a limit, and then others up to what is left of it
+  -- the answers up to a limit, and then others up to the rest of it
   pub up_to_then : (left : Option ℕ) (xs ys : List (Item R E)) → up_to sought left (xs ++ ys) ≡ up_to sought left xs ++ up_to sought (left_after sought left (up_to sought left xs)) ys
   up_to_then None xs ys = refl
   up_to_then (Some n) xs ys = first_then xs ys n
 
-  -- the same, where none of the first is beyond it
+  -- the same, if none of the first is beyond it
   pub up_to_more : (left : Option ℕ) (xs ys : List (Item R E)) → up_to sought left xs ≡ xs → up_to sought left (xs ++ ys) ≡ xs ++ up_to sought (left_after sought left xs) ys
   up_to_more None xs ys within = refl
   up_to_more (Some n) xs ys within = first_more xs ys n within
@@ -60,7 +60,7 @@ module _ {R E : Type 0} (sought : Sought) where
   up_to_none None = refl
   up_to_none (Some n) = first_none n
 
-  -- nor is one more, where the limit isn't reached
+  -- nor is one more, if the limit isn't reached
   one_within : (left : Option ℕ) (x : Item R E) → left ≢ Some 0 → up_to sought left (x ∷ []) ≡ x ∷ []
   one_within None x lasts = refl
   one_within (Some zero) x lasts = absurd (lasts refl)
@@ -69,11 +69,11 @@ module _ {R E : Type 0} (sought : Sought) where
   pub more_within : (left : Option ℕ) (xs : List (Item R E)) (x : Item R E) → up_to sought left xs ≡ xs → left_after sought left xs ≢ Some 0 → up_to sought left (xs ++ x ∷ []) ≡ xs ++ x ∷ []
   more_within left xs x within lasts = up_to_more left xs (x ∷ []) within ∙ ap (λ l. xs ++ l) (one_within (left_after sought left xs) x lasts)
 
-  -- nothing is left where the limit is reached
+  -- nothing is left if the limit is reached
   pub up_to_full : (left : Option ℕ) (ys : List (Item R E)) → left ≡ Some 0 → up_to sought left ys ≡ []
   up_to_full left ys full = rw full refl
 
-  -- one answer takes one of it, if it is found
+  -- an answer that is found takes one of it
   pub left_one : (left : Option ℕ) (x : Item R E) → left_after sought left (x ∷ []) ≡ (if is_hit sought x then one_less left else left)
   left_one None x = elim (is_hit sought x) as (λ b. ◌≡◌ {A = Option ℕ} None (if b then None else None)) [ true ↦ refl | false ↦ refl ]
   left_one (Some zero) x = elim (is_hit sought x) as (λ b. ◌≡◌ {A = Option ℕ} (Some 0) (if b then Some (0 - 1) else Some 0)) [ true ↦ refl | false ↦ refl ]
@@ -81,7 +81,7 @@ module _ {R E : Type 0} (sought : Sought) where
       ap Some (left_none R E sought (if is_hit sought x then n else suc n))
       ∙ elim (is_hit sought x) as (λ b. ◌≡◌ {A = Option ℕ} (Some (if b then n else suc n)) (if b then Some (suc n - 1) else Some (suc n))) [ true ↦ (let one : n ≡ suc n - 1 = omega arith in ap Some one) | false ↦ refl ]
 
-  -- where nothing of one is left, one is found
+  -- if nothing of a limit of one is left, one is found
   pub one_found_among : (xs : List (Item R E)) → left_of sought 1 xs ≡ 0 → list_any (is_hit sought) xs ≡ true
   one_found_among [] none = absurd (let no : 1 ≡ 0 = none in omega (arith, no))
   one_found_among (x ∷ xs) none =
@@ -90,12 +90,12 @@ module _ {R E : Type 0} (sought : Sought) where
         | false ↦ one_found_among xs
       ] none
 
--- where there is no limit, none is reached
+-- without a limit, none is reached
 pub never_full : {R E : Type 0} (sought : Sought) (xs : List (Item R E)) {left left' : Option ℕ} → left ≡ None → left' ≡ left_after sought left xs → left' ≡ Some 0 → ⊥
 never_full sought xs {left} {left'} none limit full =
     let no : ◌≡◌ {A = Option ℕ} None (Some 0) = sym (limit ∙ ap (λ l. left_after sought l xs) none) ∙ full in absurd (cc)
 
--- where one may be found, and no more after these answers, one of them is found
+-- if one may be found, and no further one after these answers, one of them is found
 pub one_of_one : {R E : Type 0} (sought : Sought) (xs : List (Item R E)) {left left' : Option ℕ} → left ≡ Some 1 → left' ≡ left_after sought left xs → left' ≡ Some 0 → list_any (is_hit sought) xs ≡ true
 one_of_one sought xs {left} {left'} one limit full =
     let after : Some (left_of sought 1 xs) ≡ Some 0 = sym (limit ∙ ap (λ l. left_after sought l xs) one) ∙ full in

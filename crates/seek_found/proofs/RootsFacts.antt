@@ -1,4 +1,4 @@
--- What is printed of the answers below roots, one root after another.
+-- The text that is printed for the answers below roots, one root after another.
 use Rattle.std.proofs.Common.{◌≡◌, ◌≢◌, ◌⊎◌, ◌∙◌, ℕ, Bool, true, ◌&&◌, List, [], ◌∷◌, ◌++◌, map, Option, Some, Result, append_assoc, append-nil, inl, inr, ap, ap₂, refl, subst, sym}
 use Rattle.std.specs.List.{list_all}
 use Rattle.std.specs.Io.KnownBytes.{Appends, append_known}
@@ -20,7 +20,7 @@ use Rattle.seek_found.proofs.LimitFacts.{left_as_before, left_then, up_to_more, 
 use Rattle.seek_found.proofs.WholeFacts.{all_clean, same_after, same_lines, same_up_to}
 
 module _ {sought : Sought} {style : Style} {left left' : Option ℕ} {old new : Option (List ℕ)} {clean : Bool} where
-  -- answers of which more is known
+  -- answers with further facts
   pub printed_such : {are be : List (Item Worth Worth) → Type 0} → ((xs : List (Item Worth Worth)) → are xs → be xs) → PrintsSuch are sought style left left' old new clean → PrintsSuch be sought style left left' old new clean
   printed_such more printed = record {
     answers = printed.answers;
@@ -31,13 +31,13 @@ module _ {sought : Sought} {style : Style} {left left' : Option ℕ} {old new : 
     all = printed.all;
   }
 
-  -- the same, as what is looked for is known otherwise
+  -- the same, with other facts of what is looked for
   pub such_printed_by : {are : List (Item Worth Worth) → Type 0} {sought' : Sought} {style' : Style} {left'' : Option ℕ} → sought ≡ sought' → style ≡ style' → left ≡ left'' → PrintsSuch are sought style left left' old new clean → PrintsSuch are sought' style' left'' left' old new clean
   such_printed_by {are} {sought'} {style'} sought_is style_is left_is printed =
       subst (λ (l : Option ℕ). PrintsSuch are sought' style' l left' old new clean) left_is
       (subst (λ (s : Style). PrintsSuch are sought' s left left' old new clean) style_is (subst (λ (s : Sought). PrintsSuch are s style left left' old new clean) sought_is printed))
 
--- what is printed of answers is printed of what they count as
+-- the text that is printed for answers is printed for what they count as
 pub counted_printed : {C A R E : Type 0} (given : Given R E) (are : List (Item Worth Worth) → Type 0) (sought : Sought) (style : Style) (left left' : Option ℕ) (old new : Option (List ℕ)) (clean : Bool) (xs : List (Result (DirEntry C A R E) (Error A)))
     → are (counted_list given xs) → up_to sought left (map item xs) ≡ map item xs → left' ≡ left_after sought left (map item xs) → Appends old new (found_lines sought style (map item xs)) → clean ≡ list_all is_clean (map item xs) → PrintsSuch are sought style left left' old new clean
 counted_printed given are sought style left left' old new clean xs such within limit lines all = record {
@@ -49,7 +49,7 @@ counted_printed given are sought style left left' old new clean xs such within l
   all = all ∙ sym (all_clean given (map item xs));
 }
 
--- lines that are gathered first and written last
+-- gathered lines that are written at the end
 pub such_written_last : {are : List (Item Worth Worth) → Type 0} {sought : Sought} {style : Style} {left left' : Option ℕ} {clean : Bool} (old mid new : Option (List ℕ)) (none last : List ℕ) → none ≡ []
     → PrintsSuch are sought style left left' (append_known old none) (append_known mid last) clean → Appends mid new last → PrintsSuch are sought style left left' old new clean
 such_written_last {sought} {style} old mid new none last empty printed rest = record {
@@ -61,21 +61,21 @@ such_written_last {sought} {style} old mid new none last empty printed rest = re
   all = printed.all;
 }
 
--- where the search may not stop, all answers are there
+-- if the search may not stop, all answers are there
 all_there : (below : Below) (may_stop : Type 0) (roots : List (List ℕ)) (xs : List (Item Worth Worth)) → ¬ may_stop → AreBelow below may_stop roots xs → AreBelow below ⊥ roots xs
 all_there below may_stop [] xs on are = are
 all_there below may_stop (root ∷ roots) xs on (inl (first, (rest, own, more, is))) = inl (first, (rest, own, all_there below may_stop roots rest on more, is))
 all_there below may_stop (root ∷ roots) xs on (inr (stops, last)) = absurd (on stops)
 
 module _ (below : Below) (may_stop : Type 0) where
-  -- all answers below roots, and then those below others
+  -- all answers below roots, and then those below other roots
   more_roots : (roots others : List (List ℕ)) (xs ys : List (Item Worth Worth)) → AreBelow below ⊥ roots xs → AreBelow below may_stop others ys → AreBelow below may_stop (roots ++ others) (xs ++ ys)
   more_roots [] others xs ys none more = subst (λ l. AreBelow below may_stop others (l ++ ys)) (sym none) more
   more_roots (root ∷ roots) others xs ys (inl (first, (rest, own, so_far, is))) more =
       inl (first, (rest ++ ys, own, more_roots roots others rest ys so_far more, ap (λ l. l ++ ys) is ∙ append_assoc first rest ys))
   more_roots (root ∷ roots) others xs ys (inr (stops, last)) more = absurd stops
 
-  -- where it stopped, others aren't searched
+  -- if the search stopped, other roots aren't searched
   stopped : (roots others : List (List ℕ)) (xs : List (Item Worth Worth)) → may_stop → AreBelow below may_stop roots xs → AreBelow below may_stop (roots ++ others) xs
   stopped [] [] xs stops are = are
   stopped [] (other ∷ others) xs stops are = inr (stops, inl are)
@@ -87,7 +87,7 @@ module _ (below : Below) (may_stop : Type 0) where
   one_root root xs (inl own) = inl (xs, ([], own, refl, sym (append-nil xs)))
   one_root root xs (inr (stops, own)) = inr (stops, inr own)
 
-  -- nothing is printed of no roots
+  -- nothing is printed for no roots
   pub no_roots_printed : (sought : Sought) (style : Style) (left : Option ℕ) (old : Option (List ℕ)) → PrintsSuch (AreBelow below may_stop []) sought style left left old old true
   no_roots_printed sought style left old = record {
     answers = [];
@@ -98,12 +98,12 @@ module _ (below : Below) (may_stop : Type 0) where
     all = refl;
   }
 
-  -- what is printed of roots, if the search stops there
+  -- the text that is printed for roots, if the search stops there
   pub roots_stopped : {sought : Sought} {style : Style} {left left' : Option ℕ} {old new : Option (List ℕ)} {clean : Bool} (roots others : List (List ℕ)) → may_stop
       → PrintsSuch (AreBelow below may_stop roots) sought style left left' old new clean → PrintsSuch (AreBelow below may_stop (roots ++ others)) sought style left left' old new clean
   roots_stopped roots others stops printed = printed_such (λ xs. stopped roots others xs stops) printed
 
-  -- what is printed of roots, and then of others
+  -- the text that is printed for roots, and then for other roots
   pub roots_printed : {stops : Type 0} {sought sought' : Sought} {style style' : Style} (roots others : List (List ℕ)) (left mid left' : Option ℕ) (a b c : Option (List ℕ)) (clean more : Bool) → ¬ stops → sought' ≡ sought → style' ≡ style
       → PrintsSuch (AreBelow below stops roots) sought style left mid a b clean → PrintsSuch (AreBelow below may_stop others) sought' style' mid left' b c more → PrintsSuch (AreBelow below may_stop (roots ++ others)) sought style left left' a c (clean && more)
   roots_printed {stops} {sought} {style} roots others left mid left' a b c clean more on sought_is style_is before after =
@@ -118,7 +118,7 @@ module _ (below : Below) (may_stop : Type 0) where
         all = ap₂ (λ p q. p && q) before.all rest.all ∙ sym (all_seam sought style before.answers rest.answers);
       }
 
--- a search that may stop may do so for a weaker cause
+-- a search that may stop may also stop for a weaker cause
 pub may_stop_sooner : (below : Below) (may_stop other : Type 0) → (may_stop → other) → ((root : List ℕ) (xs : List (Item Worth Worth)) → below may_stop root xs → below other root xs)
     → (roots : List (List ℕ)) (xs : List (Item Worth Worth)) → AreBelow below may_stop roots xs → AreBelow below other roots xs
 may_stop_sooner below may_stop other more each [] xs are = are

@@ -29,11 +29,11 @@ next_pattern asked texts i d patterns pattern below so_far one =
     (sym (ap texts_of (take_more texts i d below) ∙ map-append (λ it. it.now) (take i texts) (get_or texts i d ∷ [])))
     (more_patterns asked (texts_of (take i texts)) patterns (get_or texts i d).now pattern so_far one)
 
--- a pattern that is rejected is one of them
+-- a rejected pattern is one of them
 pub bad_at : (asked : Asked) (texts : List (Bor (List ℕ))) (i : ℕ) (d : Bor (List ℕ)) (bad : BadPattern) → i < length texts → IsBadPattern asked (get_or texts i d).now bad → AreBadPatterns asked (texts_of texts) bad
 bad_at asked texts i d bad below is = inr ((get_or texts i d).now, named_at texts i d below, is)
 
--- what is known of an error is known of the one that is returned
+-- the facts of an error are those of the returned one
 pub returned : {X E : Type 0} (P : E → Type 0) (result : Result X E) (e : E) → IsErrAnd result (λ it. it ≡ e) → P e → IfErr result P
 returned P (Ok x) e is known = tt
 returned P (Err it) e is known = subst P (sym is) known

@@ -7,12 +7,12 @@ use Rattle.std.proofs.lemmas.List.{get_or-map, length-map, take_all}
 use Rattle.std.proofs.lemmas.List.Folds.{list_all_at, list_all_more}
 
 module _ {X : Type 0} (takes : X → List ℕ → Bool → Bool) where
-  -- a test that takes what it took stands for the one before
+  -- a test that takes the same replaces the one before
   pub kept : (tests : List X) (i : ℕ) (next d : X) → takes next ≡ takes (get_or tests i d) → map takes (set tests i next) ≡ map takes tests
   kept tests i next d same = map-set_same takes tests i next d same
 
 module _ {X : Type 0} (takes : X → List ℕ → Bool → Bool) (text : List ℕ) (is_dir : Bool) where
-  -- one test more is passed
+  -- one more test is passed
   pub one_passed : (tests old : List X) (i : ℕ) (d : X) → i < length tests → map takes tests ≡ map takes old → list_all (λ f. f text is_dir) (take i (map takes old)) ≡ true
       → takes (get_or tests i d) text is_dir ≡ true → list_all (λ f. f text is_dir) (take (i + 1) (map takes old)) ≡ true
   one_passed tests old i d below same passed takes_it =

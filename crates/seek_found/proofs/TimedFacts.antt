@@ -1,4 +1,4 @@
--- What names are looked for, whatever times are.
+-- The names that are looked for, whatever the times are.
 use Rattle.std.proofs.Common.{ℕ, List, [], ◌∷◌}
 use Rattle.seek_words.specs.Asks.{texts_of}
 use Rattle.seek_words.specs.declared.asked.Asked.{Asked}

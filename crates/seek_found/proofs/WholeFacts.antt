@@ -1,4 +1,4 @@
--- What is printed of answers doesn't go by their states.
+-- The text that is printed for answers doesn't depend on their states.
 use Rattle.std.proofs.Common.{◌≡◌, ◌∙◌, ℕ, zero, suc, Bool, true, false, ◌&&◌, List, [], ◌∷◌, ◌++◌, Option, Some, None, Result, Ok, Err, map, is_ok, sym, ap, subst, refl}
 use Rattle.std.specs.Prelude.{if◌then◌else◌}
 use Rattle.std.specs.List.{list_all}
@@ -43,7 +43,7 @@ module _ {R E : Type 0} (given : Given R E) where
       ap (λ b. counted_item given x ∷ first_of sought (if b then n else suc n) (map (counted_item given) xs)) (same_hit sought x)
       ∙ ap (λ l. counted_item given x ∷ l) (same_first sought (if is_hit sought x then n else suc n) xs)
 
-  -- nor does what they leave of a limit
+  -- nor does the rest of a limit
   pub same_after : (sought : Sought) (left : Option ℕ) (xs : List (Item R E)) → left_after sought left (map (counted_item given) xs) ≡ left_after sought left xs
   same_after sought None xs = refl
   same_after sought (Some n) xs = ap Some (same_left sought n xs)
@@ -64,7 +64,7 @@ module _ {R E : Type 0} (given : Given R E) where
   all_clean (x ∷ xs) =
       ap (λ b. b && list_all is_clean (map (counted_item given) xs)) (same_clean x) ∙ ap (λ b. is_clean x && b) (all_clean xs)
 
-  -- what is printed of answers is printed of the whole walk that they count as
+  -- the text that is printed for answers is printed for the whole walk that they count as
   pub printed_whole : (sought : Sought) (style : Style) (old new : Option (List ℕ)) (clean : Bool) (xs : List (Item R E)) (whole : List (Item Worth Worth))
       → clean ≡ true → clean ≡ list_all is_clean xs → Appends old new (found_lines sought style xs) → map (counted_item given) xs ≡ whole
       → PrintsClean whole sought style old new

@@ -1,4 +1,4 @@
--- Why a pattern is refused.
+-- The reasons why a pattern is rejected.
 use Rattle.std.specs.Prelude.{◌≡◌, ◌≢◌, ◌⊎◌, ℕ, true, false, List, None}
 use Rattle.std.specs.List.{Contains}
 use Rattle.seek_words.specs.Asks.{texts_of}
@@ -12,33 +12,33 @@ use Rattle.seek_found.specs.NamePattern.{source_of, takes_any}
 use Rattle.seek_found.specs.declared.bad_pattern.BadPattern.{BadPattern}
 use Rattle.seek_found.specs.declared.bad_pattern.BadPattern.TheVariants.{Expression, Glob, Memory}
 
--- the status that the program ends with
+-- the status of the program
 abbrev pub status_of : BadPattern → ℕ
 status_of (Expression pattern error) = 2
 status_of (Glob pattern) = 2
 status_of Memory = 1
 
--- It is why a pattern is no glob, or memory ran out.
+-- The reason why a pattern isn't a glob, or memory ran out.
 abbrev pub IsNoGlob : Asked → List ℕ → BadPattern → Type 0
 IsNoGlob asked text (Expression pattern error) = ⊥
 IsNoGlob asked text (Glob pattern) = glob_in (is_ignored asked.case text) text ≡ None
 IsNoGlob asked text Memory = Unit {0}
 
--- It is why a pattern is no regular expression, as the grammar says where the error is one of syntax; or memory ran out.
+-- The reason why a pattern isn't a regular expression, as the grammar says for an error of syntax, or memory ran out.
 abbrev pub IsNoExpression : Asked → List ℕ → BadPattern → Type 0
 IsNoExpression asked text (Expression pattern error) = (error ≢ OutOfMemory) × IsRefusal (config_for asked.case (source_of asked text)) (source_of asked text) error
 IsNoExpression asked text (Glob pattern) = ⊥
 IsNoExpression asked text Memory = Unit {0}
 
--- It is why a pattern is rejected: as a glob or a regular expression, whichever is asked for.
+-- The reason why a pattern is rejected, as a glob or as a regular expression, whichever is asked for.
 abbrev pub IsBadPattern : Asked → List ℕ → BadPattern → Type 0
 IsBadPattern asked text bad =
     (takes_any asked text ≡ false) × (((asked.glob ≡ true) × IsNoGlob asked text bad) ⊎ ((asked.glob ≡ false) × IsNoExpression asked text bad))
 
--- It is why one of these patterns is rejected, or memory ran out.
+-- The reason why one of these patterns is rejected, or memory ran out.
 abbrev pub AreBadPatterns : Asked → List (List ℕ) → BadPattern → Type 0
 AreBadPatterns asked texts bad = (bad ≡ Memory) ⊎ ((text : List ℕ) × Contains texts text × IsBadPattern asked text bad)
 
--- It is why the pattern is rejected, or one of `--and`, or memory ran out.
+-- The reason why the pattern or one of `--and` is rejected, or memory ran out.
 abbrev pub IsBadFor : Asked → BadPattern → Type 0
 IsBadFor asked bad = IsBadPattern asked asked.pattern.now bad ⊎ AreBadPatterns asked (texts_of asked.others.items) bad

@@ -1,4 +1,4 @@
--- How a call of the program ends.
+-- The end of a call of the program.
 use Rattle.std.specs.Prelude.{◌≡◌, ◌≤◌, ◌⊎◌, ℕ, Bool, List, if◌then◌else◌}
 use Rattle.seek_words.specs.AsksFor.{AskFor, AskForText}
 use Rattle.seek_words.specs.Refusal.{AreBad}
@@ -9,28 +9,29 @@ use Rattle.seek_found.specs.declared.bad_pattern.BadPattern.{BadPattern}
 use Rattle.seek_found.specs.declared.call.Ended.{Ended}
 use Rattle.seek_found.specs.declared.sought.Sought.{Sought}
 
--- The words ask for a search, and what names are looked for is what the pattern says.
+-- The words ask for a search, and the names that are looked for are those of the patterns.
 abbrev pub AskForSearch : List (List ℕ) → Type 0
 AskForSearch words = (asked : Asked) × AskFor words asked × (sought : Sought) × IsFor asked sought
 
--- The words ask for a search by a pattern that is rejected, and not for memory.
+-- The words ask for a search by a pattern that is rejected, and not as memory ran out.
 abbrev pub HaveBadPattern : List (List ℕ) → Type 0
 HaveBadPattern words = (asked : Asked) × AskFor words asked × (bad : BadPattern) × IsBadFor asked bad × (status_of bad ≡ 2)
 
--- A call ends with 2 for bad words or a bad pattern, and with 0 or 1 where a text or a search is asked for. If memory runs out, it ends with 1.
+-- A call ends with 2 for bad words or a bad pattern, and with 0 or 1 if a text or a search is asked for. If memory runs
+-- out, it ends with 1.
 abbrev pub Ends : List (List ℕ) → ℕ → Type 0
 Ends words status =
     ((AreBad words ⊎ HaveBadPattern words) × (status ≡ 2)) ⊎ ((AskForText words ⊎ AskForSearch words) × (status ≤ 1)) ⊎ (status ≡ 1)
 
--- The words ask for this search, and what names are looked for is what the pattern says.
+-- The words ask for this search, and the names that are looked for are those of the patterns.
 abbrev pub AskToSearch : List (List ℕ) → Asked × Sought → Type 0
 AskToSearch words (asked, sought) = AskFor words asked × IsFor asked sought
 
--- A call that searches nothing ends so, and with 0 only if a text is asked for.
+-- The status of a call that searches nothing. It is 0 only if a text is asked for.
 pub record EndsUnsearched (words : List (List ℕ)) (status : ℕ) : Type 0 where
   pub ends : Ends words status
   pub text : status ≡ 0 → AskForText words
 
--- whether a search that ended so succeeded: an entry was found, if it is quiet, and else there was no error
+-- whether a search succeeded: if it is quiet, an entry was found, and else there was no error
 abbrev pub succeeds : Bool → Ended → Bool
 succeeds quiet ended = if quiet then ended.full else ended.clean

@@ -1,4 +1,4 @@
--- What is printed of a walk's answers.
+-- The text that is printed for a walk's answers.
 use Rattle.std.specs.Prelude.{◌≡◌, ◌⊎◌, ℕ, ◌==◌, Bool, true, false, not, ◌&&◌, List, [], Option, Some, Result, Ok, Err, map, flat_map, is_some, option_and_then, if◌then◌else◌}
 use Rattle.std.specs.List.{list_all}
 use Rattle.std.specs.Iterator.{Drains, Yields}
@@ -18,31 +18,33 @@ module _ {R E : Type 0} where
   entry_line sought style e =
       if is_found sought e.depth e.file_type e.parent_path e.file_name e.seen then line_of style e.parent_path e.file_name else []
 
-  -- what is printed of an answer
+  -- the text that is printed for an answer
   abbrev pub found_line : Sought → Style → Item R E → List ℕ
   found_line sought style (Ok e) = entry_line sought style e
   found_line sought style (Err f) = []
 
-  -- what is printed of answers, one after another
+  -- the text that is printed for answers, one after another
   abbrev pub found_lines : Sought → Style → List (Item R E) → List ℕ
   found_lines sought style = flat_map (found_line sought style)
 
-  -- whether an entry is a root that is no directory, and no link to one
+  -- whether an entry is a root that is neither a directory nor a link to one
   abbrev pub is_flat_root : Entry R E → Bool
   is_flat_root e = e.depth == 0 && not (is_some e.read_children)
 
-  -- whether an answer is an entry, and its directory was read if it was to be; a root has a directory
+  -- whether an answer is an entry whose directory was read, if the walk reads it; a root must have a directory
   abbrev pub is_clean : Item R E → Bool
   is_clean (Ok e) = not (is_flat_root e) && not (is_some (option_and_then (λ children. children.error) e.read_children))
   is_clean (Err f) = false
 
--- The line of each of these answers that is looked for is printed, and all of them are clean.
+-- The line of each of these answers that is looked for is printed, and all answers are clean.
 pub record PrintsClean {R E : Type 0} (answers : List (Item R E)) (sought : Sought) (style : Style) (old new : Option (List ℕ)) : Type 0 where
   pub lines : Appends old new (found_lines sought style answers)
   pub clean : list_all is_clean answers ≡ true
 
 module _ {S C A R E : Type 0} (steps : S → Option (Result (DirEntry C A R E) (Error A)) → S → Type 0) (answers : S) where
-  -- The iterator was called until it ended, or until as many were found as may be. The line of each answer that is looked for was printed, and the result says whether all answers are clean. `left` is how many more may be found before that, and `left'` after it.
+  -- The iterator was called until it ended or the limit was reached. The line of each answer that is looked for was
+  -- printed, and the result says whether all answers are clean. `left` is how many more may be found before, and
+  -- `left'` after it.
   pub record PrintsFound (sought : Sought) (style : Style) (left left' : Option ℕ) (old new : Option (List ℕ)) (clean : Bool) : Type 0 where
     pub answered : List (Result (DirEntry C A R E) (Error A))
     pub calls : Drains steps answers answered ⊎ ((left' ≡ Some 0) × ((end : S) × Yields steps answers answered end))

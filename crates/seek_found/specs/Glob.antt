@@ -5,7 +5,7 @@ use Rattle.jwalk_ignore_rules.specs.Pattern.{Pattern, pattern_in, pattern_in_eit
 use Rattle.jwalk_ignore_rules.specs.Pattern.PatternText.{without_first_slash}
 use Rattle.seek_found.specs.declared.glob.Glob.{Glob as CodeGlob}
 
--- a glob by value: its pattern
+-- the value of a glob: its pattern
 abbrev pub glob_value : CodeGlob → Pattern
 glob_value glob = pattern_value glob.pattern
 
@@ -18,11 +18,11 @@ abbrev pub has_mark : List ℕ → Bool
 has_mark [] = false
 has_mark (c ∷ cs) = (c == 33) || (c == 35)
 
--- a glob as the line of an ignore file, in which a mark in front means itself
+-- a glob as the line of an ignore file, in which a mark at the beginning means itself
 abbrev pub glob_line : List ℕ → List ℕ
 glob_line text = (if has_mark text then 92 ∷ [] else []) ++ text
 
--- the glob of a text; none if it is malformed
+-- the glob of a text, or none if it is malformed
 abbrev pub glob_in : Bool → List ℕ → Option Pattern
 glob_in ignores_case text = option_map (in_case ignores_case) (pattern_in (glob_line text))
 

@@ -1,9 +1,9 @@
--- Answers up to a limit of how many are found.
+-- Answers up to a limit of finds.
 use Rattle.std.specs.Prelude.{ℕ, ◌-◌, zero, suc, Bool, false, List, [], ◌∷◌, Option, None, Some, Ok, Err, if◌then◌else◌}
 use Rattle.jwalk_model.specs.Entry.{Item}
 use Rattle.seek_words.specs.Sought.{Sought, is_found}
 
--- a limit once one more is found; none, if there is no limit
+-- a limit after one more find, if there is a limit
 abbrev pub one_less : Option ℕ → Option ℕ
 one_less None = None
 one_less (Some n) = Some (n - 1)
@@ -14,7 +14,7 @@ module _ {R E : Type 0} (sought : Sought) where
   is_hit (Ok e) = is_found sought e.depth e.file_type e.parent_path e.file_name e.seen
   is_hit (Err f) = false
 
-  -- how many more may be found after these answers
+  -- the number of further finds after these answers
   abbrev pub left_of : ℕ → List (Item R E) → ℕ
   left_of zero xs = zero
   left_of (suc n) [] = suc n

@@ -1,4 +1,4 @@
--- What is printed of the answers below roots, whatever they are.
+-- The text that is printed for answers below roots, whatever these are.
 use Rattle.std.specs.Prelude.{◌≡◌, ◌⊎◌, ℕ, Bool, List, [], ◌∷◌, ◌++◌, Option}
 use Rattle.std.specs.List.{list_all}
 use Rattle.std.specs.Io.KnownBytes.{Appends}
@@ -9,18 +9,20 @@ use Rattle.seek_words.specs.declared.paths.Style.{Style}
 use Rattle.seek_found.specs.Found.{found_lines, is_clean}
 use Rattle.seek_found.specs.Limit.{left_after, up_to}
 
--- which answers there may be below a root: all of them, or a beginning of them where the search may stop
+-- the possible answers below a root: all of them, or the first ones if the search may stop
 abbrev pub Below : Type 1
 Below = (may_stop : Type 0) → List ℕ → List (Item Worth Worth) → Type 0
 
--- The answers are those below each of these roots, one root after another. Where the search may stop, they end below one of them, or before it.
+-- The answers are those below each of these roots, one root after another. If the search may stop, they end below one
+-- root, or before it.
 abbrev pub AreBelow : Below → Type 0 → List (List ℕ) → List (Item Worth Worth) → Type 0
 AreBelow below may_stop [] answers = answers ≡ []
 AreBelow below may_stop (root ∷ roots) answers =
     ((first : List (Item Worth Worth)) × ((rest : List (Item Worth Worth)) × below ⊥ root first × AreBelow below may_stop roots rest × (answers ≡ first ++ rest)))
     ⊎ (may_stop × ((answers ≡ []) ⊎ below may_stop root answers))
 
--- The line of each answer that is looked for was printed, and the result says whether all answers are clean. `are` says which answers these may be. `left` is how many more may be found before that, and `left'` after it.
+-- The line of each answer that is looked for was printed, and the result says whether all answers are clean. `are` says
+-- which answers are possible. `left` is how many more may be found before, and `left'` after it.
 pub record PrintsSuch (are : List (Item Worth Worth) → Type 0) (sought : Sought) (style : Style) (left left' : Option ℕ) (old new : Option (List ℕ)) (clean : Bool) : Type 0 where
   pub answers : List (Item Worth Worth)
   pub such : are answers

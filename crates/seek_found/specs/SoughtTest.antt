@@ -1,4 +1,4 @@
--- The test of what is sought.
+-- The test of all patterns.
 use Rattle.std.specs.Prelude.{ℕ, Bool, List, map}
 use Rattle.seek_found.specs.PatternTest.{takes_of as takes_one}
 use Rattle.seek_found.specs.Sought.{takes_all}

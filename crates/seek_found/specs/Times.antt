@@ -9,16 +9,16 @@ use Rattle.seek_words.specs.Times.{nanoseconds_of}
 use Rattle.seek_words.specs.declared.asked.Asked.{Asked}
 use Rattle.seek_words.specs.declared.times.Times.{Times}
 
--- when something was modified, if that is known
+-- the time of modification, if it is known
 abbrev pub modified_in : Result Metadata ErrorKind → Option ℤ
 modified_in (Ok m) = option_map (λ details. nanoseconds_of details.modified) (details_of m)
 modified_in (Err kind) = None
 
--- when a file was modified: what a link leads to, if links are followed, and else the link
+-- the time of modification of a file: of a link's target, if links are followed, and else of the link
 abbrev pub file_time : Functions → Bool → List ℕ → Option ℤ
 file_time fs follow path = modified_in (if follow then fs.meta_of path else fs.link_meta_of path)
 
--- The times are those that a call names, where the clock is read once, and the file that it names was modified at a time that is known.
+-- The times are those that a call names. The clock is read once, and the time of modification of a named file is known.
 pub record AreTimes (fs : Functions) (asked : Asked) (times : Times) : Type 0 where
   pub now : ℤ
   pub after : times.after ≡ option_map (nanoseconds_at now) asked.changed_within

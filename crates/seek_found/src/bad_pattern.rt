@@ -1,16 +1,16 @@
-//! Why a pattern is refused.
+//! The reasons why a pattern is rejected.
 ghost use Rattle.std.specs.Prelude.{◌≡◌};
 
 use regex::Error;
 use std::alloc::AllocError;
 use std::io::Write;
 
-/// Why there is nothing to look for.
+/// The reason why a pattern is rejected.
 #[derive(Debug, Drop)]
 pub enum BadPattern<'w> {
-    /// This is no regular expression, or is too large a one.
+    /// This isn't a regular expression, or is too large.
     Expression(&'w str, Error),
-    /// This is no glob.
+    /// This isn't a glob.
     Glob(&'w str),
     /// Memory ran out.
     Memory,
@@ -19,7 +19,7 @@ pub enum BadPattern<'w> {
 impl<'w> BadPattern<'w> {
     ghost use Rattle.seek_found.specs.BadPattern.{status_of};
 
-    /// Reports it on standard error, and returns the status that the program ends with.
+    /// Reports the reason on standard error, and returns the status of the program.
     pub fn report<E: Write>(&self, err: &mut E) -> u8
         ensures { result ≡ status_of self.now }
     {

@@ -1,4 +1,4 @@
-//! How a call of the program begins and ends.
+//! The beginning and the end of a call of the program.
 ghost use Rattle.std.specs.Prelude.{◌≡◌, ◌<◌, ◌≤◌, true, map, string_bytes, IfOk, IfErr, IsOkAnd, OnOk};
 ghost use Rattle.seek_words.specs.Refusal.{status_of as status_for};
 ghost use Rattle.seek_found.specs.Call.{succeeds, AskToSearch, EndsUnsearched};
@@ -11,7 +11,7 @@ use seek_words::words::read_words;
 use std::alloc::Global;
 use std::io::Write;
 
-/// Prints what is asked for by words that ask for no search, and returns the status.
+/// Prints help or the version, or reports why words are refused.
 fn refuse<W: Write, E: Write>(refusal: &Refusal<'_>, out: &mut W, err: &mut E) -> u8
     ensures refused { 0 < status_for refusal.now → result ≡ status_for refusal.now }
     ensures text { status_for refusal.now ≡ 0 → result ≤ 1 }
@@ -25,23 +25,23 @@ fn refuse<W: Write, E: Write>(refusal: &Refusal<'_>, out: &mut W, err: &mut E) -
     u8::from(write!(out, "{refusal}").is_err() || out.flush().is_err())
 }
 
-/// How a search ended.
+/// The end of a search.
 #[derive(Clone, Copy, Debug, PartialEq, Eq)]
 pub struct Ended {
     /// There was no error.
     pub clean: bool,
-    /// As many entries were found as may be.
+    /// The limit of finds was reached.
     pub full: bool,
 }
 
-/// Returns whether a search that ended so succeeded. If it is quiet, that is whether an entry was found.
+/// A quiet search succeeds if an entry was found.
 fn succeeds(quiet: bool, ended: Ended) -> bool
     ensures { result ≡ succeeds quiet ended }
 {
     if quiet { ended.full } else { ended.clean }
 }
 
-/// Returns the status of a search that ended so. What ended it before its end is reported.
+/// Returns the status of a search. Reports the reason for an early end.
 pub fn status_of<E: Write>(quiet: bool, ended: Result<Ended, Halt>, err: &mut E) -> u8
     ensures status { result ≤ 1 }
     ensures done { result ≡ 0 → IsOkAnd ended (λ it. succeeds quiet it ≡ true) }
@@ -56,12 +56,12 @@ pub fn status_of<E: Write>(quiet: bool, ended: Result<Ended, Halt>, err: &mut E)
     }
 }
 
-/// Reads the words of a call, of which the first is the program's name, and the pattern among them.
+/// Reads the words of a call, and the patterns among them. The first word is the program's name.
 ///
 /// # Errors
 ///
-/// If there is nothing to search for. Then the text that is asked for is printed, or it is reported why words are bad, and
-/// the error is the status that the program ends with.
+/// If there is nothing to search for. Then the text that is asked for is printed, or bad words are reported, and the
+/// error is the status of the program.
 pub fn read_call<'w, W: Write, E: Write>(
     alloc: Global,
     words: &'w [String],

@@ -16,8 +16,12 @@ use std::alloc::Allocator;
 use std::io::Write;
 use std::time::Clock;
 
+<<<<<<< HEAD
 /// Prints what passes of a walk's answers, up to the limit, and reports the errors. Returns whether there was none. Lines
 /// that are gathered are written at the first answer that comes 100 milliseconds after the oldest of them.
+=======
+/// Prints those of a walk's answers that pass, up to the limit, and reports the errors. Returns whether there was none.
+>>>>>>> 3900bb4135bcdc9a2bc1de8334609b72e534a924
 ///
 /// # Errors
 ///

@@ -14,21 +14,18 @@ pub struct Glob {
     pattern: Pattern,
 }
 
-/// Returns whether a text begins with a `!` or a `#`.
 fn has_mark(text: &[u8]) -> bool
     ensures { result ≡ has_mark text.now }
 {
     matches!(text, [b'!' | b'#', ..])
 }
 
-/// Returns whether a pattern matches a path.
 fn matches(pattern: &Pattern, path: &[u8], is_dir: bool) -> bool
     ensures { result ≡ matches (pattern_value pattern.now) path.now is_dir }
 {
     pattern.matches(path, is_dir)
 }
 
-/// Returns the same pattern, in either case of ASCII's letters if case doesn't count.
 fn in_case(ignores_case: bool, pattern: Pattern) -> Pattern
     ensures { pattern_value result ≡ in_case ignores_case (pattern_value pattern) }
 {
@@ -42,7 +39,7 @@ fn in_case(ignores_case: bool, pattern: Pattern) -> Pattern
 impl Glob {
     ghost use Rattle.seek_found.specs.Glob.{glob_in, glob_line, glob_takes, glob_value};
 
-    /// Returns the line of an ignore file that a glob is. A `!` or a `#` in front has no meaning of its own.
+    /// Returns the glob as the line of an ignore file. A `!` or a `#` at the beginning means itself.
     fn line(alloc: Global, text: &[u8]) -> Result<Vec<u8>, AllocError>
         ensures { IfOk result (λ line. line.items ≡ glob_line text.now) }
     {
@@ -54,7 +51,7 @@ impl Glob {
         Ok(line)
     }
 
-    /// Reads a glob. None if it is malformed.
+    /// Reads a glob. Returns `None` if it is malformed.
     pub fn read(alloc: Global, text: &str, ignores_case: bool) -> Result<Option<Self>, AllocError>
         ensures { IfOk result (λ r. option_map glob_value r ≡ glob_in ignores_case text.now) }
     {
@@ -67,7 +64,7 @@ impl Glob {
         }
     }
 
-    /// Returns whether it takes a name or an absolute path.
+    /// Returns whether the glob takes a name or an absolute path.
     pub fn takes(&self, text: &str, is_dir: bool) -> bool
         ensures { result ≡ glob_takes (glob_value self.now) text.now is_dir }
     {

@@ -1,5 +1,5 @@
-//! What a search does with its answers, and a call of the program `seek` but for its walks: the pattern read, what is found
-//! of answers printed, errors reported, and the status.
+//! The answers of a search, filtered and printed, and a call of the program `seek` without its walks: patterns, errors
+//! and the status.
 #![tactic(auto)]
 
 pub mod bad_pattern;

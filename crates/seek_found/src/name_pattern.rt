@@ -1,4 +1,4 @@
-//! One pattern that names are looked for by.
+//! One pattern for names.
 ghost use Rattle.std.specs.Prelude.{◌≡◌, true, string_bytes, IfOk, IfErr};
 ghost use Rattle.regex.specs.Patterns.{ReadsAsText};
 ghost use Rattle.seek_found.specs.NamePattern.{source_of, takes_any};
@@ -10,25 +10,25 @@ use seek_words::asked::Asked;
 use seek_words::expression::read_expression;
 use std::alloc::{AllocError, Global};
 
-/// What names one pattern looks for.
+/// The names that one pattern looks for.
 #[derive(Drop)]
 pub enum NamePattern {
     /// All names.
     Any,
-    /// Those in which a regular expression is found, or a text.
+    /// Those in which a regular expression or a text is found.
     Expression(Regex),
     /// Those that a glob takes.
     Glob(Glob),
 }
 
-/// Returns whether a pattern stands for any name: the empty one does, and so does `.`, unless it is a glob or a text.
+/// The empty pattern takes any name. So does `.`, unless it is a glob or a text.
 fn takes_any(asked: &Asked<'_>, pattern: &str) -> bool
     ensures { result ≡ takes_any asked.now pattern.now }
 {
     pattern.is_empty() || (pattern == "." && !asked.glob && !asked.fixed)
 }
 
-/// Returns the text of a pattern's regular expression. For a text it is the one that finds that text.
+/// For a text, returns the regular expression that finds that text.
 fn source_of(alloc: Global, asked: &Asked<'_>, pattern: &str) -> Result<String, AllocError>
     ensures source { IfOk result (λ source. string_bytes source ≡ source_of asked.now pattern.now) }
     ensures literal { IfOk result (λ source. asked.now.fixed ≡ true → ReadsAsText (string_bytes source) pattern.now) }
@@ -44,7 +44,6 @@ impl NamePattern {
     ghost use Rattle.seek_found.specs.BadPattern.{IsBadPattern, IsNoExpression, IsNoGlob};
     ghost use Rattle.seek_found.specs.NamePattern.{IsPatternOf, IsGlobOf, IsExpressionOf};
 
-    /// Reads a glob as is asked for.
     fn glob_of<'w>(
         alloc: Global,
         asked: &Asked<'_>,
@@ -60,7 +59,6 @@ impl NamePattern {
         }
     }
 
-    /// Reads a regular expression as is asked for.
     fn expression_of<'w>(
         alloc: Global,
         asked: &Asked<'_>,
@@ -77,7 +75,7 @@ impl NamePattern {
         }
     }
 
-    /// Reads a pattern as is asked for.
+    /// Reads a pattern in the way that is asked for.
     pub fn read<'w>(
         alloc: Global,
         asked: &Asked<'_>,

@@ -1,4 +1,4 @@
-//! Whether a name is looked for by one pattern.
+//! The test of a name by one pattern.
 ghost use Rattle.std.specs.Prelude.{◌≡◌, IfOk, map};
 ghost use Rattle.std.specs.List.{list_all};
 ghost use Rattle.seek_found.specs.NamePattern.{takes_name};
@@ -31,7 +31,7 @@ impl<'s> PatternTest<'s> {
         }
     }
 
-    /// Returns whether a text passes. What the test changes is memory.
+    /// Returns whether a text passes. The test may only change its memory.
     pub fn passes(&mut self, text: &str, is_dir: bool) -> bool
         ensures answer { result ≡ takes_of self.old text.now is_dir }
         ensures same { takes_of self.new ≡ takes_of self.old }

@@ -18,18 +18,17 @@ use seek_words::name_test::NameTest;
 use std::alloc::Allocator;
 use std::io::Write;
 
-/// Prints what passes a filter.
+/// A printer of the answers that pass a filter.
 #[derive(Drop)]
 pub struct Printer<'w, T: NameTest> {
-    /// What passes.
+    /// The filter.
     pub filter: Filter<'w, T>,
-    /// The lines of what passed.
+    /// The lines of the answers that passed.
     pub lines: Lines,
     /// How many more entries may pass, if there is a limit.
     pub left: Option<usize>,
 }
 
-/// Returns a limit after an entry that passed, or didn't.
 fn left_after(left: Option<usize>, passes: bool) -> Option<usize>
     ensures { result ≡ (if passes then one_less left else left) }
 {
@@ -39,7 +38,7 @@ fn left_after(left: Option<usize>, passes: bool) -> Option<usize>
     }
 }
 
-/// Prints the line of an entry, if it passes a filter. Returns whether it does.
+/// Returns whether the entry passes the filter.
 fn print_entry<T: NameTest, C: ClientState, A: Allocator + Copy, W: Write>(
     filter: &mut Filter<'_, T>,
     lines: &mut Lines,
@@ -63,7 +62,7 @@ fn print_entry<T: NameTest, C: ClientState, A: Allocator + Copy, W: Write>(
 }
 
 impl<'w, T: NameTest> Printer<'w, T> {
-    /// Returns whether no more entries may pass.
+    /// Returns whether no further entry may pass.
     pub fn is_full(&self) -> bool
         ensures full { result ≡ true → self.now.left ≡ Some 0 }
         ensures room { result ≡ false → self.now.left ≢ Some 0 }
@@ -71,7 +70,7 @@ impl<'w, T: NameTest> Printer<'w, T> {
         matches!(self.left, Some(0))
     }
 
-    /// Prints the line of an answer, if it is an entry that passes. Reports its error, if there is one. Returns whether
+    /// Prints the line of an answer, if it is an entry that passes. Reports the error, if there is one. Returns whether
     /// there is none.
     ///
     /// # Errors

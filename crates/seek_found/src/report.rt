@@ -10,10 +10,10 @@ use jwalk_job::error::Error;
 use std::alloc::Allocator;
 use std::io::Write;
 
-/// The path of an item, in parts: that of its folder, what is put between, and its name. All are empty if it isn't known.
+/// The path of an item, in parts: its folder, the text between, and its name. All are empty if the path isn't known.
 type Place<'p> = (&'p str, &'static str, &'p str);
 
-/// Returns the path that an error came with, or else that of the directory that it came in.
+/// Returns the path of an error, or else that of the directory in which the error was met.
 fn path_of<A: Allocator + Copy>(error: &Error<A>) -> Option<&str> {
     match error.path() {
         Some(path) => Some(path),
@@ -21,12 +21,11 @@ fn path_of<A: Allocator + Copy>(error: &Error<A>) -> Option<&str> {
     }
 }
 
-/// Returns the path of an entry.
 fn place_of<C: ClientState, A: Allocator + Copy>(found: &DirEntry<C, A>) -> Place<'_> {
     join_parts(found.parent_path(), found.file_name())
 }
 
-/// Reports an error on its own line, with its path, or else with this one. If that can't be written, it isn't.
+/// Reports an error on a line, with its path, or else with `own`. A failed write is ignored.
 fn report_at<A: Allocator + Copy, E: Write>(error: &Error<A>, own: Place<'_>, err: &mut E) {
     let (folder, slash, name) = match path_of(error) {
         Some(path) => (path, "", ""),
@@ -41,20 +40,20 @@ fn report_at<A: Allocator + Copy, E: Write>(error: &Error<A>, own: Place<'_>, er
     };
 }
 
-/// Reports an error of a walk on its own line, with its path, or else with that of the directory that it came in. If
-/// that can't be written, it isn't.
+/// Reports an error of a walk on a line, with its path, or else with that of the directory in which the error was met.
+/// A failed write is ignored.
 pub fn report_error<A: Allocator + Copy, E: Write>(error: &Error<A>, err: &mut E) {
     report_at(error, ("", "", ""), err);
 }
 
-/// Returns whether an entry is a root that is no directory, and no link to one.
+/// Returns whether an entry is a root that is neither a directory nor a link to one.
 fn is_flat_root<C: ClientState, A: Allocator + Copy>(found: &DirEntry<C, A>) -> bool
     ensures { result ≡ is_flat_root (entry found.now) }
 {
     found.depth() == 0 && found.read_children.is_none()
 }
 
-/// Reports that an entry is a root that is no directory, or the error of its directory's reading. Returns whether there
+/// Reports that an entry is a root without a directory, or the error of its directory's reading. Returns whether there
 /// is nothing to report.
 pub fn report_entry<C: ClientState, A: Allocator + Copy, E: Write>(
     found: &DirEntry<C, A>,
@@ -76,7 +75,7 @@ pub fn report_entry<C: ClientState, A: Allocator + Copy, E: Write>(
     }
 }
 
-/// Reports that a pattern finds hidden names alone, and that these don't come.
+/// Reports that a pattern can find hidden names alone, and that these don't come.
 pub fn report_hidden<E: Write>(pattern: &str, err: &mut E) {
     let _ = writeln!(
         err,

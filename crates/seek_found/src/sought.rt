@@ -1,4 +1,4 @@
-//! What names are looked for.
+//! The names that are looked for.
 ghost use Rattle.std.specs.Prelude.{◌≡◌, IfOk, IfErr};
 ghost use Rattle.seek_words.specs.Asks.{texts_of};
 ghost use Rattle.seek_found.specs.BadPattern.{AreBadPatterns};
@@ -9,7 +9,7 @@ use crate::name_pattern::NamePattern;
 use seek_words::asked::Asked;
 use std::alloc::Global;
 
-/// What names are looked for: those that each of these patterns looks for.
+/// The names that are looked for, by all of these patterns.
 #[derive(Drop)]
 pub struct Sought {
     /// The pattern.
@@ -18,7 +18,6 @@ pub struct Sought {
     pub others: Vec<NamePattern>,
 }
 
-/// Reads patterns as is asked for.
 fn patterns_of<'w>(
     alloc: Global,
     asked: &Asked<'_>,

@@ -1,4 +1,4 @@
-//! Whether a name is looked for.
+//! The test of a name by all patterns.
 ghost use Rattle.std.specs.Prelude.{◌≡◌, IfOk, map};
 ghost use Rattle.seek_found.specs.NamePattern.{takes_name};
 ghost use Rattle.seek_found.specs.PatternTest.{takes_of as takes_one};
@@ -10,14 +10,13 @@ use crate::sought::Sought;
 use seek_words::name_test::NameTest;
 use std::alloc::{AllocError, Global};
 
-/// The test of what is sought.
+/// The test of a name by all patterns.
 #[derive(Drop)]
 pub struct SoughtTest<'s> {
     first: PatternTest<'s>,
     others: Vec<PatternTest<'s>>,
 }
 
-/// Returns the tests of patterns.
 fn tests_of<'s>(
     alloc: Global,
     patterns: &'s [NamePattern],
@@ -36,7 +35,7 @@ fn tests_of<'s>(
 impl<'s> SoughtTest<'s> {
     ghost use Rattle.seek_found.specs.SoughtTest.{takes_of};
 
-    /// Returns the test for what is sought.
+    /// Returns the test for these patterns.
     pub fn new(alloc: Global, sought: &'s Sought) -> Result<Self, AllocError>
         ensures { IfOk result (λ test. takes_of test ≡ takes_by sought.entry.now) }
     {

@@ -13,7 +13,7 @@ use std::io;
 use std::io::{ErrorKind, Write};
 use std::time::{Clock, Duration};
 
-/// Why the times that a call names aren't known.
+/// The reason why the times that a call names aren't known.
 #[derive(Drop)]
 pub enum Untimed<'w> {
     /// The clock can't be read.
@@ -25,7 +25,6 @@ pub enum Untimed<'w> {
 }
 
 impl<'w> Untimed<'w> {
-    /// Returns why a file can't be asked.
     fn of_file(file: &'w str, fault: Fault) -> Self {
         match fault {
             Fault::Io(error) => Untimed::File(file, error),
@@ -33,7 +32,7 @@ impl<'w> Untimed<'w> {
         }
     }
 
-    /// Reports it on standard error.
+    /// Reports the reason on standard error.
     pub fn report<E: Write>(&self, err: &mut E) {
         let _ = match self {
             Untimed::Clock(error) => writeln!(err, "seek: the clock can't be read: {error}"),
@@ -43,7 +42,7 @@ impl<'w> Untimed<'w> {
     }
 }
 
-/// Returns when a file was modified: what a link leads to, if links are followed, and else the link.
+/// Asks for a link's target if links are followed, and else for the link.
 fn file_time<S: FileSystem>(disk: &S, follow: bool, path: &str) -> Result<i128, Fault>
     ensures { S.IsFixed disk.now → IfOk result (λ time. Some time ≡ file_time (S.functions disk.now) follow path.now) }
 {
@@ -58,7 +57,7 @@ fn file_time<S: FileSystem>(disk: &S, follow: bool, path: &str) -> Result<i128, 
     }
 }
 
-/// Returns when the file was modified that is named, if one is.
+/// Returns `None` if no file is named.
 fn named_file_time<'w, S: FileSystem>(
     disk: &S,
     asked: &Asked<'w>,
@@ -75,7 +74,6 @@ fn named_file_time<'w, S: FileSystem>(
     }
 }
 
-/// Returns a time that may be named in nanoseconds since the beginning of 1970.
 fn time_at(now: Duration, time: Option<Time>) -> Option<i128>
     ensures { result ≡ option_map (nanoseconds_at (pos (as_nanos now))) time }
 {
@@ -85,7 +83,7 @@ fn time_at(now: Duration, time: Option<Time>) -> Option<i128>
     }
 }
 
-/// Returns how long after the beginning of 1970 it is, if a time is named beside that of a file.
+/// Returns zero, without reading the clock, if no time is named apart from that of a file.
 fn now_of<'w, T: Clock>(clock: &T, asked: &Asked<'_>) -> Result<Duration, Untimed<'w>> {
     if asked.changed_within.is_none() && asked.changed_before.is_none() {
         return Ok(Duration::ZERO);

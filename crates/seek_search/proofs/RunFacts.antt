@@ -1,4 +1,4 @@
--- Roots that are gone over one after another.
+-- Roots that are searched one after another.
 use Rattle.std.proofs.Common.{◌≡◌, ◌≤◌, ◌<◌, ◌∙◌, ℕ, Bool, true, false, ◌&&◌, List, [], ◌∷◌, ◌++◌, length, slice_index_or, Option, Some, None, Result, Ok, Err, append-nil, ap, ap₂, arith, refl, subst, sym}
 use Rattle.std.specs.Prelude.{flat_map, is_some, option_map, if◌then◌else◌, IfOk, IsOkAnd}
 use Rattle.std.specs.Borrow.{Bor}
@@ -25,12 +25,12 @@ sought_by {w} {w'} {t} {t'} {f} {f'} wanted takes front =
     ap (λ (x : Wants). let it : Sought = record { wanted = x; takes = t; front = f } in it) wanted
     ∙ ap₂ (λ (x : List ℕ → Bool → Bool) (y : Option (List ℕ)). let it : Sought = record { wanted = w'; takes = x; front = y } in it) takes front
 
--- what is printed is printed by the same, as it is known otherwise
+-- the text is printed by the same, with other facts of it
 pub printed_by : {R E : Type 0} {xs : List (Item R E)} {sought sought' : Sought} {style style' : Style} {old new : Option (List ℕ)} → sought ≡ sought' → style ≡ style' → PrintsClean xs sought style old new → PrintsClean xs sought' style' old new
 printed_by {xs} {sought} {sought'} {style} {style'} {old} {new} sought_is style_is printed =
     subst (λ (s : Style). PrintsClean xs sought' s old new) style_is (subst (λ (s : Sought). PrintsClean xs s style old new) sought_is printed)
 
--- lines that are gathered first and written last
+-- gathered lines that are written at the end
 pub written_last : {R E : Type 0} {xs : List (Item R E)} {sought : Sought} {style : Style} (old mid new : Option (List ℕ)) (none last : List ℕ) → none ≡ []
     → PrintsClean xs sought style (append_known old none) (append_known mid last) → Appends mid new last → PrintsClean xs sought style old new
 written_last {xs} {sought} {style} old mid new none last empty printed rest = record {
@@ -38,7 +38,7 @@ written_last {xs} {sought} {style} old mid new none last empty printed rest = re
   clean = printed.clean;
 }
 
--- what is printed of roots, and then of others
+-- the text that is printed for roots, and then for other roots
 pub others_printed : {R E : Type 0} (f : List ℕ → List (Item R E)) (all first rest : List (Bor (List ℕ))) → all ≡ first ++ rest
     → {sought sought' : Sought} {style style' : Style} {old mid new : Option (List ℕ)} → sought' ≡ sought → style' ≡ style
     → PrintsClean (flat_map f (texts_of first)) sought style old mid → PrintsClean (flat_map f (texts_of rest)) sought' style' mid new → PrintsClean (flat_map f (texts_of all)) sought style old new
@@ -50,12 +50,12 @@ others_printed f all first rest are {sought} {sought'} {style} {style'} {old} {m
 pub texts_then : (all first rest : List (Bor (List ℕ))) → all ≡ first ++ rest → texts_of first ++ texts_of rest ≡ texts_of all
 texts_then all first rest are = sym (ap texts_of are ∙ map-append (λ it. it.now) first rest)
 
--- whether there is something is whether there is what is made of it
+-- whether there is a value is whether there is its image
 pub is_some_made : {X Y : Type 0} (f : X → Y) (o : Option X) → is_some (option_map f o) ≡ is_some o
 is_some_made f None = refl
 is_some_made f (Some x) = refl
 
--- what a result is known to be, in two ways
+-- two facts of one result
 pub ok_twice : {X Y : Type 0} (r : Result X Y) (P Q : X → Type 0) → IsOkAnd r P → IfOk r Q → (x : X) × P x × Q x
 ok_twice (Ok x) P Q first second = (x, first, second)
 ok_twice (Err e) P Q first second = absurd first
@@ -70,7 +70,7 @@ no_element : {A : Type 0} (l : List A) → length l < 1 → l ≡ []
 no_element [] few = refl
 no_element (x ∷ l) few = absurd (omega (arith, few))
 
--- what is printed of one root
+-- the text that is printed for one root
 pub one_printed : {R E : Type 0} (f : List ℕ → List (Item R E)) (all : List (Bor (List ℕ))) (root : Bor (List ℕ)) → all ≡ root ∷ []
     → {sought : Sought} {style : Style} {old new : Option (List ℕ)} → PrintsClean (f root.now) sought style old new → PrintsClean (flat_map f (texts_of all)) sought style old new
 one_printed f all root is printed = printed_as (sym (ap (λ l. flat_map f (texts_of l)) is ∙ append-nil (f root.now))) printed
@@ -83,7 +83,7 @@ pub none_yielded : (below : Below) (may_stop : Type 0) (roots : List (Bor (List 
 none_yielded below may_stop [] few sought style left old = no_roots_printed below may_stop sought style left old
 none_yielded below may_stop (root ∷ roots) few sought style left old = absurd (omega (arith, few))
 
--- without a limit there is none after answers
+-- without a limit, there is none after answers
 pub still_none : {R E : Type 0} (sought : Sought) (xs : List (Item R E)) {left left' : Option ℕ} → left ≡ None → left' ≡ left_after sought left xs → left' ≡ None
 still_none sought xs none limit = limit ∙ ap (λ l. left_after sought l xs) none
 

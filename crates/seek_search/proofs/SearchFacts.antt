@@ -1,4 +1,4 @@
--- What searches go over.
+-- The walks of a search.
 use Rattle.std.proofs.Common.{◌≡◌, ◌≤◌, ◌<◌, ◌⊎◌, ◌∙◌, ℕ, Bool, true, false, List, [], ◌∷◌, length, slice_index_or, Option, inl, inr, ap, ap₂, arith, refl, subst, sym}
 use Rattle.std.specs.Prelude.{◌==◌, if◌then◌else◌, MatchBool}
 use Rattle.std.specs.Borrow.{Bor}
@@ -39,7 +39,7 @@ module _ (processed : Processing Worth Worth) where
   hidden_by_crew false fs options root state = refl
 
 module _ {T C S P A R E : Type 0} (calls : CallsOf T C S P A R E) {is : WalkDirGeneric C S P A (Crew T) R E → Type 0} where
-  -- what a walk yielded, of which more is known
+  -- the answers of a walk with further facts
   pub yielded_so : {be : WalkDirGeneric C S P A (Crew T) R E → Type 0} {may_stop : Type 0} → ((walk : WalkDirGeneric C S P A (Crew T) R E) → is walk → be walk) → (answers : List (Item Worth Worth)) → Yielded calls is may_stop answers → Yielded calls be may_stop answers
   yielded_so more answers y = record {
     walk = y.walk;
@@ -51,7 +51,7 @@ module _ {T C S P A R E : Type 0} (calls : CallsOf T C S P A R E) {is : WalkDirG
     counted = y.counted;
   }
 
-  -- all of it, or what it was where the search stops
+  -- all answers, or those by then if the search stops
   yielded_or : {may_stop : Type 0} (answers : List (Item Worth Worth)) → Yielded calls is may_stop answers → Yielded calls is ⊥ answers ⊎ (may_stop × Yielded calls is may_stop answers)
   yielded_or answers y = elim y.called [
     | inl drains ↦ inl (record {
@@ -66,7 +66,7 @@ module _ {T C S P A R E : Type 0} (calls : CallsOf T C S P A R E) {is : WalkDirG
     | inr stopped ↦ inr (stopped.0, y)
   ]
 
-  -- the same, where a search may stop
+  -- the same, if a search may stop
   yielded_may : {may_stop : Type 0} (answers : List (Item Worth Worth)) → Yielded calls is may_stop answers → Yielded calls is (Unit {0}) answers
   yielded_may answers y = record {
     walk = y.walk;
@@ -89,22 +89,22 @@ module _ {T C S B X A D Q E G H F : Type 0} (plain : CallsOf T G (Arc S B) Exclu
   pub below_honouring : asked.no_ignore ≡ false → Yielded honouring (IsHonouring disk texts asked root) may_stop answers → YieldedBelow plain honouring disk texts asked may_stop root answers
   below_honouring is y = subst (Two may_stop) (sym is) y
 
-  -- all of them, or what they were where the search stops
+  -- all answers, or those by then if the search stops
   pub below_or : YieldedBelow plain honouring disk texts asked may_stop root answers → YieldedBelow plain honouring disk texts asked ⊥ root answers ⊎ (may_stop × YieldedBelow plain honouring disk texts asked may_stop root answers)
   below_or = elim asked.no_ignore as (λ b. Two may_stop b → Two ⊥ b ⊎ (may_stop × Two may_stop b)) [ true ↦ yielded_or plain answers | false ↦ yielded_or honouring answers ]
 
-  -- the same, where a search may stop
+  -- the same, if a search may stop
   pub below_may : YieldedBelow plain honouring disk texts asked may_stop root answers → YieldedBelow plain honouring disk texts asked (Unit {0}) root answers
   below_may = elim asked.no_ignore as (λ b. Two may_stop b → Two (Unit {0}) b) [ true ↦ yielded_may plain answers | false ↦ yielded_may honouring answers ]
 
--- the answers below roots go by the disk and the texts
+-- the answers below roots depend on the disk and the texts
 pub same_below : {T C S B X A D Q E G H F : Type 0} (plain : CallsOf T G (Arc S B) Excluding A H F) (honouring : CallsOf T C (Arc S B) (KeptRules X) A (Chain D × Q) E) (asked : Asked) (may_stop : Type 0) (roots : List (List ℕ)) {disk disk' : S} {texts texts' : X} → disk ≡ disk' → texts ≡ texts'
     → (answers : List (Item Worth Worth)) → AreBelow (YieldedBelow plain honouring disk texts asked) may_stop roots answers → AreBelow (YieldedBelow plain honouring disk' texts' asked) may_stop roots answers
 same_below {S} {X} plain honouring asked may_stop roots {disk} {disk'} {texts} {texts'} over from answers are =
     subst (λ (t : X). AreBelow (YieldedBelow plain honouring disk' t asked) may_stop roots answers) from
     (subst (λ (d : S). AreBelow (YieldedBelow plain honouring d texts asked) may_stop roots answers) over are)
 
--- where a search stops, it may stop
+-- a search that stops may stop
 pub stops_somewhere : {T C S B X A D Q E G H F : Type 0} (plain : CallsOf T G (Arc S B) Excluding A H F) (honouring : CallsOf T C (Arc S B) (KeptRules X) A (Chain D × Q) E) (disk : S) (texts : X) (asked : Asked) (may_stop : Type 0) (roots : List (List ℕ)) (answers : List (Item Worth Worth))
     → AreBelow (YieldedBelow plain honouring disk texts asked) may_stop roots answers → AreBelow (YieldedBelow plain honouring disk texts asked) (Unit {0}) roots answers
 stops_somewhere plain honouring disk texts asked may_stop =
@@ -131,6 +131,6 @@ module _ {T C S B X A D Q E G H F : Type 0} (plain : CallsOf T G (Arc S B) Exclu
   below_one (root ∷ []) d some few answers y = one_root (YieldedBelow plain honouring disk texts asked) may_stop root.now answers (below_or plain honouring disk texts asked may_stop root.now answers y)
   below_one (root ∷ other ∷ roots) d some few answers y = absurd (omega (arith, few))
 
-  -- the same roots, as they are known otherwise
+  -- the same roots, with other facts of them
   pub below_same : {roots roots' : List (List ℕ)} → roots ≡ roots' → (answers : List (Item Worth Worth)) → AreBelow (YieldedBelow plain honouring disk texts asked) may_stop roots answers → AreBelow (YieldedBelow plain honouring disk texts asked) may_stop roots' answers
   below_same are answers y = subst (λ (r : List (List ℕ)). AreBelow (YieldedBelow plain honouring disk texts asked) may_stop r answers) are y

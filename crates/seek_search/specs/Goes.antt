@@ -1,4 +1,4 @@
--- What a search goes over, whatever the disk and the texts answer.
+-- The answers of a search, whatever the disk and the texts answer.
 use Rattle.std.specs.Prelude.{◌≡◌, ◌⊎◌, ℕ, Bool, true, false, List, Option, Some, Result, is_some, MatchBool}
 use Rattle.std.specs.Arc.{arc_value}
 use Rattle.std.specs.Iterator.{Drains, Yields}
@@ -28,12 +28,13 @@ use Rattle.jwalk_ignore.specs.declared.callback.excluding.Excluding.{Excluding}
 use Rattle.seek_search.specs.declared.kept_links.KeptLinks.{KeptLinks}
 use Rattle.jwalk_ignore.specs.declared.callback.kept_rules.KeptRules.{KeptRules}
 
--- what is said of one call of a walk that a crew may read for: of the walk, the answer, and the walk after the call
+-- the relation of one call of a walk that a crew may read for: the walk, the answer, and the walk after the call
 abbrev pub CallsOf : (T C S P A R E : Type 0) → Type 1
 CallsOf T C S P A R E =
     DirEntryIter C S P A (Session T C S P A R E) R E → Option (Result (DirEntry C A R E) (Error A)) → DirEntryIter C S P A (Session T C S P A R E) R E → Type 0
 
--- A walk that is so was begun and called until it ended, or some calls were made where the search may stop. These are its answers. States don't count.
+-- A walk with these facts was begun and called until it ended, or some calls were made if the search may stop. These
+-- are its answers, whatever the states are.
 pub record Yielded {T C S P A R E : Type 0} (calls : CallsOf T C S P A R E) (is : WalkDirGeneric C S P A (Crew T) R E → Type 0) (may_stop : Type 0) (answers : List (Item Worth Worth)) : Type 0 where
   pub walk : WalkDirGeneric C S P A (Crew T) R E
   pub is_so : is walk
@@ -43,7 +44,7 @@ pub record Yielded {T C S P A R E : Type 0} (calls : CallsOf T C S P A R E) (is 
   pub called : Drains calls it yielded ⊎ (may_stop × ((end : DirEntryIter C S P A (Session T C S P A R E) R E) × Yields calls it yielded end))
   pub counted : counted_list stateless yielded ≡ answers
 
--- It is the walk over this disk that is asked for below this root, without ignore files: it leaves out what `-E` names. A crew may read for it.
+-- The walk over this disk below this root, without ignore files. It leaves out what `-E` names. A crew may read for it.
 pub record IsPlain {T C S B A R E : Type 0} (disk : S) (asked : Asked) (root : List ℕ) (walk : WalkDirGeneric C (Arc S B) Excluding A (Crew T) R E) : Type 0 where
   pub over : arc_value (file_system_of walk) ≡ disk
   pub below : root_of walk ≡ root
@@ -51,7 +52,8 @@ pub record IsPlain {T C S B A R E : Type 0} (disk : S) (asked : Asked) (root : L
   pub options : options_of walk ≡ with_crew by_crew (options_asked asked)
   pub excluded : excluded_of (callback_of walk) ≡ excluded_asked asked root
 
--- It is the walk over this disk that is asked for below this root, and honours the ignore files of these texts. It begins without rules, and is shown hidden names; it drops these itself, unless they are asked for.
+-- The walk over this disk below this root that honours the ignore files of these texts. It begins without rules, and is
+-- shown hidden names. It drops these itself, unless they are asked for.
 pub record IsHonouring {T C S B X A D Q E : Type 0} (disk : S) (texts : X) (asked : Asked) (root : List ℕ) (walk : WalkDirGeneric C (Arc S B) (KeptRules X) A (Crew T) (Chain D × Q) E) : Type 0 where
   pub over : arc_value (file_system_of walk) ≡ disk
   pub below : root_of walk ≡ root
@@ -63,17 +65,19 @@ pub record IsHonouring {T C S B X A D Q E : Type 0} (disk : S) (texts : X) (aske
   pub begins : rules_alone (state_of walk) ≡ no_rules_yet
 
 module _ {T C S B X A D Q E G H F : Type 0} (plain : CallsOf T G (Arc S B) Excluding A H F) (honouring : CallsOf T C (Arc S B) (KeptRules X) A (Chain D × Q) E) where
-  -- The answers are those of the walk that is asked for below this root, all of them unless the search may stop.
+  -- The answers are those of the walk that is asked for below this root: all of them, unless the search may stop.
   abbrev pub YieldedBelow : S → X → Asked → Below
   YieldedBelow disk texts asked may_stop root answers =
       MatchBool asked.no_ignore (Yielded plain (IsPlain disk asked root) may_stop answers) (Yielded honouring (IsHonouring disk texts asked root) may_stop answers)
 
 module _ {T C Z B X A D Q E G H F : Type 0} (plain : CallsOf T G (Arc (KeptLinks Z) B) Excluding A H F) (honouring : CallsOf T C (Arc (KeptLinks Z) B) (KeptRules X) A (Chain D × Q) E) where
-  -- The answers are those of the walks below the roots that are asked for, one root after another. Links that lead nowhere stay links.
+  -- The answers are those of the walks below the roots that are asked for, one root after another. Links that lead
+  -- nowhere stay links.
   abbrev pub AreYielded : Z → X → Asked → Type 0 → List (Item Worth Worth) → Type 0
   AreYielded disk texts asked may_stop = AreBelow (YieldedBelow plain honouring (record { disk = disk; follow = asked.follow }) texts asked) may_stop (roots_asked asked)
 
-  -- The line of each answer that is looked for was printed, up to the limit, and the result says whether all answers are clean. The absolute path is tested if that is asked for.
+  -- The line of each answer that is looked for was printed, up to the limit, and the result says whether all answers
+  -- are clean. The absolute path is tested if that is asked for.
   pub record PrintsYielded (disk : Z) (texts : X) (on_terminal : Bool) (asked : Asked) (takes : List ℕ → Bool → Bool) (old new : Option (List ℕ)) (clean : Bool) : Type 0 where
     pub front : Option (List ℕ)
     pub in_front : is_some front ≡ asked.full_path

@@ -12,17 +12,17 @@ abbrev pub is_missing : ErrorKind → Bool
 is_missing NotFound = true
 is_missing _ = false
 
--- what is at a path behind which nothing is: a link, or else that error
+-- the link at a path whose target is missing, or else that error
 abbrev pub link_alone : ErrorKind → Result Metadata ErrorKind → Result Metadata ErrorKind
 link_alone kind (Ok m) = if is_symlink (type_of m) then Ok m else Err kind
 link_alone kind (Err _) = Err kind
 
--- what a path leads to, if that is known, and else the link that is there, if nothing is behind it
+-- the target of a path, if it is known, and else the link at the path, if its target is missing
 abbrev pub target_or_link : Result Metadata ErrorKind → Result Metadata ErrorKind → Result Metadata ErrorKind
 target_or_link (Ok m) link = Ok m
 target_or_link (Err kind) link = if is_missing kind then link_alone kind link else Err kind
 
--- a file system whose links that lead nowhere are what a path leads to, where links are followed
+-- a file system whose links that lead nowhere are their own targets, if links are followed
 abbrev pub functions_kept : Bool → Functions → Functions
 functions_kept follow fs =
     record fs { meta_of = λ path. if follow then target_or_link (fs.meta_of path) (fs.link_meta_of path) else fs.meta_of path }

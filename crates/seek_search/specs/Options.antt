@@ -1,4 +1,4 @@
--- What is asked of a walk.
+-- The options of a walk.
 use Rattle.std.specs.Prelude.{ℕ, Bool, not, Option, None, Some, if◌then◌else◌}
 use Rattle.jwalk_model.specs.Options.{crew, Options, defaults, with_sort, with_skip_hidden, with_follow_links, with_same_file_system, with_keep_metadata, with_max_depth, with_parallelism}
 use Rattle.seek_search.specs.declared.options.WalkOptions.{WalkOptions}

@@ -1,4 +1,4 @@
--- What a call of the program prints.
+-- The text that a call of the program prints.
 use Rattle.std.specs.Prelude.{◌≡◌, ℕ, Bool, true, false, List, Option, None}
 use Rattle.std.specs.declared.sync.Arc.{Arc}
 use Rattle.jwalk.specs.jwalk_model.FileSystem.{Functions}
@@ -17,13 +17,17 @@ use Rattle.jwalk_ignore.specs.declared.callback.excluding.Excluding.{Excluding}
 use Rattle.seek_search.specs.declared.kept_links.KeptLinks.{KeptLinks}
 use Rattle.jwalk_ignore.specs.declared.callback.kept_rules.KeptRules.{KeptRules}
 
--- Over a file system and texts that always answer the same, the line of each entry that is looked for is printed, among all that is gone over, and there is no error among that. A link that leads nowhere is none, and is gone over itself.
+-- Over a file system and texts that always answer the same, the line of each entry that is looked for is printed, of
+-- all answers of the walks, and none of these is an error. A link that leads nowhere isn't an error, but an entry.
 abbrev pub PrintsAsked : Functions → Texts → Bool → Asked → Sought → Option (List ℕ) → Option (List ℕ) → Type 0
 PrintsAsked fs texts on_terminal asked sought =
     PrintsClean (yielded_by (functions_kept asked.follow fs) texts asked) (sought_asked texts asked (takes_by sought)) (style_asked on_terminal asked)
 
 module _ {T C Z B X A D Q E G H F : Type 0} (plain : CallsOf T G (Arc (KeptLinks Z) B) Excluding A H F) (honouring : CallsOf T C (Arc (KeptLinks Z) B) (KeptRules X) A (Chain D × Q) E) where
-  -- The words ask for a search, and what names are looked for is what the pattern says, and the times that are asked for are known. If it is quiet, nothing is written, and one of the answers of its walks is found. Else their lines are printed as is asked for, and all of them are clean. If there is no limit, and the file system and the texts are fixed, the answers are those that are asked for.
+  -- The words ask for a search, the names that are looked for are those of the patterns, and the times that are asked
+  -- for are known. A quiet search writes nothing, and finds one of the answers of its walks. Any other search prints
+  -- their lines in the way that is asked for, and all answers are clean. If there is no limit, and the file system and
+  -- the texts are fixed, the answers are those that are asked for.
   pub record Searches (disk : Z) (reads : X) (fixed : Type 0) (fs : Functions) (texts : Texts) (on_terminal : Bool) (words : List (List ℕ)) (old new : Option (List ℕ)) : Type 0 where
     pub asked : Asked
     pub ask : AskFor words asked

@@ -1,4 +1,4 @@
--- What a search goes over, and what it finds.
+-- The walks of a search, and its finds.
 use Rattle.std.specs.Prelude.{ℕ, zero, suc, ◌==◌, Bool, false, not, List, [], ◌∷◌, flat_map, length, Option, None, Some, Result, Ok, Err, if◌then◌else◌}
 use Rattle.std.specs.declared.io.ErrorKind.{ErrorKind}
 use Rattle.jwalk.specs.jwalk_model.Counted.{Worth, blank}
@@ -25,7 +25,7 @@ positive None = None
 positive (Some zero) = None
 positive (Some (suc n)) = Some (suc n)
 
--- what is asked of walks
+-- the options of the walks, by what is asked for
 abbrev pub walk_options : Asked → WalkOptions
 walk_options asked = record {
   sort = asked.sort;
@@ -36,19 +36,19 @@ walk_options asked = record {
   greatest = asked.depths.greatest;
 }
 
--- the options of walks. Whether a crew reads makes no difference to what they yield.
+-- the options of walks; whether a crew reads makes no difference to their answers
 abbrev pub options_asked : Asked → Options
 options_asked asked = options_for (walk_options asked) false
 
--- how many entries may be found, if there is a limit: one, if only the status is asked for
+-- the greatest number of finds, if there is a limit; it is one if only the status is asked for
 abbrev pub limit_asked : Asked → Option ℕ
 limit_asked asked = if asked.quiet then Some 1 else positive asked.max_results
 
--- how ignore files are used
+-- the use of ignore files
 abbrev pub settings_asked : Asked → Settings
 settings_asked asked = record { keeps_hidden = asked.hidden; anywhere = false }
 
--- all that a walk yields without ignore files, below a root
+-- all answers of a walk without ignore files, below a root
 abbrev pub all_below : Functions → Asked → Excluded → List ℕ → List (Item Worth Worth)
 all_below fs asked excluded root = whole_walk (job_with fs (options_asked asked) (excluding excluded)) root blank
 
@@ -56,11 +56,11 @@ all_below fs asked excluded root = whole_walk (job_with fs (options_asked asked)
 abbrev pub kept_below : Functions → Texts → Asked → Excluded → List ℕ → List (Item Worth Worth)
 kept_below fs texts asked excluded root = ignoring_walk fs texts (settings_asked asked) excluded (options_asked asked) root
 
--- what is left out below a root
+-- the entries that are left out below a root
 abbrev pub excluded_asked : Asked → List ℕ → Excluded
 excluded_asked asked root = excluded_by (texts_of asked.excludes.items) root
 
--- all that is gone over below a root
+-- all answers below a root
 abbrev pub yielded_below : Functions → Texts → Asked → List ℕ → List (Item Worth Worth)
 yielded_below fs texts asked root =
     if asked.no_ignore then all_below fs asked (excluded_asked asked root) root else kept_below fs texts asked (excluded_asked asked root) root
@@ -69,24 +69,24 @@ yielded_below fs texts asked root =
 abbrev pub roots_asked : Asked → List (List ℕ)
 roots_asked asked = if length asked.roots.items == 0 then dot ∷ [] else texts_of asked.roots.items
 
--- all that is gone over, one root after another
+-- all answers, one root after another
 abbrev pub yielded_by : Functions → Texts → Asked → List (Item Worth Worth)
 yielded_by fs texts asked = flat_map (yielded_below fs texts asked) (roots_asked asked)
 
--- how paths are written, to a terminal or not
+-- the written form of paths, for a terminal or not
 abbrev pub style_asked : Bool → Asked → Style
 style_asked on_terminal asked = record { here = length asked.roots.items == 0; to_terminal = on_terminal; separator = if asked.print0 then 0 else 10 }
 
--- the folder that relative paths are below, ended by a slash; nothing if its absolute path isn't found
+-- the folder that relative paths begin at, ended by a slash, or nothing if its absolute path isn't found
 abbrev pub front_at : Result (List ℕ) ErrorKind → List ℕ
 front_at (Ok here) = join here []
 front_at (Err kind) = join [] []
 
--- what is in front of a relative path, if absolute paths are tested
+-- the text in front of a relative path, if absolute paths are tested
 abbrev pub front_asked : Texts → Asked → Option (List ℕ)
 front_asked texts asked = if asked.full_path then Some (front_at (texts.absolute_of [])) else None
 
--- what is looked for, where these texts pass, and this is in front of a relative path
+-- what is looked for, by the texts that pass and the text in front of a relative path
 abbrev pub sought_before : Option (List ℕ) → Asked → (List ℕ → Bool → Bool) → Sought
 sought_before front asked takes = record {
   wanted = record { depths = asked.depths; kinds = asked.kinds; extensions = texts_of asked.extensions.items; sizes = asked.sizes.items; times = asked.times };

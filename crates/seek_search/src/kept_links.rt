@@ -1,4 +1,4 @@
-//! A disk on which a link that leads nowhere is what it is without being followed.
+//! A disk on which a link that leads nowhere is its own target.
 ghost use Rattle.std.specs.Prelude.{◌≡◌};
 ghost use Rattle.std.specs.IoError.{error_kind};
 ghost use Rattle.jwalk.specs.jwalk_fs.Views.{AnswersValue};
@@ -9,21 +9,20 @@ use std::alloc::Allocator;
 use std::io;
 use std::io::ErrorKind;
 
-/// A disk on which a link that leads nowhere is itself in place of an error, if links are followed.
+/// A disk on which a link that leads nowhere is its own target in place of an error, if links are followed.
 #[derive(Drop)]
 pub(crate) struct KeptLinks<S: FileSystem> {
     pub(crate) disk: S,
     pub(crate) follow: bool,
 }
 
-/// Returns whether an error says that nothing is there.
 fn is_missing(error: &io::Error) -> bool
     ensures { result ≡ is_missing (error_kind error.now) }
 {
     matches!(error.kind(), ErrorKind::NotFound)
 }
 
-/// Returns the link at a path at which nothing was found behind it, or else that error.
+/// The error is that of the path's target.
 fn link_alone<S: FileSystem>(disk: &S, path: &str, error: io::Error) -> Result<Metadata, Fault>
     ensures { S.IsFixed disk.now → AnswersValue (λ m. m) result
         (link_alone (error_kind error) ((S.functions disk.now).link_meta_of path.now)) }

@@ -1,4 +1,4 @@
-//! What the program `seek` does with its words, a disk and texts of rules: walks, filtered and printed.
+//! A call of the program `seek`, over its words, a disk and texts of rules: walks, filtered and printed.
 #![tactic(auto)]
 
 mod kept_links;

@@ -1,4 +1,4 @@
-//! What is asked of a walk.
+//! The options of a walk.
 ghost use Rattle.std.specs.Prelude.{◌≡◌, string_bytes, IfOk};
 ghost use Rattle.jwalk.specs.WalkDir.{file_system_of, root_of, state_of, options_of};
 
@@ -10,18 +10,18 @@ use std::sync::{Arc, Wait};
 use std::thread::Threads;
 use std::time::Clock;
 
-/// What is asked of a walk.
+/// The options of a walk.
 #[derive(Clone, Copy, Debug, PartialEq, Eq)]
 pub struct WalkOptions {
     /// The entries of a directory are in the order of their names.
     pub sort: bool,
-    /// Hidden names come too.
+    /// Hidden names come, too.
     pub hidden: bool,
     /// Links are followed.
     pub follow: bool,
     /// Directories on another file system than the root are not read.
     pub one_file_system: bool,
-    /// Entries keep the metadata that their type came with.
+    /// Entries keep the metadata that came with their type.
     pub metadata: bool,
     /// The greatest depth, if there is one.
     pub greatest: Option<usize>,
@@ -31,7 +31,7 @@ impl WalkOptions {
     ghost use Rattle.std.specs.Prelude.{is_some};
     ghost use Rattle.seek_search.specs.Options.{options_for};
 
-    /// Returns the walk below a root that is asked for, without a callback. If there is a crew, it reads the
+    /// Returns the walk below a root with these options, without a callback. If there is a crew, it reads the
     /// directories.
     ///
     /// # Errors

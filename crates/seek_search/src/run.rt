@@ -42,7 +42,7 @@ use std::sync::{Arc, Wait};
 use std::thread::{Threads, available_parallelism};
 use std::time::Clock;
 
-/// Returns how many threads read: as many as are asked for, or as can run at a time.
+/// Returns as many threads as are asked for, or else as can run at a time.
 fn threads_of<T: Threads>(rt: &T, asked: &Asked<'_>) -> usize
     ensures { (threads : ℕ) → asked.now.threads ≡ Some threads → result ≡ threads }
 {
@@ -55,7 +55,7 @@ fn threads_of<T: Threads>(rt: &T, asked: &Asked<'_>) -> usize
     }
 }
 
-/// Returns the crew that reads, which is none for one thread.
+/// One thread needs no crew.
 fn crew_of<T: Wait + Threads + Clock + Clone + Drop>(
     rt: &T,
     alloc: Global,
@@ -68,14 +68,13 @@ fn crew_of<T: Wait + Threads + Clock + Clone + Drop>(
     Ok(Some(Arc::new(alloc, Crew::new(rt.clone()?, 1, threads))?))
 }
 
-/// Returns what threads may share.
 fn shared<V: Drop>(alloc: Global, value: V) -> Result<Arc<V>, AllocError>
     ensures { IfOk result (λ it. arc_value it ≡ value) }
 {
     Ok(Arc::new(alloc, value)?)
 }
 
-/// Returns the absolute path that entries are tested by, if they are.
+/// Returns `None` unless absolute paths are tested.
 fn path_of<X: Texts>(
     alloc: Global,
     asked: &Asked<'_>,
@@ -94,7 +93,7 @@ fn path_of<X: Texts>(
     }
 }
 
-/// Returns how many entries may be found, if there is a limit.
+/// Returns one if only the status is asked for.
 fn limit_of(asked: &Asked<'_>) -> Option<usize>
     ensures { result ≡ limit_asked asked.now }
 {
@@ -107,7 +106,6 @@ fn limit_of(asked: &Asked<'_>) -> Option<usize>
     }
 }
 
-/// Returns how paths are written, to a terminal or not.
 fn style_of(on_terminal: bool, asked: &Asked<'_>) -> Style
     ensures { result ≡ style_asked on_terminal asked.now }
 {
@@ -118,7 +116,7 @@ fn style_of(on_terminal: bool, asked: &Asked<'_>) -> Style
     }
 }
 
-/// Searches below each of these roots, in two halves. Returns whether there was no error.
+/// Searches the two halves of the roots in turn. Returns whether there was no error.
 fn search_each<
     T: Wait + Threads + Clock + Clone + Drop + Send + Sync + 'static,
     K: Clock,
@@ -158,7 +156,7 @@ fn search_each<
     }
 }
 
-/// Searches below all roots that are asked for. Returns whether there was no error.
+/// Searches the folder that the program runs in, if no root is named. Returns whether there was no error.
 fn search_roots<
     T: Wait + Threads + Clock + Clone + Drop + Send + Sync + 'static,
     K: Clock,
@@ -189,7 +187,6 @@ fn search_roots<
     search_each(alloc, search, roots, printer, out, err)
 }
 
-/// Searches as is asked for, with the names that are looked for.
 fn search_asked<
     T: Wait + Threads + Clock + Clone + Drop + Send + Sync + 'static,
     K: Clock,
@@ -262,14 +259,14 @@ fn search_asked<
     })
 }
 
-/// Searches the disk as the words ask, of which the first is the program's name. Prints the path of each entry that is
-/// looked for, and reports errors on `err`. Returns the status. If the output is a terminal, control characters in paths
-/// are written as question marks.
+/// Searches the disk as the words ask. The first word is the program's name. Prints the path of each entry that is
+/// looked for, and reports errors on `err`. Returns the status. If the output is a terminal, control characters in
+/// paths are written as question marks.
 ///
-/// The status is 0 if all was searched, or as much as was asked for, and there was no error. It is 1 if there was one, if
-/// the times that are named aren't known, if memory ran out, or if the output can't be written. It is 2 for bad words, and
-/// then nothing is printed. If the words ask for the status alone, nothing is printed. Then it is 0 as soon as one entry
-/// is found, and 1 if none is.
+/// The status is 0 if everything was searched, or as much as was asked for, and there was no error. It is 1 if there
+/// was one, if the times that are named aren't known, if memory ran out, or if the output can't be written. It is 2 for
+/// bad words, and then nothing is printed. If the words ask for the status alone, nothing is printed. Then the status
+/// is 0 as soon as one entry is found, and 1 if none is.
 pub fn run<
     T: Wait + Threads + Clock + Clone + Drop + Send + Sync + 'static,
     K: Clock,

@@ -38,16 +38,16 @@ use std::time::Clock;
 /// A walk under way that a crew may read for.
 pub(crate) type CrewWalk<T, C, S, P> = DirEntryIter<C, S, P, Global, Session<T, C, S, P, Global>>;
 
-/// One without ignore files.
+/// A walk without ignore files.
 pub(crate) type PlainWalk<T, S> = CrewWalk<T, ((), ()), Arc<S>, Excluding>;
 
-/// One that honours them.
+/// A walk with ignore files.
 pub(crate) type HonouringWalk<T, S, X> = CrewWalk<T, KeptStates, Arc<S>, KeptRules<X>>;
 
-/// A walk that isn't begun, with the states of ignore files.
+/// A walk that has not begun, with the states of ignore files.
 type Plain<T, S> = WalkDirGeneric<KeptStates, Arc<S>, NoProcess, Global, Crew<T>>;
 
-/// Begins a walk that a crew may read for, and prints what is found by it.
+/// A crew may read for the walk.
 fn print_begun<
     T: Wait + Threads + Clock + Drop + Send + Sync + 'static,
     K: Clock,
@@ -78,7 +78,7 @@ where
     print_found(&mut answers, printer, clock, out, err)
 }
 
-/// Begins a walk that honours these rules, and prints what is found by it.
+/// The walk honours these rules.
 fn search_walk<
     T: Wait + Threads + Clock + Clone + Drop + Send + Sync + 'static,
     K: Clock,
@@ -108,7 +108,6 @@ fn search_walk<
     print_begun(with_hidden_shown(walk, rules), printer, clock, out, err)
 }
 
-/// What is asked for, and what it is looked for in.
 #[derive(Drop)]
 pub(crate) struct Search<'a, 'w, T: Drop, K: Clock, S: FileSystem, X: Texts> {
     pub(crate) clock: &'a K,
@@ -125,8 +124,12 @@ impl<
     K: Clock,
     S: FileSystem + Send + Sync + 'static,
     X: Texts + Send + Sync + 'static,
+<<<<<<< HEAD
 > Search<'a, 'w, T, K, S, X> {
     /// Returns what is asked of the walks.
+=======
+> Search<'a, 'w, T, S, X> {
+>>>>>>> 3900bb4135bcdc9a2bc1de8334609b72e534a924
     fn options(&self) -> WalkOptions
         ensures { result ≡ walk_options self.now.asked.now }
     {
@@ -140,7 +143,7 @@ impl<
         }
     }
 
-    /// Searches below a root without ignore files.
+    /// Ignores ignore files.
     fn search_all<W: Write, E: Write>(
         &self,
         alloc: Global,
@@ -174,7 +177,7 @@ impl<
         )
     }
 
-    /// Searches below a root, with its ignore files.
+    /// Honours ignore files.
     fn search_kept<W: Write, E: Write>(
         &self,
         alloc: Global,
@@ -206,7 +209,7 @@ impl<
         search_walk(walk, KeptRules { rules }, printer, self.clock, out, err)
     }
 
-    /// Searches below a root, prints what is found and reports errors. Returns whether there was none.
+    /// Prints what is found, and reports errors. Returns whether there was none.
     pub(crate) fn below<W: Write, E: Write>(
         &self,
         alloc: Global,

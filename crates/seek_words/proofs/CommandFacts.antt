@@ -17,7 +17,7 @@ one_named old new name visible adds =
     ap rule_of adds.0
     ∙ ap (λ (names : List Text). record (rule_of old) { aliases = names }) (ap (map (λ alias. alias.0.now)) adds.1 ∙ map-append (λ alias. alias.0.now) old.aliases.items ((name, visible) ∷ []))
 
--- one argument more
+-- one more argument
 pub one_added : {old new : Command} {arg : Arg} {app : App} {rule : Rule} → AddsArg old arg new → arg.global ≡ false → rule_of arg ≡ rule → app_of old ≡ app → app_of new ≡ with_rule app rule
 one_added adds local ruled is = adds.shape local ∙ ap₂ with_rule is ruled
 
@@ -28,7 +28,7 @@ in_turn [] old new local adds = ap app_of (sym adds)
 in_turn (arg ∷ args) old new local adds =
     in_turn args adds.0 new (All-tail (λ it. it.global ≡ false) arg args local) adds.2 ∙ ap (λ app. with_rules app (map rule_of args)) (adds.1.shape (All-head (λ it. it.global ≡ false) arg args local))
 
--- several arguments more
+-- several more arguments
 pub all_added : {rules : List Rule} (args : List Arg) (old new : Command) → HaveRules args rules → AddsInTurn AddsArg old args new → app_of new ≡ with_rules (app_of old) rules
 all_added args old new have adds = in_turn args old new have.local adds ∙ ap (with_rules (app_of old)) have.ruled
 

@@ -76,7 +76,7 @@ refusal_most (NoTime text) = omega arith
 refusal_most (Slash pattern) = omega arith
 refusal_most Memory = omega arith
 
--- values that are refused are why words are
+-- words are refused if a value is
 no_words : (rows : List Row) (error : Error) → IsRefusedValue rows (Words error) → ⊥
 no_words rows error (inl why) = why
 no_words rows error (inr (inl why)) = why
@@ -100,7 +100,7 @@ value_refused words rows read (NoTime text) why = (read.app, read.is_seek, subst
 value_refused words rows read (Slash pattern) why = absurd (no_slash rows pattern why)
 value_refused words rows read Memory why = tt
 
--- why words are refused is why the refusal is returned
+-- the returned refusal is the reason why words are refused
 pub returned_for : {X : Type 0} (words : List Text) (result : Result X Refusal) (refusal : Refusal) → IsErrAnd result (λ it. it ≡ refusal) → IsRefusedFor words refusal → IfErr result (IsRefusedFor words)
 returned_for words (Ok x) refusal is why = tt
 returned_for words (Err it) refusal is why = subst (λ (r : Refusal). IsRefusedFor words r) (sym is) why

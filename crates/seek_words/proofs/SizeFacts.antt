@@ -13,7 +13,7 @@ fold_more : (number digit : ℕ) (digits : List ℕ) → fold with_digit number 
 fold_more number digit [] = refl
 fold_more number digit (d ∷ digits) = fold_more (with_digit number d) digit digits
 
--- the number that one digit more writes
+-- the number with one more digit
 pub one_more : (digits : List ℕ) (i d : ℕ) → i < length digits → number_of (take (i + 1) digits) ≡ with_digit (number_of (take i digits)) (get_or digits i d)
 one_more digits i d below = ap number_of (take_more digits i d below) ∙ fold_more 0 (get_or digits i d) (take i digits)
 
@@ -25,7 +25,7 @@ fold_parts : (number : ℕ) (xs ys : List ℕ) → fold with_digit number (xs ++
 fold_parts number [] ys = refl
 fold_parts number (x ∷ xs) ys = fold_parts (with_digit number x) xs ys
 
--- digits behind others don't make the number less
+-- more digits don't make a number less
 pub grows : (digits : List ℕ) (i : ℕ) → number_of (take i digits) ≤ number_of digits
 grows digits i =
     subst (λ l. number_of (take i digits) ≤ number_of l) (take-append-drop i digits)
@@ -52,18 +52,18 @@ pub none_above : (m n : ℕ) → m ≤ n → in_64_bits m ≡ None → in_64_bit
 none_above m n most none =
     let least : 2 ^ 64 ≤ m = too_great m (nat_lt m (2 ^ 64)) refl none in not_less n (nat_lt n (2 ^ 64)) refl (omega (arith, least, most))
 
--- one digit more, if the number has at most 64 bits with it
+-- one more digit, if the number then has at most 64 bits
 pub read_on : (digits : List ℕ) (i d number : ℕ) (next : Option ℕ) → i < length digits → in_64_bits (number_of (take i digits)) ≡ Some number
     → next ≡ in_64_bits (with_digit number (get_or digits i d)) → next ≡ in_64_bits (number_of (take (i + 1) digits))
 read_on digits i d number next below before read =
     read ∙ ap (λ n. in_64_bits (with_digit n (get_or digits i d))) (sym (same_number (number_of (take i digits)) number before)) ∙ ap in_64_bits (sym (one_more digits i d below))
 
--- and else all of them write none
+-- otherwise all digits give none
 pub read_none : (digits : List ℕ) (i d number : ℕ) → i < length digits → in_64_bits (number_of (take i digits)) ≡ Some number
     → None ≡ in_64_bits (with_digit number (get_or digits i d)) → None ≡ in_64_bits (number_of digits)
 read_none digits i d number below before read =
     sym (none_above (number_of (take (i + 1) digits)) (number_of digits) (grows digits (i + 1)) (sym (read_on digits i d number None below before read)))
 
--- a text begins with at most its length of digits
+-- a text has at most its length of digits
 pub digits_most : (text : List ℕ) → digit_count text ≤ length text
 digits_most text = prefix_len-le-length is_ascii_digit text

@@ -3,7 +3,7 @@ use Rattle.std.specs.Prelude.{ℕ, List, [], ◌++◌, if◌then◌else◌}
 use Rattle.jwalk_model.specs.Paths.{join, starts_with_slash}
 use Rattle.seek_words.specs.Paths.{without_here}
 
--- what is in front of a path: nothing if it is absolute
+-- the text in front of a path: nothing if it is absolute
 abbrev pub front_before : List ℕ → List ℕ → List ℕ
 front_before front path = if starts_with_slash path then [] else front
 

@@ -1,4 +1,4 @@
--- What words ask for, by the values that options were given.
+-- The meaning of words, by the values of options.
 use Rattle.std.specs.Prelude.{◌≡◌, ℕ, ◌<◌, ◌^◌, ◌==◌, Bool, ◌||◌, true, false, nat_lt, List, [], map, bytes_eq, codes, Option, Some, None, option_map, unwrap_or, SomeIff, if◌then◌else◌}
 use Rattle.std.specs.Borrow.{Bor}
 use Rattle.std.specs.List.{list_any}
@@ -24,13 +24,13 @@ is_either_named rows id other = is_named rows id || is_named rows other
 abbrev pub values_in : List Row → Text → List Text
 values_in rows id = unwrap_or (all_of id rows) []
 
--- A number that a text stands for, if it is one of 64 bits.
+-- The number of a text, if it has one of 64 bits.
 abbrev pub IsNumberOf : Option Text → Option ℕ → Type 0
 IsNumberOf None number = number ≡ None
 IsNumberOf (Some text) number =
     SomeIff number (IsNumeral 10 (without_leading_plus text) × (digits_value 10 (without_leading_plus text) < 2 ^ 64)) (digits_value 10 (without_leading_plus text))
 
--- How many paths are printed at most.
+-- The greatest number of printed paths.
 pub record AreResultsIn (rows : List Row) (most : Option ℕ) : Type 0 where
   pub one : is_named rows (codes "one-result") ≡ true → most ≡ Some 1
   pub named : is_named rows (codes "one-result") ≡ false → IsNumberOf (one_of (codes "max-results") rows) most
@@ -77,7 +77,7 @@ texts_of = map (λ it. it.now)
 abbrev pub is_slash : ℕ → Bool
 is_slash byte = byte == 47
 
--- What is asked for by the values that options were given.
+-- What the values of options ask for.
 pub record Asks (rows : List Row) (asked : Asked) : Type 0 where
   pub pattern : asked.pattern.now ≡ unwrap_or (first_of (codes "pattern") rows) []
   pub roots : texts_of asked.roots.items ≡ values_in rows (codes "root")

@@ -1,4 +1,4 @@
--- What the words of a call ask for.
+-- The meaning of the words of a call.
 use Rattle.std.specs.Prelude.{◌≡◌, ◌⊎◌, false, List, []}
 use Rattle.std.specs.List.{list_any}
 use Rattle.clap.specs.Words.{App, IsAmong, Kinds, Row, Text, fault_of, matches_of}
@@ -15,7 +15,8 @@ pub record GiveValues (words : List Text) (rows : List Row) : Type 0 where
   pub good : let faults : Kinds = fault_of app words in faults ≡ []
   pub values : rows ≡ matches_of app words
 
--- The words ask for this: they are those of the command line, no two options exclude each other, what is asked for is what the values say, and a pattern for names has no slash.
+-- The words ask for this. They are those of the command line, no two options exclude each other, the values of options
+-- ask for this, and a pattern for names has no slash.
 pub record AskFor (words : List Text) (asked : Asked) : Type 0 where
   pub rows : List Row
   pub values : GiveValues words rows

@@ -11,7 +11,8 @@ use Rattle.seek_words.specs.declared.case.Read.{Read}
 abbrev pub backslash : ℕ
 backslash = 92
 
--- the characters of a pattern but its escapes, which are a backslash and the character behind it. The first character may be that of an escape.
+-- the characters of a pattern without its escapes, each of which is a backslash and the character after it; the first
+-- character may be an escaped one
 abbrev pub unescaped : List ℕ → Bool → List ℕ
 unescaped [] escape = []
 unescaped (c ∷ cs) true = unescaped cs false
@@ -21,7 +22,7 @@ unescaped (c ∷ cs) false = if c == backslash then unescaped cs true else c ∷
 abbrev pub has_upper_case : List ℕ → Bool
 has_upper_case pattern = list_any is_uppercase (unescaped (chars pattern) false)
 
--- whether a pattern that is read so far has one, if these characters are left
+-- whether a pattern has one, after some of its characters, if these are left
 abbrev pub has_with : Read → List ℕ → Bool
 has_with read left = read.upper || list_any is_uppercase (unescaped left read.escaped)
 

@@ -8,7 +8,7 @@ use Rattle.clap.specs.declared.builder.arg.Arg.{Arg}
 use Rattle.clap.specs.declared.builder.action.ArgAction.TheVariants.{Set, Append, Count}
 use Rattle.clap.specs.declared.builder.value_parser.ValueParser.TheVariants.{Unsigned, Names}
 
--- a command with these arguments behind its others
+-- a command with these arguments after its others
 abbrev pub with_rules : App → List Rule → App
 with_rules app [] = app
 with_rules app (rule ∷ rules) = with_rules (with_rule app rule) rules
@@ -21,7 +21,7 @@ flag_rule id short = record (new_rule id) { long = Some id; short = Some short; 
 abbrev pub long_flag_rule : Text → Rule
 long_flag_rule id = record (new_rule id) { long = Some id; action = Some Count }
 
--- an option with one more long name
+-- an option with another long name
 abbrev pub with_name : Text → Rule → Rule
 with_name name rule = record rule { aliases = rule.aliases ++ name ∷ [] }
 
@@ -29,7 +29,7 @@ with_name name rule = record rule { aliases = rule.aliases ++ name ∷ [] }
 abbrev pub valued_rule : Text → Rule
 valued_rule id = record (new_rule id) { long = Some id; action = Some Set; value_names = 1 }
 
--- an option with values, of which each word of it has one
+-- an option with values, one for each word of it
 abbrev pub listed_rule : Text → ℕ → Rule
 listed_rule id short = record (valued_rule id) { short = Some short; action = Some Append }
 
@@ -37,7 +37,7 @@ listed_rule id short = record (valued_rule id) { short = Some short; action = So
 abbrev pub number_rule : Text → Rule
 number_rule id = record (valued_rule id) { parser = Some (Unsigned 0 18446744073709551615) }
 
--- the words that are no options: the pattern, and the roots
+-- the words that aren't options: the pattern, and the roots
 abbrev pub pattern_rule : Rule
 pattern_rule = record (new_rule (codes "pattern")) { value_names = 1 }
 
@@ -48,7 +48,7 @@ root_rule = record (new_rule (codes "root")) { value_names = 1; action = Some Ap
 abbrev pub and_rule : Rule
 and_rule = record (valued_rule (codes "and")) { action = Some Append }
 
--- how a pattern is read
+-- the reading of a pattern
 abbrev pub pattern_rules : List Rule
 pattern_rules =
     flag_rule (codes "glob") 103 ∷ flag_rule (codes "fixed-strings") 70 ∷ and_rule ∷ flag_rule (codes "full-path") 112 ∷ []
@@ -70,7 +70,7 @@ walk_rules =
 abbrev pub file_system_rule : Rule
 file_system_rule = with_name (codes "xdev") (with_name (codes "mount") (long_flag_rule (codes "one-file-system")))
 
--- how far a walk goes, and how it goes
+-- the reach and the order of a walk
 abbrev pub reach_rules : List Rule
 reach_rules = file_system_rule ∷ long_flag_rule (codes "sort") ∷ threads_rule ∷ []
 
@@ -82,17 +82,17 @@ kind_rule kinds = record (listed_rule (codes "type") 116) { parser = Some (Names
 abbrev pub max_depth_rule : Rule
 max_depth_rule = with_name (codes "maxdepth") (record (number_rule (codes "max-depth")) { short = Some 100 })
 
--- which of them are looked for, of these types
+-- the entries that are looked for, of these types
 abbrev pub filter_rules : Bor (List (Bor Text)) → List Rule
 filter_rules kinds =
     number_rule (codes "min-depth") ∷ max_depth_rule ∷ number_rule (codes "exact-depth")
     ∷ kind_rule kinds ∷ listed_rule (codes "extension") 101 ∷ listed_rule (codes "size") 83 ∷ []
 
--- the time that entries were modified after
+-- the time after which entries were modified
 abbrev pub within_rule : Rule
 within_rule = with_name (codes "newer") (valued_rule (codes "changed-within"))
 
--- the times that they were modified at
+-- the times at which entries were modified
 abbrev pub time_rules : List Rule
 time_rules = within_rule ∷ valued_rule (codes "changed-before") ∷ valued_rule (codes "newer-than-file") ∷ []
 
@@ -100,7 +100,7 @@ time_rules = within_rule ∷ valued_rule (codes "changed-before") ∷ valued_rul
 abbrev pub one_rule : Rule
 one_rule = record (new_rule (codes "one-result")) { short = Some 49; action = Some Count }
 
--- what is printed of what is found
+-- the part of the finds that is printed
 abbrev pub print_rules : List Rule
 print_rules =
     number_rule (codes "max-results") ∷ one_rule ∷ flag_rule (codes "quiet") 113 ∷ flag_rule (codes "print0") 48 ∷ []
@@ -122,7 +122,7 @@ pub record HaveRules (args : List Arg) (rules : List Rule) : Type 0 where
   pub local : All (λ arg. arg.global ≡ false) args
   pub ruled : map rule_of args ≡ rules
 
--- The arguments are those that say which entries are looked for.
+-- The arguments are those for the entries that are looked for.
 pub record AreFilters (args : List Arg) : Type 0 where
   pub kinds : Bor (List (Bor Text))
   pub names : map (λ it. it.now) kinds.now ≡ kind_names
@@ -132,15 +132,15 @@ pub record AreFilters (args : List Arg) : Type 0 where
 abbrev pub named_app : App
 named_app = record (new_app (codes "seek")) { top = record (new_shape (codes "seek")) { has_version = true } }
 
--- the command with the arguments that say what is compared
+-- the command with the arguments for what is compared
 abbrev pub pattern_app : App
 pattern_app = with_rules (with_rules (with_rules named_app (pattern_rule ∷ root_rule ∷ [])) pattern_rules) case_rules
 
--- and with those that say what is walked
+-- and with those for what is walked
 abbrev pub walk_app : App
 walk_app = with_rules (with_rules pattern_app walk_rules) reach_rules
 
--- and with all others, of which one has these names of types
+-- and with all others; one has these names of types
 abbrev pub seek_app : Bor (List (Bor Text)) → App
 seek_app kinds = with_rules (with_rules (with_rules walk_app (filter_rules kinds)) time_rules) print_rules
 

@@ -7,15 +7,15 @@ use Rattle.seek_words.specs.Asks.{is_named}
 abbrev pub has_value : List Row → Text → Bool
 has_value rows id = is_some (first_of id rows)
 
--- whether the case of letters is to count and not to count
+-- whether the case of letters must count and must not count
 abbrev pub has_both_cases : List Row → Bool
 has_both_cases rows = is_named rows (codes "ignore-case") && is_named rows (codes "case-sensitive")
 
--- whether the pattern is to be a glob and a text
+-- whether the pattern must be a glob and a text
 abbrev pub has_both_readings : List Row → Bool
 has_both_readings rows = is_named rows (codes "glob") && is_named rows (codes "fixed-strings")
 
--- whether there is an exact depth beside another
+-- whether an exact depth and another depth are named
 abbrev pub has_both_depths : List Row → Bool
 has_both_depths rows = has_value rows (codes "exact-depth") && (has_value rows (codes "min-depth") || has_value rows (codes "max-depth"))
 

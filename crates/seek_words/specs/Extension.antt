@@ -8,12 +8,12 @@ abbrev pub is_dotted : List ℕ → List ℕ → Bool
 is_dotted extension [] = false
 is_dotted extension (c ∷ cs) = c == 46 && bytes_eq (map to_ascii_lowercase cs) (map to_ascii_lowercase extension)
 
--- an extension without one dot in front
+-- an extension without its first dot
 abbrev pub without_dot : List ℕ → List ℕ
 without_dot [] = []
 without_dot (c ∷ cs) = if c == 46 then cs else c ∷ cs
 
--- whether a name ends with a dot and this text, and has something in front of them
+-- whether a name ends with a dot and this text, after at least one character
 abbrev pub has_ending : List ℕ → List ℕ → Bool
 has_ending ending name =
     nat_lt (length ending + 1) (length name) && is_dotted ending (drop (length name - (length ending + 1)) name)

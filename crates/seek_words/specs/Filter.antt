@@ -1,4 +1,4 @@
--- A filter, as what it looks for.
+-- What a filter looks for.
 use Rattle.std.specs.Prelude.{ℕ, Bool, List, option_map}
 use Rattle.seek_words.specs.Sought.{Sought}
 use Rattle.seek_words.specs.Subject.{front_of}

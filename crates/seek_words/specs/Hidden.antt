@@ -7,7 +7,7 @@ use Rattle.seek_words.specs.declared.asked.Asked.{Asked}
 abbrev pub begins_escaped_dot : List ℕ → Bool
 begins_escaped_dot text = bytes_eq (take 3 text) (94 ∷ 92 ∷ 46 ∷ [])
 
--- whether a pattern for names can find hidden ones alone, by how it begins, and they don't come
+-- whether hidden names don't come, but a pattern for names can find no others, by its beginning
 abbrev pub finds_none_shown : Asked → Bool
 finds_none_shown asked =
     not asked.hidden && (not asked.full_path && (not asked.fixed && (if asked.glob then is_hidden asked.pattern.now else begins_escaped_dot asked.pattern.now)))

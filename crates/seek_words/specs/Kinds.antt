@@ -15,7 +15,7 @@ is_named kinds Dir = kinds.dir
 is_named kinds Symlink = kinds.link
 is_named kinds Other = kinds.other
 
--- whether a type is that only a mode tells
+-- whether a type is named that depends on the mode
 abbrev pub names_mode : Kinds → Bool
 names_mode kinds = kinds.executable || (kinds.pipe || (kinds.socket || (kinds.block || kinds.char)))
 
@@ -23,7 +23,7 @@ names_mode kinds = kinds.executable || (kinds.pipe || (kinds.socket || (kinds.bl
 abbrev pub names_none : Kinds → Bool
 names_none kinds = not kinds.file && (not kinds.dir && (not kinds.link && (not kinds.other && not (names_mode kinds))))
 
--- whether a mode lets someone execute the file
+-- whether a mode permits anyone to execute the file
 abbrev pub is_executable : ℕ → Bool
 is_executable mode = not (bit_and mode 73 == 0)
 
@@ -31,12 +31,12 @@ is_executable mode = not (bit_and mode 73 == 0)
 abbrev pub has_format : ℕ → ℕ → Bool
 has_format mode format = bit_and mode 61440 == format
 
--- whether a pipe, a socket, a block device or a character device is named, and this mode is that of one
+-- whether a pipe, a socket, a block device or a character device is named, and has this mode
 abbrev pub is_special : Kinds → ℕ → Bool
 is_special kinds mode =
     (kinds.pipe && has_format mode 4096) || ((kinds.socket && has_format mode 49152) || ((kinds.block && has_format mode 24576) || (kinds.char && has_format mode 8192)))
 
--- whether a type is named that this mode tells
+-- whether a type is named that has this mode
 abbrev pub has_mode : Kinds → FileType → ℕ → Bool
 has_mode kinds type mode = (kinds.executable && (is_file type && is_executable mode)) || is_special kinds mode
 
@@ -44,10 +44,10 @@ abbrev mode_among : Kinds → FileType → Option Details → Bool
 mode_among kinds type None = false
 mode_among kinds type (Some details) = has_mode kinds type details.mode
 
--- whether the mode is known, and a type is named that it tells
+-- whether the mode is known, and a type is named that has it
 abbrev pub has_modes : Kinds → FileType → Option Metadata → Bool
 has_modes kinds type seen = mode_among kinds type (details_seen seen)
 
--- whether an entry of this type is looked for: its type is named, or its mode tells one that is, or none is
+-- whether an entry of this type is looked for: its type is named, or its mode has a named type, or no type is named
 abbrev pub has_kind : Kinds → FileType → Option Metadata → Bool
 has_kind kinds type seen = names_none kinds || (is_named kinds type || has_modes kinds type seen)

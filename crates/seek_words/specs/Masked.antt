@@ -3,11 +3,11 @@ use Rattle.std.specs.Prelude.{ℕ, List, [], ◌∷◌, ◌++◌, encode_utf8, i
 use Rattle.std.specs.Char.{is_control}
 use Rattle.std.specs.Str.{chars}
 
--- a character as it is shown: a question mark for a control character
+-- the printed form of a character: a question mark for a control character
 abbrev pub shown_char : ℕ → ℕ
 shown_char c = if is_control c then 63 else c
 
--- characters as they are shown, in UTF-8
+-- the printed form of characters, in UTF-8
 abbrev pub shown_chars : List ℕ → List ℕ
 shown_chars [] = []
 shown_chars (c ∷ cs) = encode_utf8 (shown_char c) ++ shown_chars cs

@@ -7,6 +7,6 @@ use Rattle.seek_words.specs.declared.asked.Asked.{Asked}
 abbrev pub names_time : Asked → Bool
 names_time asked = is_some asked.changed_within || (is_some asked.changed_before || is_some asked.newer_than)
 
--- whether a size, a time, or a type is named that only a mode tells
+-- whether a size, a time, or a type is named that depends on the mode
 abbrev pub needs_metadata : Asked → Bool
 needs_metadata asked = not (length asked.sizes.items == 0) || (names_time asked || names_mode asked.kinds)

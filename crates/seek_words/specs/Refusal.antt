@@ -1,4 +1,4 @@
--- Why words are refused.
+-- The refusals of words.
 use Rattle.std.specs.Prelude.{◌≡◌, ◌⊎◌, ℕ, true, false, codes, List, Option, None, Some}
 use Rattle.std.specs.List.{list_any, Contains}
 use Rattle.clap.specs.Words.{App, HasKind, Row, Text, fault_of, first_of, kind_of, matches_of}
@@ -12,7 +12,7 @@ use Rattle.seek_words.specs.declared.refusal.Refusal.{Refusal}
 use Rattle.seek_words.specs.declared.refusal.Refusal.TheVariants.{Words, Conflict, NoSize, NoTime, Slash, Memory}
 use Rattle.seek_words.specs.Status.{status_of_kind}
 
--- the status that the program ends with
+-- the status of the program
 abbrev pub status_of : Refusal → ℕ
 status_of (Words error) = status_of_kind (kind_of error)
 status_of (Conflict one other) = 2
@@ -21,29 +21,30 @@ status_of (NoTime text) = 2
 status_of (Slash pattern) = 2
 status_of Memory = 1
 
--- What was asked for has a pattern with a slash, which is compared with names.
+-- A pattern has a slash, and is compared with names.
 pub record NamesSlash (asked : Asked) : Type 0 where
   pub by_name : asked.full_path ≡ false
   pub slash : list_any is_slash asked.pattern.now ≡ true
 
--- Why sizes are refused: one of their texts stands for none, or memory ran out.
+-- The refusal of sizes: one of their texts isn't a size, or memory ran out.
 abbrev pub IsRefusedSize : List Text → Refusal → Type 0
 IsRefusedSize texts (NoSize text) = Contains texts text.now × (size_in text.now ≡ None)
 IsRefusedSize texts Memory = Unit {0}
 IsRefusedSize texts _ = ⊥
 
--- Why a time is refused: the text that is named stands for none.
+-- The refusal of a time: the text that is named isn't a time.
 abbrev pub IsRefusedTime : Option Text → Refusal → Type 0
 IsRefusedTime named (NoTime text) = (named ≡ Some text.now) × (time_in text.now ≡ None)
 IsRefusedTime named _ = ⊥
 
--- Why a value is refused: that of a size, or of a time.
+-- The refusal of a value: of a size, or of a time.
 abbrev pub IsRefusedValue : List Row → Refusal → Type 0
 IsRefusedValue rows refusal =
     IsRefusedSize (values_in rows (codes "size")) refusal
     ⊎ (IsRefusedTime (first_of (codes "changed-within") rows) refusal ⊎ IsRefusedTime (first_of (codes "changed-before") rows) refusal)
 
--- Why words are refused: they aren't those of the command line, or ask for a text; options exclude each other; a size or a time is none; the pattern has a slash and is compared with names; or memory ran out.
+-- The refusal of words: they aren't those of the command line, or ask for help or the version; options exclude each
+-- other; a size or a time is bad; the pattern has a slash and is compared with names; or memory ran out.
 abbrev pub IsRefusedFor : List Text → Refusal → Type 0
 IsRefusedFor words (Words error) = (app : App) × IsSeek app × HasKind (fault_of app words) error
 IsRefusedFor words (Conflict one other) = (app : App) × IsSeek app × (has_conflict (matches_of app words) ≡ true)
@@ -52,6 +53,6 @@ IsRefusedFor words (NoTime text) = (app : App) × IsSeek app × IsRefusedValue (
 IsRefusedFor words (Slash pattern) = (app : App) × IsSeek app × (asked : Asked) × Asks (matches_of app words) asked × NamesSlash asked
 IsRefusedFor words Memory = Unit {0}
 
--- Words are bad: they are refused, and not for memory.
+-- Words are bad: they are refused, and not as memory ran out.
 abbrev pub AreBad : List Text → Type 0
 AreBad words = (refusal : Refusal) × IsRefusedFor words refusal × (status_of refusal ≡ 2)

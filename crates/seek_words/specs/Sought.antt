@@ -6,7 +6,8 @@ use Rattle.jwalk_model.specs.declared.metadata.Metadata.{Metadata}
 use Rattle.seek_words.specs.Absolute.{absolute_path}
 use Rattle.seek_words.specs.Wanted.{Wants, is_wanted}
 
--- what is looked for: the depths, types, extensions, sizes and times, which texts pass, and what is in front of a relative path where the absolute path is tested
+-- what is looked for: the depths, types, extensions, sizes and times, the texts that pass, and the text in front of a
+-- relative path if absolute paths are tested
 pub record Sought : Type 0 where
   pub wanted : Wants
   pub takes : List ℕ → Bool → Bool

@@ -13,13 +13,13 @@ unit_lengths =
     31_557_600_000_000_000 ∷ 2_630_016_000_000_000 ∷ 604_800_000_000_000 ∷ 86_400_000_000_000 ∷ 3_600_000_000_000
     ∷ 60_000_000_000 ∷ 1_000_000_000 ∷ 1_000_000 ∷ 1_000 ∷ 1 ∷ []
 
--- numbers of units, each times the unit's length, as a sum
+-- the sum of numbers of units, each times the length of the unit
 abbrev pub sum_of : List ℕ → List ℕ → ℕ
 sum_of [] lengths = 0
 sum_of (n ∷ ns) [] = 0
 sum_of (n ∷ ns) (length ∷ lengths) = n * length + sum_of ns lengths
 
--- the time that is so long ago, by the sign of a span and its numbers of units
+-- a time ago, by the sign of a span and its numbers of units
 abbrev pub ago_in : Result (List ℕ) Error → Option Time
 ago_in (Ok (sign ∷ numbers)) = if sign == 0 then option_map Ago (in_64_bits (sum_of numbers unit_lengths)) else None
 ago_in _ = None
@@ -34,17 +34,17 @@ abbrev pub civil_in : Result (DateParts × TimeParts) Error → Option Time
 civil_in (Ok (date, time)) = Some (At (parts_nanos date time))
 civil_in (Err e) = None
 
--- the time that is so many seconds after the beginning of 1970, behind an `@`
+-- the time of the seconds after the beginning of 1970, which follow an `@`
 abbrev pub second_in : List ℕ → Option Time
 second_in [] = None
 second_in (c ∷ cs) = if c == 64 then option_map (λ n. At (pos (n * 1_000_000_000))) (digits_number cs) else None
 
--- the time that a text stands for: how long ago it is, a date with an offset or in UTC, or seconds
+-- the time of a text: a time ago, a date with an offset or in UTC, or seconds
 abbrev pub time_in : List ℕ → Option Time
 time_in text =
     option_or (option_or (option_or (ago_in (parse_span text)) (instant_in (parse_timestamp text))) (civil_in (parse_datetime text))) (second_in text)
 
--- a time in nanoseconds since the beginning of 1970, where this is when the call began
+-- a time in nanoseconds since the beginning of 1970, by when the call began
 abbrev pub nanoseconds_at : ℤ → Time → ℤ
 nanoseconds_at now (Ago nanoseconds) = now -ℤ pos nanoseconds
 nanoseconds_at now (At nanoseconds) = nanoseconds

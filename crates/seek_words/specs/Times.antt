@@ -1,4 +1,4 @@
--- When what is looked for was modified.
+-- The times at which the entries that are looked for were modified.
 use Rattle.std.specs.Prelude.{ℤ, pos, ◌+ℤ◌, ◌*ℤ◌, int_lt, Bool, true, not, ◌&&◌, is_some, Option, None, Some}
 use Rattle.jwalk_model.specs.declared.metadata.Details.{Details}
 use Rattle.jwalk_model.specs.declared.metadata.Metadata.{Metadata}
@@ -20,7 +20,7 @@ abbrev pub is_before : Option ℤ → ℤ → Bool
 is_before None time = true
 is_before (Some limit) time = int_lt time limit
 
--- whether what was modified then is looked for
+-- whether entries that were modified then are looked for
 abbrev pub is_modified : Times → Moment → Bool
 is_modified times modified =
     let time = nanoseconds_of modified in is_after times.after time && (is_after times.after_file time && is_before times.before time)
@@ -33,6 +33,6 @@ abbrev is_timed_by : Times → Option Details → Bool
 is_timed_by times None = names_no_time times
 is_timed_by times (Some details) = is_modified times details.modified
 
--- whether an entry was modified when it is looked for; if that isn't known, whether no time is named
+-- whether an entry with this metadata is looked for; if it isn't known, whether no time is named
 abbrev pub is_timed : Times → Option Metadata → Bool
 is_timed times seen = is_timed_by times (details_seen seen)

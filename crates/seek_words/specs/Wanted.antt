@@ -1,4 +1,4 @@
--- What is looked for, but for the pattern.
+-- The entries that are looked for, apart from the pattern.
 use Rattle.std.specs.Prelude.{ℕ, Bool, ◌&&◌, List, map, Option}
 use Rattle.jwalk_model.specs.declared.file_type.FileType.{FileType}
 use Rattle.jwalk_model.specs.declared.metadata.Metadata.{Metadata}

@@ -1,4 +1,4 @@
-//! What a call asks for.
+//! The meaning of a call.
 ghost use Rattle.std.specs.Prelude.{◌≡◌};
 
 use crate::case::Case;
@@ -16,17 +16,17 @@ pub struct Asked<'w> {
     pub pattern: &'w str,
     /// The roots. If there are none, it is the folder that the program runs in.
     pub roots: Vec<&'w str, Global>,
-    /// The pattern is a glob, which takes the whole name.
+    /// The pattern is a glob, which must take the whole name.
     pub glob: bool,
-    /// The pattern is a text, which a name has in it.
+    /// The pattern is a text, which a name must have in it.
     pub fixed: bool,
-    /// More patterns, which count too.
+    /// More patterns, which must be found as well.
     pub others: Vec<&'w str, Global>,
     /// The pattern is compared with the absolute path.
     pub full_path: bool,
     /// Whether the case of letters counts.
     pub case: Case,
-    /// Hidden names come too.
+    /// Hidden names come, too.
     pub hidden: bool,
     /// No ignore files are read.
     pub no_ignore: bool,
@@ -40,9 +40,9 @@ pub struct Asked<'w> {
     pub depths: Depths,
     /// The types of what is looked for.
     pub kinds: Kinds,
-    /// The extensions of what is looked for; any, if there are none.
+    /// The extensions of what is looked for, or none for any.
     pub extensions: Vec<&'w str, Global>,
-    /// The sizes of what is looked for, which are of files; any entry, if there are none.
+    /// The sizes of the files that are looked for, or none for any entry.
     pub sizes: Vec<Size, Global>,
     /// Entries were modified later than this, if it is named.
     pub changed_within: Option<Time>,
@@ -50,31 +50,30 @@ pub struct Asked<'w> {
     pub changed_before: Option<Time>,
     /// Entries were modified later than this file, if it is named.
     pub newer_than: Option<&'w str>,
-    /// When entries were modified, by the clock and the disk. The words alone say nothing of it.
+    /// The times at which entries were modified, by the clock and the disk. The words alone don't set it.
     pub times: Times,
-    /// Lines of an ignore file, for what is left out.
+    /// Lines of an ignore file, for entries to leave out.
     pub excludes: Vec<&'w str, Global>,
-    /// How many paths are printed at most, if that was named.
+    /// The greatest number of printed paths, if that was named.
     pub max_results: Option<usize>,
     /// No path is printed, and the status says whether there is one.
     pub quiet: bool,
-    /// A zero byte is behind each path, in place of a line feed.
+    /// A zero byte follows each path, in place of a line feed.
     pub print0: bool,
-    /// How many threads read directories, if that was named.
+    /// The number of threads that read directories, if that was named.
     pub threads: Option<usize>,
 }
 
 impl<'w> Asked<'w> {
     ghost use Rattle.seek_words.specs.Metadata.{names_time, needs_metadata};
 
-    /// Returns whether a time is named.
     fn names_time(&self) -> bool
         ensures { result ≡ names_time self.now }
     {
         self.changed_within.is_some() || self.changed_before.is_some() || self.newer_than.is_some()
     }
 
-    /// Returns whether metadata of entries is asked for.
+    /// Returns whether the call asks for metadata of entries.
     pub fn needs_metadata(&self) -> bool
         ensures { result ≡ needs_metadata self.now }
     {

@@ -1,4 +1,4 @@
-//! Whether the case of letters counts.
+//! The case of letters.
 ghost use Rattle.std.specs.Prelude.{◌≡◌, ◌∷◌, ℕ, List};
 
 /// Whether the case of letters counts.
@@ -12,19 +12,19 @@ pub enum Case {
     Kept,
 }
 
-/// What is known of a pattern once some of its characters were read.
+/// The facts of a pattern after some of its characters.
 #[derive(Clone, Copy)]
 struct Read {
-    /// Whether an odd number of backslashes is right before what is left.
+    /// Whether an odd number of backslashes comes right before the rest.
     escaped: bool,
-    /// Whether there was an upper-case letter that is no escape.
+    /// Whether there was an upper-case letter that isn't escaped.
     upper: bool,
 }
 
 impl Read {
     ghost use Rattle.seek_words.specs.Case.{has_with};
 
-    /// Returns what is known after one more character.
+    /// Returns the facts after one more character.
     fn then(self, next: char) -> Self
         ensures { (left : List ℕ) → has_with result left ≡ has_with self (next ∷ left) }
     {
@@ -44,7 +44,7 @@ impl Read {
 impl Case {
     ghost use Rattle.seek_words.specs.Case.{has_upper_case, is_ignored};
 
-    /// Returns whether a pattern has an upper-case letter. One right behind a backslash, as in `\W`, isn't a letter.
+    /// A letter right after a backslash, as in `\W`, doesn't count.
     fn has_upper_case(pattern: &str) -> bool
         ensures { result ≡ has_upper_case pattern.now }
     {

@@ -6,7 +6,6 @@ ghost use Rattle.seek_words.specs.Command.{flag_rule, long_flag_rule, valued_rul
 use clap::{Arg, ArgAction, Command};
 use std::alloc::{AllocError, Global};
 
-/// The names of types.
 static KINDS: [&str; 19] = [
     "f",
     "file",
@@ -29,7 +28,7 @@ static KINDS: [&str; 19] = [
     "other",
 ];
 
-/// Returns an option of one word, which may be repeated.
+/// The option may be repeated. Its name is the long word.
 fn flag<'a>(alloc: Global, id: &'a str, short: char, help: &'a str) -> Arg<'a>
     ensures rule { rule_of result ≡ flag_rule id.entry.now short }
     ensures local { result.global ≡ false }
@@ -41,7 +40,7 @@ fn flag<'a>(alloc: Global, id: &'a str, short: char, help: &'a str) -> Arg<'a>
         .help(help)
 }
 
-/// Returns an option of one long word, which may be repeated.
+/// The option may be repeated.
 fn long_flag<'a>(alloc: Global, id: &'a str, help: &'a str) -> Arg<'a>
     ensures rule { rule_of result ≡ long_flag_rule id.entry.now }
     ensures local { result.global ≡ false }
@@ -52,7 +51,6 @@ fn long_flag<'a>(alloc: Global, id: &'a str, help: &'a str) -> Arg<'a>
         .help(help)
 }
 
-/// Returns the same option, which has one more long name.
 fn also_named<'a>(arg: Arg<'a>, name: &'a str) -> Result<Arg<'a>, AllocError>
     ensures rule { IfOk result (λ it. rule_of it ≡ with_name name.entry.now (rule_of arg.entry)) }
     ensures local { IfOk result (λ it. it.global ≡ arg.entry.global) }
@@ -60,7 +58,6 @@ fn also_named<'a>(arg: Arg<'a>, name: &'a str) -> Result<Arg<'a>, AllocError>
     arg.visible_alias(name)
 }
 
-/// Returns an option with a value.
 fn valued<'a>(alloc: Global, id: &'a str, value: &'a str, help: &'a str) -> Arg<'a>
     ensures rule { rule_of result ≡ valued_rule id.entry.now }
     ensures local { result.global ≡ false }
@@ -72,7 +69,7 @@ fn valued<'a>(alloc: Global, id: &'a str, value: &'a str, help: &'a str) -> Arg<
         .help(help)
 }
 
-/// Returns an option with values, of which each word of it has one.
+/// Each word of the option has one value.
 fn listed<'a>(alloc: Global, id: &'a str, short: char, value: &'a str, help: &'a str) -> Arg<'a>
     ensures rule { rule_of result ≡ listed_rule id.entry.now short }
     ensures local { result.global ≡ false }
@@ -82,7 +79,6 @@ fn listed<'a>(alloc: Global, id: &'a str, short: char, value: &'a str, help: &'a
         .action(ArgAction::Append)
 }
 
-/// Returns an option with a number.
 fn number<'a>(alloc: Global, id: &'a str, help: &'a str) -> Arg<'a>
     ensures rule { rule_of result ≡ number_rule id.entry.now }
     ensures local { result.global ≡ false }
@@ -90,7 +86,6 @@ fn number<'a>(alloc: Global, id: &'a str, help: &'a str) -> Arg<'a>
     valued(alloc, id, "N", help).value_parser(clap::value_parser!(usize))
 }
 
-/// Returns the option with more patterns.
 fn and_option<'a>(alloc: Global) -> Arg<'a>
     ensures rule { rule_of result ≡ and_rule }
     ensures local { result.global ≡ false }
@@ -104,7 +99,6 @@ fn and_option<'a>(alloc: Global) -> Arg<'a>
     .action(ArgAction::Append)
 }
 
-/// Returns the options that say how a pattern is read.
 fn pattern_options<'a>(alloc: Global) -> Result<Vec<Arg<'a>>, AllocError>
     ensures { IfOk result (λ options. HaveRules options.items pattern_rules) }
 {
@@ -131,7 +125,6 @@ fn pattern_options<'a>(alloc: Global) -> Result<Vec<Arg<'a>>, AllocError>
     ]?)
 }
 
-/// Returns the options that say whether the case of letters counts.
 fn case_options<'a>(alloc: Global) -> Result<Vec<Arg<'a>>, AllocError>
     ensures { IfOk result (λ options. HaveRules options.items case_rules) }
 {
@@ -151,7 +144,6 @@ fn case_options<'a>(alloc: Global) -> Result<Vec<Arg<'a>>, AllocError>
     ]?)
 }
 
-/// Returns the option with the number of threads.
 fn threads_option<'a>(alloc: Global) -> Arg<'a>
     ensures rule { rule_of result ≡ threads_rule }
     ensures local { result.global ≡ false }
@@ -166,7 +158,6 @@ fn threads_option<'a>(alloc: Global) -> Arg<'a>
     .value_parser(clap::value_parser!(usize).range(1..))
 }
 
-/// Returns the options that say which entries are walked.
 fn walk_options<'a>(alloc: Global) -> Result<Vec<Arg<'a>>, AllocError>
     ensures { IfOk result (λ options. HaveRules options.items walk_rules) }
 {
@@ -185,7 +176,6 @@ fn walk_options<'a>(alloc: Global) -> Result<Vec<Arg<'a>>, AllocError>
     ]?)
 }
 
-/// Returns the option that stays on the file system of the root.
 fn file_system_option<'a>(alloc: Global) -> Result<Arg<'a>, AllocError>
     ensures { IfOk result (HasRule file_system_rule) }
 {
@@ -197,7 +187,6 @@ fn file_system_option<'a>(alloc: Global) -> Result<Arg<'a>, AllocError>
     also_named(also_named(stays, "mount")?, "xdev")
 }
 
-/// Returns the options that say how far a walk goes, and how it goes.
 fn reach_options<'a>(alloc: Global) -> Result<Vec<Arg<'a>>, AllocError>
     ensures { IfOk result (λ options. HaveRules options.items reach_rules) }
 {
@@ -208,7 +197,6 @@ fn reach_options<'a>(alloc: Global) -> Result<Vec<Arg<'a>>, AllocError>
     ]?)
 }
 
-/// Returns the option with the types.
 fn kind_option<'a>(alloc: Global) -> Arg<'a>
     ensures rule { (kinds : _) × (map (λ it. it.now) kinds.now ≡ kind_names) × (rule_of result ≡ kind_rule kinds) }
     ensures local { result.global ≡ false }
@@ -224,7 +212,6 @@ fn kind_option<'a>(alloc: Global) -> Arg<'a>
     .hide_possible_values(true)
 }
 
-/// Returns the option with the greatest depth.
 fn max_depth_option<'a>(alloc: Global) -> Result<Arg<'a>, AllocError>
     ensures { IfOk result (HasRule max_depth_rule) }
 {
@@ -232,7 +219,6 @@ fn max_depth_option<'a>(alloc: Global) -> Result<Arg<'a>, AllocError>
     also_named(depth, "maxdepth")
 }
 
-/// Returns the options that say which of them are looked for.
 fn filter_options<'a>(alloc: Global) -> Result<Vec<Arg<'a>>, AllocError>
     ensures { IfOk result (λ options. AreFilters options.items) }
 {
@@ -252,7 +238,6 @@ fn filter_options<'a>(alloc: Global) -> Result<Vec<Arg<'a>>, AllocError>
     ]?)
 }
 
-/// Returns the option with the time that entries were modified after.
 fn within_option<'a>(alloc: Global) -> Result<Arg<'a>, AllocError>
     ensures { IfOk result (HasRule within_rule) }
 {
@@ -265,7 +250,6 @@ fn within_option<'a>(alloc: Global) -> Result<Arg<'a>, AllocError>
     also_named(within, "newer")
 }
 
-/// Returns the options with times.
 fn time_options<'a>(alloc: Global) -> Result<Vec<Arg<'a>>, AllocError>
     ensures { IfOk result (λ options. HaveRules options.items time_rules) }
 {
@@ -281,7 +265,6 @@ fn time_options<'a>(alloc: Global) -> Result<Vec<Arg<'a>>, AllocError>
     ]?)
 }
 
-/// Returns the option for one result.
 fn one_option<'a>(alloc: Global) -> Arg<'a>
     ensures rule { rule_of result ≡ one_rule }
     ensures local { result.global ≡ false }
@@ -292,7 +275,6 @@ fn one_option<'a>(alloc: Global) -> Arg<'a>
         .help("The same as --max-results 1")
 }
 
-/// Returns the options that say what is printed of what is found.
 fn print_options<'a>(alloc: Global) -> Result<Vec<Arg<'a>>, AllocError>
     ensures { IfOk result (λ options. HaveRules options.items print_rules) }
 {
@@ -314,7 +296,6 @@ fn print_options<'a>(alloc: Global) -> Result<Vec<Arg<'a>>, AllocError>
     ]?)
 }
 
-/// Returns the words behind the pattern.
 fn root_option<'a>(alloc: Global) -> Arg<'a>
     ensures rule { rule_of result ≡ root_rule }
     ensures local { result.global ≡ false }
@@ -326,7 +307,6 @@ fn root_option<'a>(alloc: Global) -> Arg<'a>
         .help("Where to look [default: the folder that it runs in]")
 }
 
-/// Returns the command with its name, and with the words that are no options.
 fn named<'a>(alloc: Global) -> Result<Command<'a>, AllocError>
     ensures { IfOk result (λ all. app_of all ≡ with_rules named_app (pattern_rule ∷ root_rule ∷ [])) }
 {
@@ -340,7 +320,6 @@ fn named<'a>(alloc: Global) -> Result<Command<'a>, AllocError>
         .arg(root_option(alloc))
 }
 
-/// Returns the command line.
 pub(crate) fn command<'a>(alloc: Global) -> Result<Command<'a>, AllocError>
     ensures { IfOk result (λ all. IsSeek (app_of all)) }
 {

@@ -1,4 +1,4 @@
-//! The regular expression that a name is looked for by.
+//! The regular expression of a pattern.
 ghost use Rattle.std.specs.Prelude.{◌≡◌, IfOk, IfErr};
 ghost use Rattle.regex.specs.Sources.{IsRefusal};
 ghost use Rattle.regex.specs.Strings.{regex_source, regex_config, IsReadFromSource};
@@ -8,11 +8,11 @@ use crate::case::Case;
 use regex::{Error, Regex, RegexBuilder};
 use std::alloc::Global;
 
-/// Returns the regular expression of a pattern. Its dot takes a line feed too.
+/// Returns the regular expression of a pattern. Its dot takes a line feed, too.
 ///
 /// # Errors
 ///
-/// If the pattern is none, or is too large, or if memory runs out.
+/// If the pattern is bad or too large, or if memory runs out.
 pub fn read_expression(alloc: Global, pattern: &str, case: Case) -> Result<Regex, Error>
     ensures source { IfOk result (λ it. regex_source it ≡ pattern.now) }
     ensures options { IfOk result (λ it. regex_config it ≡ config_for case pattern.now) }

@@ -3,7 +3,6 @@ ghost use Rattle.std.specs.Prelude.{◌≡◌, map};
 ghost use Rattle.std.specs.List.{list_any};
 ghost use Rattle.seek_words.specs.Extension.{is_dotted, without_dot, has_ending, has_extension, has_one};
 
-/// Returns whether a text is a dot and an extension.
 #[tactic(auto, using(crate::proofs::ExtensionFacts::same_folded))]
 fn is_dotted(text: &[u8], extension: &[u8]) -> bool
     ensures { result ≡ is_dotted extension.now text.now }
@@ -14,7 +13,6 @@ fn is_dotted(text: &[u8], extension: &[u8]) -> bool
     }
 }
 
-/// Returns an extension without one dot in front.
 fn without_dot(extension: &[u8]) -> &[u8]
     ensures { result.now ≡ without_dot extension.now }
 {
@@ -24,7 +22,6 @@ fn without_dot(extension: &[u8]) -> &[u8]
     }
 }
 
-/// Returns whether a name ends with a dot and this text, and has something in front of them.
 fn has_ending(name: &[u8], ending: &[u8]) -> bool
     ensures { result ≡ has_ending ending.now name.now }
 {
@@ -32,15 +29,14 @@ fn has_ending(name: &[u8], ending: &[u8]) -> bool
     name.len() > taken && is_dotted(&name[name.len() - taken..], ending)
 }
 
-/// Returns whether a name has an extension, which may be named with its dot: the name ends with a dot and the extension,
-/// and has something in front of them. The case of letters of ASCII doesn't count.
+/// Returns whether a name ends with a dot and an extension, after at least one character. The extension may be given
+/// with its dot. The case of ASCII letters doesn't count.
 pub fn has_extension(name: &str, extension: &str) -> bool
     ensures { result ≡ has_extension name.now extension.now }
 {
     has_ending(name.as_bytes(), without_dot(extension.as_bytes()))
 }
 
-/// Returns whether a name has one of these extensions.
 fn has_any(name: &str, extensions: &[&str]) -> bool
     ensures { result ≡ list_any (has_extension name.now) (map (λ it. it.now) extensions.now) }
 {

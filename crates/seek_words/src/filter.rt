@@ -1,4 +1,4 @@
-//! Which entries are looked for.
+//! The entries that are looked for.
 ghost use Rattle.std.specs.Prelude.{◌≡◌, IfOk, option_map};
 ghost use Rattle.std.specs.Option.{option_copied};
 ghost use Rattle.jwalk_model.specs.FileType.{is_dir};
@@ -12,18 +12,17 @@ use jwalk_model::file_type::FileType;
 use jwalk_model::metadata::Metadata;
 use std::alloc::AllocError;
 
-/// Which entries are looked for.
+/// The entries that are looked for.
 #[derive(Drop)]
 pub struct Filter<'w, T: NameTest> {
-    /// What is looked for, but for the pattern.
+    /// What is looked for, apart from the pattern.
     pub wanted: Wanted<'w>,
     /// The test of a name.
     pub test: T,
-    /// The absolute path of an entry, if it is what is tested in place of its name.
+    /// The absolute path of an entry, if the test is of it and not of the name.
     pub path: Option<AbsolutePath>,
 }
 
-/// Returns whether the name of an entry passes a test, or its path does.
 fn passes_test<T: NameTest>(
     test: &mut T,
     path: &mut Option<AbsolutePath>,
@@ -47,8 +46,8 @@ fn passes_test<T: NameTest>(
 impl<'w, T: NameTest> Filter<'w, T> {
     ghost use Rattle.seek_words.specs.Filter.{sought_of};
 
-    /// Returns whether an entry is looked for, which has this depth, type and name, and is in this folder. `seen` is its
-    /// metadata, if that is known.
+    /// Returns whether an entry of this depth, type, folder and name is looked for. `seen` is its metadata, if that is
+    /// known.
     ///
     /// # Errors
     ///

@@ -1,10 +1,10 @@
-//! What ends a search.
+//! The reasons why a search ends early.
 ghost use Rattle.std.specs.Prelude.{◌≡◌};
 
 use std::alloc::AllocError;
 use std::io::Write;
 
-/// What ends a search before its end.
+/// The reason why a search ends early.
 #[derive(Clone, Copy, Debug, PartialEq, Eq)]
 pub enum Halt {
     /// Memory ran out.
@@ -14,7 +14,7 @@ pub enum Halt {
 }
 
 impl Halt {
-    /// Reports it on standard error, unless it is that the output can't be written.
+    /// Reports the reason on standard error, unless the output can't be written.
     pub fn report<E: Write>(self, err: &mut E) {
         if self == Halt::Memory {
             let _ = writeln!(err, "seek: memory refused");

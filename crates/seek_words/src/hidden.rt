@@ -5,22 +5,20 @@ ghost use Rattle.seek_words.specs.Hidden.{begins_escaped_dot, finds_none_shown};
 
 use crate::asked::Asked;
 
-/// Returns whether a text begins with `^\.`.
 fn begins_escaped_dot(text: &[u8]) -> bool
     ensures { result ≡ begins_escaped_dot text.now }
 {
     matches!(text, [b'^', b'\\', b'.', ..])
 }
 
-/// Returns whether a text begins with a dot.
 fn begins_dot(text: &[u8]) -> bool
     ensures { result ≡ is_hidden text.now }
 {
     matches!(text, [b'.', ..])
 }
 
-/// Returns whether a pattern can find hidden names alone, and they don't come: a regular expression that begins with
-/// `^\.`, or a glob that begins with a dot. One that is compared with paths may find others.
+/// Returns whether hidden names don't come, but a pattern can find no others: a regular expression that begins with
+/// `^\.`, or a glob that begins with a dot. A pattern that is compared with paths may find others.
 pub fn finds_none_shown(asked: &Asked<'_>) -> bool
     ensures { result ≡ finds_none_shown asked.now }
 {

@@ -7,14 +7,12 @@ use crate::seen::details_seen;
 use jwalk_model::file_type::FileType;
 use jwalk_model::metadata::Metadata;
 
-/// Returns whether a mode lets someone execute the file.
 fn is_executable(mode: u32) -> bool
     ensures { result ≡ is_executable mode }
 {
     mode & 0o111 != 0
 }
 
-/// Returns whether a mode is that of this type of file.
 fn has_format(mode: u32, format: u32) -> bool
     ensures { result ≡ has_format mode format }
 {
@@ -40,28 +38,26 @@ pub struct Kinds {
     pub block: bool,
     /// Character devices are named.
     pub char: bool,
-    /// All that is no file, directory or link is named.
+    /// Entries that are neither a file, a directory nor a link are named.
     pub other: bool,
 }
 
 impl Kinds {
     ghost use Rattle.seek_words.specs.Kinds.{is_named, is_special, names_mode, names_none, has_mode, has_modes, has_kind};
 
-    /// Returns whether a type is named that only a mode tells.
+    /// Returns whether a type is named that depends on the mode.
     pub fn names_mode(self) -> bool
         ensures { result ≡ names_mode self }
     {
         self.executable || self.pipe || self.socket || self.block || self.char
     }
 
-    /// Returns whether no type is named.
     fn names_none(self) -> bool
         ensures { result ≡ names_none self }
     {
         !self.file && !self.dir && !self.link && !self.other && !self.names_mode()
     }
 
-    /// Returns whether a type is named.
     fn names(self, file_type: FileType) -> bool
         ensures { result ≡ is_named self file_type }
     {
@@ -73,7 +69,6 @@ impl Kinds {
         }
     }
 
-    /// Returns whether a type is named that this mode tells, which isn't that of a regular file.
     fn is_special(self, mode: u32) -> bool
         ensures { result ≡ is_special self mode }
     {
@@ -83,14 +78,12 @@ impl Kinds {
             || (self.char && has_format(mode, 0o020000))
     }
 
-    /// Returns whether a type is named that this mode tells.
     fn has_mode(self, file_type: FileType, mode: u32) -> bool
         ensures { result ≡ has_mode self file_type mode }
     {
         (self.executable && file_type.is_file() && is_executable(mode)) || self.is_special(mode)
     }
 
-    /// Returns whether the mode is known, and a type is named that it tells.
     fn has_modes(self, file_type: FileType, seen: Option<&Metadata>) -> bool
         ensures { result ≡ has_modes self file_type (option_copied seen.entry) }
     {

@@ -1,4 +1,4 @@
-//! The words of a call of `seek`, what they ask for, and which entries of a walk are looked for, over plain values.
+//! The words of a call of `seek`, their meaning, and the entries of a walk that are looked for, over plain values.
 #![tactic(auto)]
 
 pub mod asked;

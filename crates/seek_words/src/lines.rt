@@ -1,4 +1,4 @@
-//! The lines that are printed.
+//! The printed lines.
 ghost use Rattle.std.specs.Prelude.{◌≡◌, true, false, [], IfOk, OnOk};
 ghost use Rattle.std.specs.Io.KnownBytes.{Appends, append_known};
 ghost use Rattle.seek_words.specs.Paths.{line_of};
@@ -9,15 +9,15 @@ use std::alloc::{AllocError, Global};
 use std::io::Write;
 use std::time::{Clock, Duration};
 
-/// How many bytes of lines are gathered before they are written. A buffer of twice the length takes the last line too.
-/// It stays below 64 KiB, at which a free makes the C library's allocator put all its small pieces together.
+/// The number of bytes of lines that are gathered before they are written. A buffer of twice the length takes the last
+/// line, too. It stays below 64 KiB, at which a free makes the C library's allocator merge all its small pieces.
 const GATHERED: usize = 16384;
 
 /// How many milliseconds a line is gathered at most while answers come.
 const LONGEST: u128 = 100;
 
-/// Lines that are gathered, and written once there are enough, or once the oldest is 100 milliseconds old. For a terminal
-/// each is written at once.
+/// Lines that are gathered, and written once there are enough, or once the oldest is 100 milliseconds old. For a terminal,
+/// each line is written at once.
 #[derive(Drop)]
 pub struct Lines {
     style: Style,
@@ -29,7 +29,7 @@ pub struct Lines {
 impl Lines {
     ghost use Rattle.seek_words.specs.Lines.{style_of, gathered_of, has_printed};
 
-    /// Returns no lines yet, for paths that are written so.
+    /// Returns no lines, for paths of this style.
     ///
     /// # Errors
     ///
@@ -54,7 +54,7 @@ impl Lines {
         self.has_printed
     }
 
-    /// Writes the lines that were gathered.
+    /// Leaves nothing gathered.
     fn write_gathered<W: Write>(&mut self, out: &mut W) -> Result<(), Halt>
         ensures written { OnOk result (Appends (W.contents out.old) (W.contents out.new) (gathered_of self.old)) }
         ensures empty { OnOk result (gathered_of self.new ≡ []) }
@@ -69,8 +69,8 @@ impl Lines {
         Ok(())
     }
 
-    /// Prints the line of a name in a folder: it is gathered, and written once there are enough, or at once to a
-    /// terminal.
+    /// Prints the line of a name in a folder. The line is gathered. The lines are written once there are enough, or at
+    /// once for a terminal.
     ///
     /// # Errors
     ///

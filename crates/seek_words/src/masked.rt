@@ -4,7 +4,6 @@ ghost use Rattle.seek_words.specs.Masked.{masked, shown_char};
 
 use std::alloc::{AllocError, Allocator};
 
-/// Returns a character as it is shown: a question mark for a control character.
 fn shown_char(c: char) -> char
     ensures { result ≡ shown_char c }
 {

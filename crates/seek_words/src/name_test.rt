@@ -5,11 +5,11 @@ use std::alloc::AllocError;
 
 /// A test of names, or of paths.
 pub trait NameTest: Drop {
-    /// Whether a text passes, which is of a directory or not.
+    /// Whether a text passes, which is that of a directory or not.
     ghost takes: { Self → List ℕ → Bool → Bool };
 
-    /// Returns whether a text passes. `is_dir` says whether it is that of a directory. The test stays the same; what it
-    /// changes is memory.
+    /// Returns whether a text passes. `is_dir` says whether it is that of a directory. The test may only change its
+    /// memory.
     ///
     /// # Errors
     ///

@@ -1,4 +1,4 @@
-//! How a path is written.
+//! The written form of paths.
 ghost use Rattle.std.specs.Prelude.{◌≡◌, ◌++◌, ◌∷◌, [], OnOk};
 ghost use Rattle.std.specs.Io.KnownBytes.{Appends};
 ghost use Rattle.jwalk_model.specs.Paths.{join};
@@ -8,14 +8,14 @@ use crate::masked::masked;
 use jwalk_fs::path_text::join_parts;
 use std::alloc::{AllocError, Allocator};
 
-/// How the path of an entry is written.
+/// The written form of the path of an entry.
 #[derive(Clone, Copy, Debug, PartialEq, Eq)]
 pub struct Style {
-    /// The walk's root is the folder that the program runs in, and wasn't named: a `./` in front isn't written.
+    /// The walk's root is the folder that the program runs in, and wasn't named. A `./` at the beginning isn't written.
     pub here: bool,
-    /// It is written to a terminal: a question mark stands for each control character in a path.
+    /// The path is for a terminal. A question mark replaces each control character in it.
     pub to_terminal: bool,
-    /// The byte behind a path.
+    /// The byte after a path.
     pub separator: u8,
 }
 
@@ -32,7 +32,6 @@ pub fn without_here(folder: &str) -> &str
     }
 }
 
-/// Puts the path of a name in a folder behind these bytes.
 fn push_path<A: Allocator>(folder: &str, name: &str, out: &mut Vec<u8, A>) -> Result<(), AllocError>
     ensures { OnOk result (out.new.items ≡ out.old.items ++ join folder.now name.now) }
 {
@@ -46,7 +45,6 @@ fn push_path<A: Allocator>(folder: &str, name: &str, out: &mut Vec<u8, A>) -> Re
 impl Style {
     ghost use Rattle.seek_words.specs.Paths.{shown_folder};
 
-    /// Returns the path of a folder as it is written.
     fn folder(self, folder: &str) -> &str
         ensures { result.now ≡ shown_folder self folder.now }
     {
@@ -57,7 +55,7 @@ impl Style {
         }
     }
 
-    /// Writes the path of a name in a folder behind these bytes, and the separator.
+    /// Appends the path of a name in a folder and the separator to `out`.
     ///
     /// # Errors
     ///

@@ -1,4 +1,4 @@
-//! Why words are refused.
+//! The refusals of words.
 ghost use Rattle.std.specs.Prelude.{◌≡◌};
 ghost use Rattle.seek_words.specs.Status.{status_of_kind};
 
@@ -7,16 +7,16 @@ use clap::error::ErrorKind;
 use std::alloc::AllocError;
 use std::fmt;
 
-/// Why there is nothing to look for.
+/// The reason why words are refused.
 #[derive(Debug, Drop)]
 pub enum Refusal<'w> {
-    /// The words are bad, or ask for help or the version, which is then the text.
+    /// The words are bad, or ask for help or the version. The error has the text.
     Words(Error),
     /// These two options exclude each other.
     Conflict(&'static str, &'static str),
-    /// This is no size.
+    /// This isn't a size.
     NoSize(&'w str),
-    /// This is no time.
+    /// This isn't a time.
     NoTime(&'w str),
     /// This pattern has a slash, and isn't compared with paths.
     Slash(&'w str),
@@ -24,7 +24,7 @@ pub enum Refusal<'w> {
     Memory,
 }
 
-/// Returns the status that an error of words ends the program with: 0 for help and for the version.
+/// Help and the version have the status 0.
 fn status_of_kind(kind: ErrorKind) -> u8
     ensures { result ≡ status_of_kind kind }
 {
@@ -38,8 +38,8 @@ fn status_of_kind(kind: ErrorKind) -> u8
 impl<'w> Refusal<'w> {
     ghost use Rattle.seek_words.specs.Refusal.{status_of};
 
-    /// Returns the status that the program ends with: 0 if the words ask for help or for the version, 1 if memory ran
-    /// out, and 2 for bad words.
+    /// Returns the status of the program: 0 if the words ask for help or for the version, 1 if memory ran out, and 2
+    /// for bad words.
     pub fn status(&self) -> u8
         ensures { result ≡ status_of self.now }
     {
@@ -62,7 +62,7 @@ impl<'w> From<AllocError> for Refusal<'w> {
     }
 }
 
-/// It is printed as lines, each ended by a line feed.
+/// Writes lines, each ended by a line feed.
 impl<'w> fmt::Display for Refusal<'w> {
     fn fmt<W: fmt::Write>(&self, f: &mut fmt::Formatter<W>) -> fmt::Result {
         match self {

@@ -1,4 +1,4 @@
-//! What a listing knows of an entry.
+//! The facts of an entry that a listing knows.
 ghost use Rattle.std.specs.Prelude.{◌≡◌};
 ghost use Rattle.std.specs.Option.{option_copied};
 ghost use Rattle.seek_words.specs.Seen.{details_seen};

@@ -19,7 +19,6 @@ pub enum Size {
     Exactly(u64),
 }
 
-/// Returns how many digits a text begins with.
 fn digit_count(text: &[u8]) -> usize
     ensures { result ≡ digit_count text.now }
 {
@@ -30,7 +29,7 @@ fn digit_count(text: &[u8]) -> usize
     count
 }
 
-/// Returns a number with one digit more, if it has at most 64 bits.
+/// Returns `None` if the number has more than 64 bits.
 fn with_digit(number: u64, digit: u8) -> Option<u64>
     ensures { result ≡ in_64_bits (with_digit number digit) }
 {
@@ -39,7 +38,7 @@ fn with_digit(number: u64, digit: u8) -> Option<u64>
         .checked_add(u64::from(digit.saturating_sub(b'0')))
 }
 
-/// Returns the number that digits write, if it has at most 64 bits.
+/// Returns `None` if the number has more than 64 bits.
 fn number_of(digits: &[u8]) -> Option<u64>
     ensures { result ≡ in_64_bits (number_of digits.now) }
 {
@@ -50,7 +49,6 @@ fn number_of(digits: &[u8]) -> Option<u64>
     Some(number)
 }
 
-/// Returns whether a unit has one of two names, in either case of ASCII's letters.
 #[tactic(auto, using(crate::proofs::ExtensionFacts::same_folded))]
 fn is_unit(unit: &[u8], short: &str, long: &str) -> bool
     ensures { result ≡ is_unit unit.now short.now long.now }
@@ -58,7 +56,6 @@ fn is_unit(unit: &[u8], short: &str, long: &str) -> bool
     unit.eq_ignore_ascii_case(short.as_bytes()) || unit.eq_ignore_ascii_case(long.as_bytes())
 }
 
-/// Returns how many bytes a unit of base ten stands for.
 fn bytes_of_ten(unit: &[u8]) -> Option<u64>
     ensures { result ≡ bytes_of_ten unit.now }
 {
@@ -75,7 +72,6 @@ fn bytes_of_ten(unit: &[u8]) -> Option<u64>
     }
 }
 
-/// Returns how many bytes a unit of base two stands for.
 fn bytes_of_two(unit: &[u8]) -> Option<u64>
     ensures { result ≡ bytes_of_two unit.now }
 {
@@ -92,7 +88,6 @@ fn bytes_of_two(unit: &[u8]) -> Option<u64>
     }
 }
 
-/// Returns how many bytes a unit stands for.
 fn bytes_of(unit: &[u8]) -> Option<u64>
     ensures { result ≡ bytes_of unit.now }
 {
@@ -102,7 +97,7 @@ fn bytes_of(unit: &[u8]) -> Option<u64>
     bytes_of_ten(unit).or(bytes_of_two(unit))
 }
 
-/// Returns how many bytes a text stands for, which is a number and a unit behind it.
+/// The unit follows the number.
 #[tactic(auto, using(crate::proofs::SizeFacts::digits_most))]
 fn bytes_in(text: &[u8]) -> Option<u64>
     ensures { result ≡ bytes_in text.now }
@@ -115,7 +110,7 @@ fn bytes_in(text: &[u8]) -> Option<u64>
     number_of(digits)?.checked_mul(bytes_of(unit)?)
 }
 
-/// Returns the number that a text writes in digits alone, if it has at most 64 bits.
+/// Returns `None` if the text isn't of digits alone, or if the number has more than 64 bits.
 pub(crate) fn digits_number(text: &[u8]) -> Option<u64>
     ensures { result ≡ digits_number text.now }
 {
@@ -128,8 +123,8 @@ pub(crate) fn digits_number(text: &[u8]) -> Option<u64>
 impl Size {
     ghost use Rattle.seek_words.specs.Size.{size_in};
 
-    /// Reads a size: a number and a unit in either case of letters, behind a `+` for at least that size, a `-` for at
-    /// most that size, or neither. None if the text is none, or if the number of bytes has more than 64 bits.
+    /// Reads a size: a number and a unit in either case of letters, after a `+` for at least that size, a `-` for at
+    /// most that size, or neither. Returns `None` for any other text, or if the number of bytes has more than 64 bits.
     pub fn read(text: &str) -> Option<Self>
         ensures { result ≡ size_in text.now }
     {
@@ -140,7 +135,6 @@ impl Size {
         }
     }
 
-    /// Returns whether a number of bytes is of this size.
     fn is(self, bytes: u64) -> bool
         ensures { result ≡ is_size bytes self }
     {
@@ -152,14 +146,12 @@ impl Size {
     }
 }
 
-/// Returns whether a length is of each of these sizes.
 fn has_all(sizes: &[Size], len: u64) -> bool
     ensures { result ≡ list_all (is_size len) sizes.now }
 {
     sizes.iter().all(|size| size.is(len))
 }
 
-/// Returns whether metadata is known, and its length is of each of these sizes.
 fn has_sizes(sizes: &[Size], seen: Option<&Metadata>) -> bool
     ensures { result ≡ has_sizes sizes.now (option_copied seen.entry) }
 {
@@ -169,7 +161,7 @@ fn has_sizes(sizes: &[Size], seen: Option<&Metadata>) -> bool
     }
 }
 
-/// Returns whether an entry is a regular file of each of these sizes, or there are none.
+/// Returns whether `sizes` is empty, or an entry is a regular file of each of these sizes.
 pub fn is_sized(sizes: &[Size], file_type: FileType, seen: Option<&Metadata>) -> bool
     ensures { result ≡ is_sized sizes.now file_type (option_copied seen.entry) }
 {

@@ -7,7 +7,7 @@ use crate::paths::without_here;
 use jwalk_fs::path_text::{self, join_parts};
 use std::alloc::{AllocError, Global};
 
-/// The absolute path of an entry, and of one after another in the same memory.
+/// The absolute path of an entry. The paths of many entries use the same memory, one after another.
 #[derive(Drop)]
 pub struct AbsolutePath {
     /// The folder that relative paths begin at, ended by a slash.
@@ -15,7 +15,6 @@ pub struct AbsolutePath {
     text: String,
 }
 
-/// Returns whether a path is absolute.
 fn is_absolute(path: &str) -> bool
     ensures { result ≡ starts_with_slash path.now }
 {
@@ -23,7 +22,7 @@ fn is_absolute(path: &str) -> bool
 }
 
 #[tactic(auto, using(crate::proofs::PathFacts::slashes))]
-/// Returns what is in front of a path, which is given by its folder and its name: nothing if it is absolute.
+/// Returns `front` for a relative path, and nothing for an absolute one. The path is given by its folder and its name.
 fn front_before<'f>(front: &'f str, folder: &str, name: &str) -> &'f str
     ensures { result.now ≡ front_before front.entry.now (join folder.now name.now) }
 {
@@ -38,7 +37,7 @@ impl AbsolutePath {
     ghost use Rattle.seek_words.specs.Absolute.{absolute_path};
     ghost use Rattle.seek_words.specs.Subject.{front_of, text_of};
 
-    /// Returns no path yet, below a folder with this absolute path.
+    /// Returns an empty path, below a folder with this absolute path.
     ///
     /// # Errors
     ///
@@ -52,7 +51,7 @@ impl AbsolutePath {
         })
     }
 
-    /// Makes it that of a name in a folder.
+    /// Sets the path to that of a name in a folder.
     ///
     /// # Errors
     ///
@@ -72,7 +71,7 @@ impl AbsolutePath {
         Ok(())
     }
 
-    /// Returns it as a text.
+    /// Returns the path.
     pub fn as_str(&self) -> &str
         ensures { result.now ≡ text_of self.now }
     {

@@ -15,13 +15,13 @@ use std::time::Duration;
 /// A time that a call names.
 #[derive(Clone, Copy, Debug, PartialEq, Eq)]
 pub enum Time {
-    /// So many nanoseconds before the call began.
+    /// A number of nanoseconds before the call began.
     Ago(u64),
-    /// So many nanoseconds after the beginning of 1970 in UTC.
+    /// A number of nanoseconds after the beginning of 1970 in UTC.
     At(i128),
 }
 
-/// Returns how many nanoseconds a span has, in which a month has 30.44 days and a year 365.25.
+/// Returns nanoseconds. A month has 30.44 days, and a year 365.25.
 fn length_of(span: Span) -> u128
     ensures { result ≡ sum_of (magnitudes span) unit_lengths }
 {
@@ -38,14 +38,13 @@ fn length_of(span: Span) -> u128
         + u128::from(parts.nanoseconds)
 }
 
-/// Returns a number, if it has at most 64 bits.
 fn in_64_bits(number: u128) -> Option<u64>
     ensures { result ≡ in_64_bits number }
 {
     u64::try_from(number).ok()
 }
 
-/// Returns the time that is a span ago, unless the span is negative.
+/// Returns `None` for a negative span.
 fn ago_of(span: Span) -> Option<Time>
     ensures { result ≡ ago_in (Ok (signed_magnitudes span)) }
 {
@@ -55,7 +54,6 @@ fn ago_of(span: Span) -> Option<Time>
     Some(Time::Ago(in_64_bits(length_of(span))?))
 }
 
-/// Returns the time that is as long ago as a text says.
 fn ago_in(text: &str) -> Option<Time>
     ensures { result ≡ ago_in (parse_span text.now) }
 {
@@ -65,7 +63,7 @@ fn ago_in(text: &str) -> Option<Time>
     }
 }
 
-/// Returns the time that a text says with its offset.
+/// The text has an offset.
 fn instant_in(text: &str) -> Option<Time>
     ensures { result ≡ instant_in (parse_timestamp text.now) }
 {
@@ -73,14 +71,13 @@ fn instant_in(text: &str) -> Option<Time>
     Some(Time::At(instant.as_nanosecond()))
 }
 
-/// Returns how many nanoseconds after the beginning of 1970 a date and a time of day are, in UTC.
 fn civil_nanoseconds(civil: DateTime) -> i128
     ensures { result ≡ parts_nanos (date_parts civil.date) (time_parts civil.time) }
 {
     civil.to_plain().to_nanosecond()
 }
 
-/// Returns the time in UTC that a text says without an offset.
+/// The text has no offset, and is in UTC.
 fn civil_in(text: &str) -> Option<Time>
     ensures { result ≡ civil_in (parse_datetime text.now) }
 {
@@ -90,7 +87,7 @@ fn civil_in(text: &str) -> Option<Time>
     }
 }
 
-/// Returns the time that is as many seconds after the beginning of 1970 as a text says behind an `@`.
+/// The text is an `@` followed by seconds.
 fn second_in(text: &[u8]) -> Option<Time>
     ensures { result ≡ second_in text.now }
 {
@@ -103,8 +100,8 @@ fn second_in(text: &[u8]) -> Option<Time>
 impl Time {
     ghost use Rattle.seek_words.specs.Time.{nanoseconds_at, time_in};
 
-    /// Reads a time: how long ago it is, as `2h` or `3 days`; a date, or a date and a time of day, in UTC unless they have
-    /// an offset; or seconds since 1970 behind an `@`. None if the text is none of them.
+    /// Reads a time: a span ago, as `2h` or `3 days`; a date, or a date and a time of day, in UTC unless they have an
+    /// offset; or an `@` followed by seconds since 1970. Returns `None` for any other text.
     pub fn read(text: &str) -> Option<Self>
         ensures { result ≡ time_in text.now }
     {
@@ -114,7 +111,7 @@ impl Time {
             .or(second_in(text.as_bytes()))
     }
 
-    /// Returns it in nanoseconds since the beginning of 1970. `now` is how long after that the call began.
+    /// Returns the time in nanoseconds since the beginning of 1970. `now` is how long after that the call began.
     pub fn at(self, now: Duration) -> i128
         ensures { result ≡ nanoseconds_at (pos (as_nanos now)) self }
     {

@@ -1,4 +1,4 @@
-//! When what is looked for was modified.
+//! The times at which the entries that are looked for were modified.
 ghost use Rattle.std.specs.Prelude.{◌≡◌};
 ghost use Rattle.std.specs.Option.{option_copied};
 ghost use Rattle.seek_words.specs.Seen.{details_seen};
@@ -7,7 +7,8 @@ ghost use Rattle.seek_words.specs.Times.{is_after, is_before, nanoseconds_of};
 use crate::seen::details_seen;
 use jwalk_model::metadata::{Metadata, Moment};
 
-/// When what is looked for was modified, in nanoseconds since the beginning of 1970. What isn't named makes no difference.
+/// The times at which the entries that are looked for were modified, in nanoseconds since the beginning of 1970. A
+/// limit that isn't named makes no difference.
 #[derive(Clone, Copy, Debug, PartialEq, Eq)]
 pub struct Times {
     /// Later than this.
@@ -25,14 +26,12 @@ pub fn nanoseconds_of(moment: Moment) -> i128
     i128::from(moment.seconds) * 1_000_000_000 + i128::from(moment.nanoseconds)
 }
 
-/// Returns whether a time is later than another, if that is named.
 fn is_after(limit: Option<i128>, time: i128) -> bool
     ensures { result ≡ is_after limit time }
 {
     limit.is_none_or(|limit| time > limit)
 }
 
-/// Returns whether a time is before another, if that is named.
 fn is_before(limit: Option<i128>, time: i128) -> bool
     ensures { result ≡ is_before limit time }
 {
@@ -42,21 +41,19 @@ fn is_before(limit: Option<i128>, time: i128) -> bool
 impl Times {
     ghost use Rattle.seek_words.specs.Times.{is_modified, is_timed, names_no_time};
 
-    /// No time is named.
+    /// No limit.
     pub const ANY: Times = Times {
         after: None,
         after_file: None,
         before: None,
     };
 
-    /// Returns whether no time is named.
     fn names_none(self) -> bool
         ensures { result ≡ names_no_time self }
     {
         self.after.is_none() && self.after_file.is_none() && self.before.is_none()
     }
 
-    /// Returns whether what was modified then is looked for.
     fn has_moment(self, modified: Moment) -> bool
         ensures { result ≡ is_modified self modified }
     {
@@ -66,7 +63,8 @@ impl Times {
             && is_before(self.before, time)
     }
 
-    /// Returns whether an entry with this metadata is looked for. If the metadata isn't known, it is if no time is named.
+    /// Returns whether an entry with this metadata is looked for. If the metadata isn't known, the entry is if no time
+    /// is named.
     pub fn has(self, seen: Option<&Metadata>) -> bool
         ensures { result ≡ is_timed self (option_copied seen.entry) }
     {

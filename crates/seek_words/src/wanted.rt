@@ -1,4 +1,4 @@
-//! What is looked for, but for the pattern.
+//! The entries that are looked for, apart from the pattern.
 ghost use Rattle.std.specs.Prelude.{◌≡◌};
 ghost use Rattle.std.specs.Option.{option_copied};
 
@@ -10,18 +10,18 @@ use crate::times::Times;
 use jwalk_model::file_type::FileType;
 use jwalk_model::metadata::Metadata;
 
-/// What is looked for, but for the pattern.
+/// The entries that are looked for, apart from the pattern.
 #[derive(Clone, Copy)]
 pub struct Wanted<'w> {
     /// The depths.
     pub depths: Depths,
     /// The types.
     pub kinds: Kinds,
-    /// The extensions of names; any, if there are none.
+    /// The extensions of names, or none for any.
     pub extensions: &'w [&'w str],
-    /// The sizes of files; any entry, if there are none.
+    /// The sizes of files, or none for any entry.
     pub sizes: &'w [Size],
-    /// When entries were modified.
+    /// The times at which entries were modified.
     pub times: Times,
 }
 

@@ -1,4 +1,4 @@
-//! What words ask for.
+//! The meaning of words.
 ghost use Rattle.std.specs.Prelude.{◌≡◌, [], codes, is_some, map, option_map, unwrap_or, IfOk, IfErr, Some};
 ghost use Rattle.std.specs.List.{list_any};
 ghost use Rattle.clap.specs.Words.{found_of, rows_of, first_of, one_of};
@@ -22,21 +22,18 @@ use clap::ArgMatches;
 use std::alloc::{AllocError, Global};
 use std::convert::AsStr;
 
-/// Returns whether an option of one word was named.
 fn is_named(found: &ArgMatches<'_>, id: &str) -> bool
     ensures { result ≡ is_named (rows_of (found_of found.now)) id.now }
 {
     found.get_count(id) > 0
 }
 
-/// Returns whether one of two options of one word was named.
 fn is_either_named(found: &ArgMatches<'_>, id: &str, other: &str) -> bool
     ensures { result ≡ is_either_named (rows_of (found_of found.now)) id.now other.now }
 {
     is_named(found, id) || is_named(found, other)
 }
 
-/// Returns a copy of a list of texts.
 fn copied<'w>(alloc: Global, texts: &[&'w str]) -> Result<Vec<&'w str>, AllocError>
     ensures { IfOk result (λ copy. copy.items ≡ texts.now) }
 {
@@ -45,7 +42,6 @@ fn copied<'w>(alloc: Global, texts: &[&'w str]) -> Result<Vec<&'w str>, AllocErr
     Ok(copy)
 }
 
-/// Returns the values of an option.
 fn values_of<'w>(
     alloc: Global,
     found: &ArgMatches<'w>,
@@ -59,7 +55,6 @@ fn values_of<'w>(
     }
 }
 
-/// Returns the pattern that is named, or the empty one.
 fn pattern_of<'w>(found: &ArgMatches<'w>) -> &'w str
     ensures { result.now ≡ unwrap_or (first_of (codes "pattern") (rows_of (found_of found.now))) [] }
 {
@@ -69,21 +64,18 @@ fn pattern_of<'w>(found: &ArgMatches<'w>) -> &'w str
     }
 }
 
-/// Returns the value that an option has.
 fn value_of<'w>(found: &ArgMatches<'w>, id: &str) -> Option<&'w str>
     ensures { option_map (λ it. it.now) result ≡ first_of id.now (rows_of (found_of found.now)) }
 {
     found.get_str(id)
 }
 
-/// Returns the number that an option has.
 fn number_of(found: &ArgMatches<'_>, id: &str) -> Option<usize>
     ensures { IsNumberOf (one_of id.now (rows_of (found_of found.now))) result }
 {
     found.get_one::<usize>(id)
 }
 
-/// Returns how many paths are printed at most.
 fn results_of(found: &ArgMatches<'_>) -> Option<usize>
     ensures { AreResultsIn (rows_of (found_of found.now)) result }
 {
@@ -93,7 +85,6 @@ fn results_of(found: &ArgMatches<'_>) -> Option<usize>
     number_of(found, "max-results")
 }
 
-/// Returns whether the case of letters counts.
 fn case_of(found: &ArgMatches<'_>) -> Case
     ensures { result ≡ case_in (rows_of (found_of found.now)) }
 {
@@ -106,7 +97,6 @@ fn case_of(found: &ArgMatches<'_>) -> Case
     }
 }
 
-/// Returns the depths by an exact one, a least and a greatest.
 fn depths_by(exact: Option<usize>, least: Option<usize>, greatest: Option<usize>) -> Depths
     ensures { result ≡ depths_by exact least greatest }
 {
@@ -122,7 +112,6 @@ fn depths_by(exact: Option<usize>, least: Option<usize>, greatest: Option<usize>
     }
 }
 
-/// Returns the depths that are named.
 fn depths_of(found: &ArgMatches<'_>) -> Depths
     ensures { AreDepthsIn (rows_of (found_of found.now)) result }
 {
@@ -132,14 +121,12 @@ fn depths_of(found: &ArgMatches<'_>) -> Depths
     depths_by(exact, least, greatest)
 }
 
-/// Returns whether one of two names is among these.
 fn names_one(names: &[&str], a: &str, b: &str) -> bool
     ensures { result ≡ names_one (texts_of names.now) a.now b.now }
 {
     names.iter().any(|name| *name == a || *name == b)
 }
 
-/// Returns the types of these names.
 fn kinds_of(names: &[&str]) -> Kinds
     ensures { result ≡ kinds_in (texts_of names.now) }
 {
@@ -156,7 +143,6 @@ fn kinds_of(names: &[&str]) -> Kinds
     }
 }
 
-/// Returns the sizes of these texts.
 fn sizes_of<'w>(alloc: Global, texts: &[&'w str]) -> Result<Vec<Size>, Refusal<'w>>
     ensures sizes { IfOk result (λ sizes. map Some sizes.items ≡ map size_in (texts_of texts.now)) }
     ensures refused { IfErr result (IsRefusedSize (texts_of texts.now)) }
@@ -172,7 +158,6 @@ fn sizes_of<'w>(alloc: Global, texts: &[&'w str]) -> Result<Vec<Size>, Refusal<'
     Ok(sizes)
 }
 
-/// Returns the sizes that are named.
 fn sizes_named<'w>(alloc: Global, found: &ArgMatches<'w>) -> Result<Vec<Size>, Refusal<'w>>
     ensures sizes { IfOk result (λ sizes. map Some sizes.items ≡ map size_in (values_in (rows_of (found_of found.now)) (codes "size"))) }
     ensures refused { IfErr result (IsRefusedSize (values_in (rows_of (found_of found.now)) (codes "size"))) }
@@ -181,7 +166,6 @@ fn sizes_named<'w>(alloc: Global, found: &ArgMatches<'w>) -> Result<Vec<Size>, R
     sizes_of(alloc, texts.as_slice())
 }
 
-/// Returns the time that an option has.
 fn time_named<'w>(found: &ArgMatches<'w>, id: &str) -> Result<Option<Time>, Refusal<'w>>
     ensures time { IfOk result (λ time. option_map Some time ≡ option_map time_in (first_of id.now (rows_of (found_of found.now)))) }
     ensures refused { IfErr result (IsRefusedTime (first_of id.now (rows_of (found_of found.now)))) }
@@ -195,7 +179,6 @@ fn time_named<'w>(found: &ArgMatches<'w>, id: &str) -> Result<Option<Time>, Refu
     }
 }
 
-/// Returns the types that are named.
 fn kinds_named(alloc: Global, found: &ArgMatches<'_>) -> Result<Kinds, AllocError>
     ensures { IfOk result (λ kinds. kinds ≡ kinds_in (values_in (rows_of (found_of found.now)) (codes "type"))) }
 {
@@ -203,7 +186,7 @@ fn kinds_named(alloc: Global, found: &ArgMatches<'_>) -> Result<Kinds, AllocErro
     Ok(kinds_of(names.as_slice()))
 }
 
-/// Returns what is asked for by words that were read.
+/// The times are left open, as the words alone don't set them.
 fn asked_of<'w>(alloc: Global, found: &ArgMatches<'w>) -> Result<Asked<'w>, Refusal<'w>>
     ensures asked { IfOk result (Asks (rows_of (found_of found.now))) }
     ensures refused { IfErr result (IsRefusedValue (rows_of (found_of found.now))) }
@@ -237,21 +220,18 @@ fn asked_of<'w>(alloc: Global, found: &ArgMatches<'w>) -> Result<Asked<'w>, Refu
     })
 }
 
-/// Returns whether a text has a slash.
 fn has_slash(text: &str) -> bool
     ensures { result ≡ list_any is_slash text.now }
 {
     text.as_bytes().iter().any(|byte| *byte == b'/')
 }
 
-/// Returns whether an option has a value.
 fn has_value(found: &ArgMatches<'_>, id: &str) -> bool
     ensures { result ≡ has_value (rows_of (found_of found.now)) id.now }
 {
     found.get_str(id).is_some()
 }
 
-/// Returns two options that were named and exclude each other.
 fn conflict_of(found: &ArgMatches<'_>) -> Option<(&'static str, &'static str)>
     ensures { is_some result ≡ has_conflict (rows_of (found_of found.now)) }
 {
@@ -273,7 +253,6 @@ fn conflict_of(found: &ArgMatches<'_>) -> Option<(&'static str, &'static str)>
     None
 }
 
-/// Returns the values that words give to options.
 fn matches_of<'w, S: AsStr>(alloc: Global, words: &'w [S]) -> Result<ArgMatches<'w>, Refusal<'w>>
     ensures read { IfOk result (λ found. GiveValues (map S.text words.entry.now) (rows_of (found_of found))) }
     ensures refused { IfErr result (IsRefusedFor (map S.text words.entry.now)) }
@@ -284,12 +263,12 @@ fn matches_of<'w, S: AsStr>(alloc: Global, words: &'w [S]) -> Result<ArgMatches<
     }
 }
 
-/// Reads the words of a call, of which the first is the program's name.
+/// Reads the words of a call. The first word is the program's name.
 ///
 /// # Errors
 ///
-/// If the words are bad or ask for help or the version; if two options exclude each other; if a size or a time is
-/// none; if the pattern has a slash and isn't compared with paths; or if memory runs out.
+/// If the words are bad or ask for help or the version; if two options exclude each other; if a size or a time is bad;
+/// if the pattern has a slash and isn't compared with paths; or if memory runs out.
 pub fn read_words<'w, S: AsStr>(alloc: Global, words: &'w [S]) -> Result<Asked<'w>, Refusal<'w>>
     ensures asked { IfOk result (AskFor (map S.text words.entry.now)) }
     ensures refused { IfErr result (IsRefusedFor (map S.text words.entry.now)) }

@@ -1,4 +1,4 @@
--- What nodes come to.
+-- The sizes of nodes.
 use Rattle.std.proofs.Common.{◌≡◌, ℕ, ◌+◌, ◌-◌, ◌^◌, ◌≤◌, List, length, min, drop, sum_by, ap, arith}
 use Rattle.std.proofs.lemmas.List.{drop_all}
 use Rattle.tally_text.specs.Nodes.{bytes_of}

@@ -9,7 +9,8 @@ abbrev pub repeated : ℕ → List ℕ → List ℕ
 repeated zero text = []
 repeated (suc n) text = repeated n text ++ text
 
--- how many marks of a bar a size has: its share of the total, rounded down. A product past 128 bits counts as the greatest of these.
+-- the number of marks of a size in a bar: its share of the total, rounded down; a product beyond 128 bits counts as the
+-- greatest number of 128 bits
 abbrev pub marks_of : Layout → ℕ → ℕ
 marks_of layout bytes =
     if layout.total == 0 then 0 else min (min (bytes * layout.bar) (2 ^ 128 - 1) / layout.total) layout.bar
@@ -24,15 +25,15 @@ abbrev pub size_column : Layout → ℕ → List ℕ
 size_column layout bytes =
     repeated (layout.column - length (size_text layout.scale bytes)) (codes " ") ++ size_text layout.scale bytes
 
--- a name as it is written: with a question mark for each control character, if it is for a terminal
+-- the written form of a name, with a question mark for each control character if it is for a terminal
 abbrev pub shown_name : Layout → List ℕ → List ℕ
 shown_name layout name = if layout.to_terminal then masked name else name
 
--- what is in front of a name: the size, two spaces and the bar
+-- the text in front of a name: the size, two spaces and the bar
 abbrev pub front_text : Layout → ℕ → List ℕ
 front_text layout bytes = size_column layout bytes ++ repeated 2 (codes " ") ++ bar_text layout bytes
 
--- a name behind two spaces for each level, and a line feed
+-- two spaces for each level, a name, and a line feed
 abbrev pub label_text : Layout → ℕ → List ℕ → List ℕ
 label_text layout levels name = repeated levels (codes "  ") ++ shown_name layout name ++ 10 ∷ []
 

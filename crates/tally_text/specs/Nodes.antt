@@ -11,11 +11,11 @@ use Rattle.tally_text.specs.declared.rest.Rest.{Rest}
 abbrev pub trees_of : Nodes → List Node
 trees_of nodes = nodes.trees.items
 
--- how many entries of a directory there are at most
+-- the greatest number of entries of a directory
 abbrev pub largest_of : Nodes → Option ℕ
 largest_of nodes = nodes.largest
 
--- how many directories are above a node
+-- the number of directories above a node
 abbrev pub depth_of : Node → ℕ
 depth_of node = (out-Node node).depth
 
@@ -23,35 +23,35 @@ depth_of node = (out-Node node).depth
 abbrev pub bytes_of : Node → ℕ
 bytes_of node = (out-Node node).numbers.bytes
 
--- From this place on all trees are deeper, and the one in front of it isn't.
+-- From this place on all trees are deeper. The one before it isn't.
 pub record IsFirstDeeper (trees : List Node) (depth first : ℕ) : Type 0 where
   pub within : first ≤ length trees
   pub deeper : All (λ tree. depth < depth_of tree) (drop first trees)
   pub ends : (front : List Node) (last : Node) → take first trees ≡ front ++ last ∷ [] → depth_of last ≤ depth
 
--- The new list has the nodes of the old one by their sizes, the largest first, and as they came where these are equal.
+-- The new list has the nodes of the old one by size, the largest first. Nodes of equal size keep their order.
 pub record AreBySize (old new : List Node) : Type 0 where
   pub same : IsPermutation old new
   pub sorted : IsSortedByKey bytes_of (λ a b. nat_cmp b a) new
   pub stable : IsStableByKey bytes_of (λ a b. nat_cmp b a) old new
 
--- how many of these nodes are kept
+-- the number of these nodes that are kept
 abbrev pub kept_of : Option ℕ → List Node → ℕ
 kept_of None nodes = length nodes
 kept_of (Some largest) nodes = min largest (length nodes)
 
--- how many nodes there are, and the sum of their sizes as far as 128 bits go
+-- the number of nodes, and the sum of their sizes as far as 128 bits go
 abbrev pub rest_of : List Node → Rest
 rest_of nodes = record { count = length nodes; bytes = min (sum_by bytes_of nodes) (2 ^ 128 - 1) }
 
--- What is in a node: these nodes by their sizes, of which the largest are kept, if a number is given.
+-- The children of a node are these nodes by size. Only the largest are kept if a number is given.
 pub record HasChildren (largest : Option ℕ) (below : List Node) (node : Node) : Type 0 where
   pub sorted : List Node
   pub by_size : AreBySize below sorted
   pub children : (out-Node node).children.items ≡ take (kept_of largest sorted) sorted
   pub rest : (out-Node node).rest ≡ rest_of (drop (kept_of largest sorted) sorted)
 
--- A node is put behind the trees, and the deeper ones at their end are in it.
+-- A node is appended to the trees. The deeper ones at their end become its children.
 pub record IsPushed (largest : Option ℕ) (depth : ℕ) (name : List ℕ) (numbers : Numbers) (old all : List Node) : Type 0 where
   pub first : ℕ
   pub node : Node

@@ -4,7 +4,8 @@ use Rattle.std.specs.Int.{div_ceil}
 use Rattle.tally_text.specs.declared.scale.Scale.{Scale}
 use Rattle.tally_text.specs.declared.scale.Scale.TheVariants.{Human, Kibibytes, Bytes}
 
--- the power of 1,024 that a size from 1,024 bytes on is written in: the first of which the size, rounded up, has fewer than 1,024, or the tenth
+-- the power of 1,024 for a size of at least 1,024 bytes: the first in which the size, rounded up, has fewer than 1,024
+-- units, or the tenth
 abbrev pub power_for : ℕ → ℕ
 power_for bytes =
     unwrap_or (find (λ power. nat_lt (div_ceil bytes (2 ^ (10 * power))) 1024) (1 ∷ 2 ∷ 3 ∷ 4 ∷ 5 ∷ 6 ∷ 7 ∷ 8 ∷ 9 ∷ [])) 10
@@ -26,7 +27,7 @@ amount_in unit bytes =
 abbrev pub in_units : ℕ → List ℕ
 in_units bytes = amount_in (2 ^ (10 * power_for bytes)) bytes ++ codes " " ++ letter_of (power_for bytes) ++ codes "iB"
 
--- a size as it is written
+-- the written form of a size
 abbrev pub size_text : Scale → ℕ → List ℕ
 size_text Human bytes = if nat_lt bytes 1024 then decimal bytes ++ codes " B" else in_units bytes
 size_text Kibibytes bytes = decimal (div_ceil bytes 1024)

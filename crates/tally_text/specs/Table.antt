@@ -17,21 +17,21 @@ abbrev pub own_row : Layout → Node → List ℕ
 own_row layout node =
     row_text layout ((out-Node node).depth - 1) (out-Node node).numbers.bytes (string_bytes (out-Node node).name)
 
--- the row of what is in a directory beyond its largest entries, if there is something
+-- the row of the entries of a directory beyond its largest ones, if there are any
 abbrev pub rest_row : Layout → ℕ → Rest → List ℕ
 rest_row layout levels rest =
     if rest.count == 0 then [] else row_text layout levels rest.bytes (codes "(" ++ decimal rest.count ++ codes " more)")
 
--- one node: its row, and the rows of what is in it, each with those below it
+-- one node: its row, and the rows of its children, each with those below it
 abbrev pub rows_step : Layout → Node-F (List ℕ) → List ℕ
 rows_step layout n =
     row_text layout (n.depth - 1) n.numbers.bytes (string_bytes n.name) ++ (concat n.children.items ++ rest_row layout n.depth n.rest)
 
--- the rows of a node and of all below it
+-- the rows of a node and of everything below it
 abbrev pub rows_of : Layout → Node → List ℕ
 rows_of layout = fold-Node (List ℕ) (rows_step layout)
 
--- the rows of what is in a node, and of all below that
+-- the rows of everything below a node
 abbrev pub below_text : Layout → Node → List ℕ
 below_text layout node =
     concat (map (rows_of layout) (out-Node node).children.items) ++ rest_row layout (out-Node node).depth (out-Node node).rest
@@ -41,27 +41,27 @@ abbrev pub most_of : List ℕ → ℕ
 most_of [] = 0
 most_of (n ∷ ns) = max n (most_of ns)
 
--- how many columns a name takes with what is in front of it: two for each level, and one for each character, as far as 64 bits go
+-- the columns of a name with the spaces before it: two for each level, and one for each character, as far as 64 bits go
 abbrev pub columns_at : ℕ → List ℕ → ℕ
 columns_at depth name = min (length (chars name) + min ((depth - 1) * 2) (2 ^ 64 - 1)) (2 ^ 64 - 1)
 
--- how many columns the name of a node takes
+-- the columns of the name of a node
 abbrev pub columns_of : Node → ℕ
 columns_of node = columns_at (out-Node node).depth (string_bytes (out-Node node).name)
 
--- one node: the most columns that its name takes, or one below it
+-- one node: the most columns of its name and of those below it
 abbrev pub longest_step : Node-F ℕ → ℕ
 longest_step n = max (columns_at n.depth (string_bytes n.name)) (most_of n.children.items)
 
--- the most columns that a name in a tree takes
+-- the most columns of a name in a tree
 abbrev pub longest_of : Node → ℕ
 longest_of = fold-Node ℕ longest_step
 
--- how many columns a size takes at least: as many as that of the root, and eight
+-- the columns of a size: those of the root's size, at least eight
 abbrev pub column_for : Scale → Node → ℕ
 column_for scale root = max (length (size_text scale (out-Node root).numbers.bytes)) 8
 
--- how many columns are left for bars in a row of this width
+-- the columns that are left for bars in a row of this width
 abbrev pub bar_for : Scale → Option ℕ → Node → ℕ
 bar_for scale None root = 0
 bar_for scale (Some width) root = width - longest_of root - column_for scale root - 4
@@ -77,6 +77,6 @@ layout_for scale width to_terminal root =
       to_terminal = to_terminal;
     }
 
--- the table of a tree: the rows of what is below the root, and the total behind them
+-- the table of a tree: the rows of everything below the root, and then the total
 abbrev pub table_text : Layout → Node → List ℕ
 table_text layout root = below_text layout root ++ own_row layout root

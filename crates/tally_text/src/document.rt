@@ -11,7 +11,6 @@ use crate::numbers::Numbers;
 use serde_json::{Map, Number, Value};
 use std::alloc::{AllocError, Global};
 
-/// Returns a number as JSON has it, or its digits as a text if it needs more than 64 bits.
 fn number_of(alloc: Global, n: u128) -> Result<Value, AllocError>
     ensures { IfOk result (λ value. view value ≡ number_data n) }
 {
@@ -21,7 +20,6 @@ fn number_of(alloc: Global, n: u128) -> Result<Value, AllocError>
     }
 }
 
-/// Puts a number under a key.
 fn put_number(
     members: &mut Map<String, Value>,
     alloc: Global,
@@ -34,7 +32,6 @@ fn put_number(
     serde_json::put(members, alloc, key, number_of(alloc, n)?)
 }
 
-/// Returns the members that the numbers of a node are.
 fn members_of_numbers(alloc: Global, numbers: Numbers) -> Result<Map<String, Value>, AllocError>
     ensures { IfOk result (λ members. members_view members.entries ≡ with_numbers numbers no_members) }
 {
@@ -49,7 +46,6 @@ fn members_of_numbers(alloc: Global, numbers: Numbers) -> Result<Map<String, Val
     Ok(members)
 }
 
-/// Returns the results of a node as JSON, with what its children are as JSON.
 fn value_of(alloc: Global, node: &Node, children: Vec<Value>) -> Result<Value, AllocError>
     ensures { IfOk result (λ value. view value ≡ data_with (out-Node node.now) (items_view children.items)) }
 {
@@ -60,7 +56,6 @@ fn value_of(alloc: Global, node: &Node, children: Vec<Value>) -> Result<Value, A
     Ok(Value::Object(members))
 }
 
-/// Returns nodes as JSON.
 fn values_of(alloc: Global, nodes: &[Node]) -> Result<Vec<Value>, AllocError>
     ensures { IfOk result (λ values. map view values.items ≡ map data_of nodes.now) }
 {
@@ -72,15 +67,14 @@ fn values_of(alloc: Global, nodes: &[Node]) -> Result<Vec<Value>, AllocError>
     Ok(values)
 }
 
-/// Returns an array of values.
 fn array_of(values: Vec<Value>) -> Value
     ensures { view result ≡ array (items_view values.items) }
 {
     Value::Array(values)
 }
 
-/// Returns trees of results as one JSON document: an array of trees. Each is an object with its name, its numbers and
-/// its children, which are such objects. A number that needs more than 64 bits is a text, its digits.
+/// Returns trees of results as one JSON document, an array. Each tree is an object with its name, its numbers and its
+/// children, which are such objects. A number that needs more than 64 bits is a string of its digits.
 ///
 /// # Errors
 ///

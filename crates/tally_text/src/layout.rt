@@ -1,4 +1,4 @@
-//! How a table is written.
+//! The layout of a table.
 ghost use Rattle.std.specs.Prelude.{◌≡◌, ◌≤◌, ◌++◌, OnOk};
 ghost use Rattle.tally_text.specs.Layout.{repeated, marks_of, bar_text, size_column, shown_name, front_text, label_text, row_text};
 
@@ -6,22 +6,21 @@ use crate::scale::Scale;
 use seek_words::masked::masked;
 use std::alloc::{AllocError, Global};
 
-/// How a table is written.
+/// The layout of a table.
 #[derive(Clone, Copy, Debug, PartialEq, Eq)]
 pub struct Layout {
-    /// How sizes are written.
+    /// The scale of sizes.
     pub scale: Scale,
-    /// How many columns a size takes at least.
+    /// The least number of columns of a size.
     pub column: usize,
-    /// How many columns a bar takes; there are no bars if it is 0.
+    /// The number of columns of a bar, or 0 for no bars.
     pub bar: usize,
-    /// The size that a whole bar shows.
+    /// The size of a whole bar.
     pub total: u128,
-    /// It is written to a terminal, where a control character in a name is a question mark.
+    /// Whether the table is for a terminal, where each control character in a name is a question mark.
     pub to_terminal: bool,
 }
 
-/// Puts a text behind these bytes, this number of times.
 fn push_times(text: &str, times: usize, out: &mut Vec<u8, Global>) -> Result<(), AllocError>
     ensures { OnOk result (out.new.items ≡ out.old.items ++ repeated times text.now) }
 {
@@ -34,7 +33,7 @@ fn push_times(text: &str, times: usize, out: &mut Vec<u8, Global>) -> Result<(),
 }
 
 impl Layout {
-    /// Returns how many marks of a bar a size has: its share of the total, rounded down.
+    /// Returns a size's share of the total, rounded down.
     fn marks(&self, bytes: u128) -> usize
         ensures marks { result ≡ marks_of self.now bytes }
         ensures most { result ≤ self.now.bar }
@@ -46,7 +45,6 @@ impl Layout {
         share.min(self.bar as u128) as usize
     }
 
-    /// Puts the bar of a size behind these bytes, if there are bars.
     fn push_bar(&self, bytes: u128, out: &mut Vec<u8, Global>) -> Result<(), AllocError>
         ensures { OnOk result (out.new.items ≡ out.old.items ++ bar_text self.now bytes) }
     {
@@ -59,7 +57,6 @@ impl Layout {
         push_times(" ", 2, out)
     }
 
-    /// Puts a size behind these bytes, at the end of its column.
     fn push_size(&self, bytes: u128, out: &mut Vec<u8, Global>) -> Result<(), AllocError>
         ensures { OnOk result (out.new.items ≡ out.old.items ++ size_column self.now bytes) }
     {
@@ -69,7 +66,6 @@ impl Layout {
         out.extend_from_slice(size.as_slice())
     }
 
-    /// Puts a name behind these bytes.
     fn push_name(&self, name: &str, out: &mut Vec<u8, Global>) -> Result<(), AllocError>
         ensures { OnOk result (out.new.items ≡ out.old.items ++ shown_name self.now name.now) }
     {
@@ -81,7 +77,6 @@ impl Layout {
         }
     }
 
-    /// Puts what is in front of a name behind these bytes: the size, two spaces and the bar.
     fn push_front(&self, bytes: u128, out: &mut Vec<u8, Global>) -> Result<(), AllocError>
         ensures { OnOk result (out.new.items ≡ out.old.items ++ front_text self.now bytes) }
     {
@@ -90,7 +85,6 @@ impl Layout {
         self.push_bar(bytes, out)
     }
 
-    /// Puts a name behind these bytes, behind two spaces for each level, and a line feed.
     fn push_label(
         &self,
         levels: usize,
@@ -105,7 +99,7 @@ impl Layout {
         Ok(())
     }
 
-    /// Puts the row of a size and of a name behind these bytes. Two spaces are in front of the name for each level.
+    /// Appends the row of a size and of a name to `out`. The name follows two spaces for each level.
     ///
     /// # Errors
     ///

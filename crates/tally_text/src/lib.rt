@@ -1,4 +1,4 @@
-//! How the results of `tally` are written, over plain values: sizes, lines, a tree of results, tables and JSON.
+//! The output of `tally`, over plain values: sizes, lines, a tree of results, tables and JSON.
 #![tactic(auto)]
 
 pub mod document;

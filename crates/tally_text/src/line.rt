@@ -6,7 +6,7 @@ use crate::scale::Scale;
 use seek_words::paths::Style;
 use std::alloc::{AllocError, Global};
 
-/// Puts the line of a size and of the path of a name in a folder behind these bytes.
+/// Appends the line of a size and of the path of a name in a folder to `out`.
 ///
 /// # Errors
 ///

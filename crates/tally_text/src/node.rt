@@ -1,19 +1,19 @@
-//! An entry with what is below it.
+//! An entry with everything below it.
 use crate::numbers::Numbers;
 use crate::rest::Rest;
 use std::alloc::Global;
 
-/// An entry with its results and with what is below it.
+/// An entry with its results and its children.
 #[derive(Drop)]
 pub struct Node {
-    /// How many directories are above it.
+    /// The number of directories above it.
     pub depth: usize,
     /// Its name.
     pub name: String<Global>,
-    /// What it and all below it come to.
+    /// The totals of it and everything below it.
     pub numbers: Numbers,
-    /// What is in it, the largest first.
+    /// Its children, the largest first.
     pub children: Vec<Node, Global>,
-    /// What is in it beyond those.
+    /// Its children beyond those.
     pub rest: Rest,
 }

@@ -9,14 +9,13 @@ use std::alloc::{AllocError, Global};
 use std::cmp::Reverse;
 
 /// Trees of results, made of lines in which children come before their parents. The entries of a directory are in the
-/// order of their sizes, the largest first, and as they came where these are equal.
+/// order of their sizes, the largest first. Entries of equal size keep their order.
 #[derive(Drop)]
 pub struct Nodes {
     trees: Vec<Node, Global>,
     largest: Option<usize>,
 }
 
-/// Returns from which of these trees on all are deeper.
 fn first_deeper(trees: &[Node], depth: usize) -> usize
     ensures { IsFirstDeeper trees.now depth result }
 {
@@ -27,14 +26,12 @@ fn first_deeper(trees: &[Node], depth: usize) -> usize
     first
 }
 
-/// Sorts nodes by size, the largest first.
 fn sort_by_size(nodes: &mut Vec<Node, Global>) -> Result<(), AllocError>
     ensures { OnOk result (AreBySize nodes.old.items nodes.new.items) }
 {
     nodes.sort_by_key(|node| Reverse(node.numbers.bytes))
 }
 
-/// Returns how many nodes there are and the sum of their sizes.
 #[tactic(auto, using(crate::proofs::NodesFacts::rest_known))]
 fn rest_of(nodes: &[Node]) -> Rest
     ensures { result ≡ rest_of nodes.now }
@@ -49,7 +46,6 @@ fn rest_of(nodes: &[Node]) -> Rest
     }
 }
 
-/// Takes away all but the first of these nodes, if a number is given, and returns what they were.
 fn cut(nodes: &mut Vec<Node, Global>, largest: Option<usize>) -> Rest
     ensures kept { nodes.new.items ≡ take (kept_of largest nodes.old.items) nodes.old.items }
     ensures rest { result ≡ rest_of (drop (kept_of largest nodes.old.items) nodes.old.items) }
@@ -64,7 +60,7 @@ fn cut(nodes: &mut Vec<Node, Global>, largest: Option<usize>) -> Rest
 }
 
 impl Nodes {
-    /// Returns no trees yet. The nodes of a directory will be its largest entries, of this number, or all.
+    /// Returns no trees. `largest` is the greatest number of entries of a directory, which keeps its largest ones.
     pub fn new(alloc: Global, largest: Option<usize>) -> Self
         ensures trees { trees_of result ≡ [] }
         ensures largest { largest_of result ≡ largest }
@@ -75,7 +71,7 @@ impl Nodes {
         }
     }
 
-    /// Puts a node behind the trees, with the deeper ones at their end as what is in it.
+    /// Appends a node to the trees. The deeper trees at their end become its children.
     ///
     /// # Errors
     ///

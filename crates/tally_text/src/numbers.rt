@@ -1,20 +1,20 @@
-//! What an entry and all below it come to.
+//! The totals of an entry and everything below it.
 
-/// What an entry and all below it come to.
+/// The totals of an entry and everything below it.
 #[derive(Clone, Copy, Debug, PartialEq, Eq)]
 pub struct Numbers {
     /// The sum of sizes.
     pub bytes: u128,
     /// The sum of the lengths of files.
     pub file_bytes: u128,
-    /// How many files there are.
+    /// The number of files.
     pub files: u128,
-    /// How many directories.
+    /// The number of directories.
     pub dirs: u128,
-    /// How many links.
+    /// The number of links.
     pub links: u128,
-    /// How many entries of other types.
+    /// The number of entries of other types.
     pub others: u128,
-    /// How many errors.
+    /// The number of errors.
     pub errors: u128,
 }

@@ -1,9 +1,9 @@
-//! What a directory holds beyond its largest entries.
+//! The entries of a directory beyond its largest ones.
 
-/// What a directory holds beyond its largest entries.
+/// The entries of a directory beyond its largest ones.
 #[derive(Clone, Copy, Debug, PartialEq, Eq)]
 pub struct Rest {
-    /// How many entries these are.
+    /// The number of these entries.
     pub count: usize,
     /// The sum of their sizes, or the greatest `u128` if it is more.
     pub bytes: u128,

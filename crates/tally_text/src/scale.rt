@@ -5,10 +5,10 @@ ghost use Rattle.tally_text.specs.Scale.{power_for, letter_of, in_tenths, amount
 use itoa::Buffer;
 use std::alloc::{AllocError, Global};
 
-/// How sizes are written.
+/// The scale of sizes.
 #[derive(Clone, Copy, Debug, PartialEq, Eq)]
 pub enum Scale {
-    /// In the binary unit that suits a size, as `1.4 GiB`.
+    /// In the binary unit for the size, as `1.4 GiB`.
     Human,
     /// In units of 1,024 bytes, rounded up.
     Kibibytes,
@@ -16,7 +16,6 @@ pub enum Scale {
     Bytes,
 }
 
-/// Returns a power of 1,024.
 #[tactic(auto, using(crate::proofs::ScaleFacts::unit_most))]
 fn unit_of(power: u32) -> u128
     requires { power ≤ 10 }
@@ -27,8 +26,7 @@ fn unit_of(power: u32) -> u128
     1 << (10 * power)
 }
 
-/// Returns the power of 1,024 that a size from 1,024 bytes on is written in: the first of which the size, rounded up,
-/// has fewer than 1,024, or the tenth.
+/// Returns the first power of 1,024 in which the size, rounded up, has fewer than 1,024 units, or the tenth.
 fn power_for(bytes: u128) -> u32
     ensures power { result ≡ power_for bytes }
     ensures some { 1 ≤ result }
@@ -41,7 +39,7 @@ fn power_for(bytes: u128) -> u32
     power
 }
 
-/// Returns the letter of a power, in front of `iB`.
+/// The letter precedes `iB`.
 fn letter_of(power: u32) -> &'static str
     requires some { 1 ≤ power }
     requires most { power ≤ 10 }
@@ -61,14 +59,12 @@ fn letter_of(power: u32) -> &'static str
     }
 }
 
-/// Puts the digits of a number behind these bytes.
 fn push_decimal(n: u128, out: &mut Vec<u8, Global>) -> Result<(), AllocError>
     ensures { OnOk result (out.new.items ≡ out.old.items ++ decimal n) }
 {
     out.extend_from_slice(Buffer::new().format(n).as_bytes())
 }
 
-/// Puts a number of tenths behind these bytes, with one decimal.
 fn push_tenths(tenths: u128, out: &mut Vec<u8, Global>) -> Result<(), AllocError>
     ensures { OnOk result (out.new.items ≡ out.old.items ++ in_tenths tenths) }
 {
@@ -77,7 +73,7 @@ fn push_tenths(tenths: u128, out: &mut Vec<u8, Global>) -> Result<(), AllocError
     push_decimal(tenths % 10, out)
 }
 
-/// Puts a size in a unit behind these bytes, rounded up: with one decimal up to 9.9, and with none above.
+/// Rounds up. Numbers up to 9.9 have one decimal, others none.
 #[tactic(auto, using(crate::proofs::ScaleFacts::within))]
 fn push_amount(unit: u128, bytes: u128, out: &mut Vec<u8, Global>) -> Result<(), AllocError>
     requires some { 1 ≤ unit }
@@ -91,7 +87,7 @@ fn push_amount(unit: u128, bytes: u128, out: &mut Vec<u8, Global>) -> Result<(),
     }
 }
 
-/// Puts a size from 1,024 bytes on behind these bytes, in the binary unit that suits it.
+/// The size must be at least 1,024 bytes.
 fn push_units(bytes: u128, out: &mut Vec<u8, Global>) -> Result<(), AllocError>
     ensures { OnOk result (out.new.items ≡ out.old.items ++ in_units bytes) }
 {
@@ -105,7 +101,7 @@ fn push_units(bytes: u128, out: &mut Vec<u8, Global>) -> Result<(), AllocError>
 impl Scale {
     ghost use Rattle.tally_text.specs.Scale.{size_text};
 
-    /// Puts a size behind these bytes.
+    /// Appends a size to `out`.
     ///
     /// # Errors
     ///

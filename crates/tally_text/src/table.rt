@@ -9,7 +9,6 @@ use crate::rest::Rest;
 use crate::scale::Scale;
 use std::alloc::{AllocError, Global};
 
-/// Puts the row of what is beyond the largest entries of a directory behind these bytes, if there is something.
 fn push_rest(
     layout: &Layout,
     levels: usize,
@@ -25,7 +24,6 @@ fn push_rest(
     layout.push_row(levels, rest.bytes, name.as_str(), out)
 }
 
-/// Returns how many characters a text has.
 fn characters(text: &str) -> usize
     ensures { result ≡ length (chars text.now) }
 {
@@ -33,7 +31,6 @@ fn characters(text: &str) -> usize
 }
 
 impl Node {
-    /// Puts its own row behind these bytes.
     fn push_own(&self, layout: &Layout, out: &mut Vec<u8, Global>) -> Result<(), AllocError>
         ensures { OnOk result (out.new.items ≡ out.old.items ++ own_row layout.now self.now) }
     {
@@ -41,7 +38,6 @@ impl Node {
         layout.push_row(levels, self.numbers.bytes, self.name.as_str(), out)
     }
 
-    /// Puts the rows of what is in it and of all below that behind these bytes.
     #[tactic(auto, using(crate::proofs::TableFacts::one_more))]
     fn push_below(&self, layout: &Layout, out: &mut Vec<u8, Global>) -> Result<(), AllocError>
         ensures { OnOk result (out.new.items ≡ out.old.items ++ below_text layout.now self.now) }
@@ -53,7 +49,7 @@ impl Node {
         push_rest(layout, self.depth, self.rest, out)
     }
 
-    /// Returns how many columns its name takes in a table, with what is in front of it.
+    /// Counts the spaces before the name, too.
     fn columns(&self) -> usize
         ensures { result ≡ columns_of self.now }
     {
@@ -61,7 +57,7 @@ impl Node {
         characters(self.name.as_str()).saturating_add(levels.saturating_mul(2))
     }
 
-    /// Returns the most columns that its name or one below it takes.
+    /// Looks at the names of the node and of everything below it.
     #[tactic(auto, using(crate::proofs::TableFacts::longest_out))]
     fn longest(&self) -> usize
         ensures { result ≡ longest_of self.now }
@@ -74,7 +70,7 @@ impl Node {
     }
 }
 
-/// Returns the layout of the table of a tree, with bars if a width is given.
+/// Without a width there are no bars.
 fn layout_for(
     alloc: Global,
     scale: Scale,
@@ -104,8 +100,8 @@ fn layout_for(
     })
 }
 
-/// Puts the table of a tree behind these bytes: the rows of what is below the root, each directory before what is in
-/// it, and the total behind them. If a width is given, rows have bars that show a size's share of the total.
+/// Appends the table of a tree to `out`: the rows of everything below the root, each directory before its entries, and
+/// then the total. If a width is given, the rows have bars that show a size's share of the total.
 ///
 /// # Errors
 ///

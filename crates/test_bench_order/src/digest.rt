@@ -1,6 +1,6 @@
-//! Addresses in their order, as one number.
+//! The order of addresses, as one number.
 
-/// A number that shows, as good as surely, which addresses came and in which order.
+/// A number that shows, almost certainly, which addresses came and in which order.
 #[derive(Drop)]
 pub struct Digest {
     pub value: u64,
@@ -12,7 +12,7 @@ impl Digest {
         Digest { value: 0 }
     }
 
-    /// Goes on with an address: with its length and its last index.
+    /// Adds the length and the last index of an address.
     pub fn add(&mut self, address: &[usize]) {
         for number in [address.len(), address.last().copied().unwrap_or(0)] {
             self.value = self.value.wrapping_mul(31).wrapping_add(number as u64);

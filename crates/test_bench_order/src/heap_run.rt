@@ -20,7 +20,6 @@ pub fn run_heap(alloc: Global, addresses: Vec<Vec<usize>>) -> Option<Digest> {
     Some(digest)
 }
 
-/// Pushes the address of a child.
 fn push_child(
     heap: &mut BinaryHeap<Reverse<Vec<usize>>>,
     alloc: Global,

@@ -1,6 +1,6 @@
 //! The ordered queue and the board at work, and the same work on the standard library's heap alone, to be timed from
-//! outside: `test_bench_order PART SHAPE COUNT ..`. Each three words are a job, and it prints a line for each: the words,
-//! and a digest of the addresses in the order in which they came.
+//! outside: `test_bench_order PART SHAPE COUNT ..`. Each three words are a job. The program prints a line for each job:
+//! the words, and a digest of the addresses in their order.
 #![tactic(auto)]
 
 mod digest;
@@ -18,7 +18,7 @@ use std::alloc::Global;
 use std::env;
 use std::process::ExitCode;
 
-/// A job on scrambled addresses. The part `input` makes what the others work on, and nothing else.
+/// The part `input` only makes the addresses.
 fn run_scrambled(alloc: Global, part: &str, count: usize) -> Option<Digest> {
     let addresses = scrambled_addresses(alloc, count)?;
     match part {
@@ -29,7 +29,7 @@ fn run_scrambled(alloc: Global, part: &str, count: usize) -> Option<Digest> {
     }
 }
 
-/// A job on a tree.
+/// The part `input` only has the tree made.
 fn run_tree(alloc: Global, part: &str, tree: &Tree) -> Option<Digest> {
     match part {
         "input" => Some(Digest::new()),
@@ -39,7 +39,7 @@ fn run_tree(alloc: Global, part: &str, tree: &Tree) -> Option<Digest> {
     }
 }
 
-/// Does the job that three words ask for.
+/// Returns `None` for other words.
 fn run_job(alloc: Global, words: &[String]) -> Option<Digest> {
     let [part, shape, count] = words else {
         return None;
@@ -52,7 +52,7 @@ fn run_job(alloc: Global, words: &[String]) -> Option<Digest> {
     run_tree(alloc, part.as_str(), &tree)
 }
 
-/// Does the jobs one after another, and prints a line for each. None at the first that can't be done.
+/// Returns `None` at the first job that can't be done.
 fn run(rt: &HostRuntime) -> Option<()> {
     let args = env::args(rt).ok()?;
     let words: Vec<String> = args.skip(1).collect(rt.alloc()).ok()?;

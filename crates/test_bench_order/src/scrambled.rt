@@ -1,8 +1,8 @@
-//! Addresses in an order that looks random.
+//! Addresses in a pseudo-random order.
 use std::alloc::Global;
 
-/// Returns the address of the node with this number. The nodes of a tree are numbered from 0, level by level, and each
-/// has ten children.
+/// Returns the address of a node. The nodes of a tree have numbers from 0 on, level by level, and each has ten
+/// children.
 fn address(alloc: Global, number: usize) -> Option<Vec<usize>> {
     let mut indices = Vec::new(alloc);
     let mut node = number;
@@ -15,7 +15,7 @@ fn address(alloc: Global, number: usize) -> Option<Vec<usize>> {
     Some(indices)
 }
 
-/// Returns the addresses of the first nodes, in an order that looks random and is the same each time.
+/// Returns the addresses of the first nodes, in a pseudo-random order that is always the same.
 pub fn scrambled_addresses(alloc: Global, count: usize) -> Option<Vec<Vec<usize>>> {
     let mut addresses = Vec::new(alloc);
     let mut state: u64 = 1;

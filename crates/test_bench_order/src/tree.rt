@@ -1,15 +1,15 @@
 //! Trees of directories.
 use std::alloc::Global;
 
-/// A tree by its numbers of children.
+/// A tree as the numbers of its children.
 #[derive(Drop)]
 pub struct Tree {
     pub roots: usize,
-    /// How many children each directory has, in preorder.
+    /// The number of children of each directory, in preorder.
     pub child_counts: Vec<usize>,
 }
 
-/// Returns how many directories are at and below each root of a tree with that many.
+/// Returns how many directories are at and below each root of a tree of `count` directories.
 fn root_sizes(alloc: Global, shape: &str, count: usize) -> Option<Vec<usize>> {
     match shape {
         "wide" | "bushy" => vec![in alloc; count].ok(),
@@ -18,7 +18,7 @@ fn root_sizes(alloc: Global, shape: &str, count: usize) -> Option<Vec<usize>> {
     }
 }
 
-/// Returns ten shares of a count, as equal as can be, but for those of none.
+/// The shares are as equal as possible. Those of none are left out.
 fn ten_shares(alloc: Global, count: usize) -> Option<Vec<usize>> {
     let mut shares = Vec::new(alloc);
     for i in 0..count.min(10) {
@@ -27,9 +27,9 @@ fn ten_shares(alloc: Global, count: usize) -> Option<Vec<usize>> {
     Some(shares)
 }
 
-/// Returns how many are at and below each child of a directory that has that many below it. In `wide` trees one
-/// directory has all others in it. In `bushy` ones each has ten as long as there are enough. In `chains` a hundred are
-/// in one another.
+/// Returns how many directories are at and below each child of a directory with `below` below it. In a `wide` tree one
+/// directory has all others. In a `bushy` tree each directory has ten as long as there are enough. In `chains` a
+/// hundred are nested.
 fn child_sizes(alloc: Global, shape: &str, below: usize) -> Option<Vec<usize>> {
     match shape {
         "wide" => vec![in alloc; 1; below].ok(),
@@ -40,7 +40,7 @@ fn child_sizes(alloc: Global, shape: &str, below: usize) -> Option<Vec<usize>> {
 }
 
 impl Tree {
-    /// Returns a tree with that many directories. Of chains there are only full ones.
+    /// Returns a tree of `count` directories. Only whole chains are made.
     pub fn new(alloc: Global, shape: &str, count: usize) -> Option<Self> {
         let mut sizes = root_sizes(alloc, shape, count)?;
         let roots = sizes.len();

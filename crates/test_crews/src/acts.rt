@@ -1,4 +1,4 @@
-//! What is done with walks over a crew, one act after another.
+//! Acts on walks over a crew, one after another.
 use crate::crewed::{Asked, Stand, States, Walk, WalkBy};
 use jwalk::file_system::FileSystem;
 use jwalk::read_dir::NoProcess;
@@ -16,69 +16,68 @@ use test_fixtures::watched::{Failing, Watched};
 use test_fixtures::ways::all_of;
 use tree_crew::crew::Place;
 
-/// An act, which succeeds or not.
+/// An act, which may fail.
 #[derive(Clone, Copy)]
 pub enum Act<'a> {
-    /// A walk begins.
+    /// Begins a walk.
     Begins(Asked<'a>),
-    /// A walk doesn't begin, since the crew is busy.
+    /// Begins a walk, which is refused as the crew is busy.
     IsRefused(Asked<'a>),
-    /// All that a walk yields is that the crew is busy.
+    /// Takes all answers of a walk: only that the crew is busy.
     IsBusy(Asked<'a>),
-    /// A walk yields this.
+    /// Takes all answers of a walk.
     Answers(Asked<'a>, &'a str),
-    /// The walk that began last goes on so.
+    /// Goes on with the walk that began last.
     Last(Going<'a>),
-    /// A place is taken, and given back a while later on another thread.
+    /// Takes a place, which another thread gives back a while later.
     Holds,
-    /// That many places are in use.
+    /// Counts the places in use.
     InUse(usize),
-    /// Within some seconds no directory is listed any more.
+    /// Waits some seconds until no directory is listed any more.
     Rests,
-    /// That many listings were asked for.
+    /// Counts the listings that were asked for.
     Lists(usize),
-    /// Nobody slept until a turn was over while there was something to do.
+    /// Checks that nobody slept until a turn was over while there was something to do.
     IsWoken,
 }
 
 /// How a walk under way goes on.
 #[derive(Clone, Copy)]
 pub enum Going<'a> {
-    /// Within some seconds that many readings are ahead.
+    /// Waits some seconds until a number of readings are ahead.
     Ahead(usize),
-    /// That many entries come.
+    /// Yields a number of entries.
     Comes(usize),
-    /// It keeps this bound up to its end.
+    /// Keeps this bound up to the walk's end.
     Keeps(Bound),
-    /// This is all that still comes.
+    /// Yields this and ends.
     Ends(&'a str),
-    /// It is dropped.
+    /// Is dropped.
     Drops,
 }
 
 /// A bound on how far a crew reads ahead of a walk.
 #[derive(Clone, Copy)]
 pub struct Bound {
-    /// At most that many readings are ahead, and one.
+    /// The number of readings. One more than that may be ahead.
     pub readings: usize,
-    /// How many answers come.
+    /// The number of answers.
     pub answers: usize,
-    /// For how many milliseconds nobody asks after each of them.
+    /// The milliseconds for which nobody asks after each answer.
     pub pause: u64,
 }
 
-/// A tree, where it fails, and how many places and workers for a walk its crew has.
+/// A tree, where it fails, and the places of its crew and the workers of each walk.
 #[derive(Clone, Copy)]
 pub struct Scene {
     pub steps: &'static [Step],
     pub failing: Failing,
     pub places: usize,
     pub workers: usize,
-    /// How far ahead the workers read, where that is said.
+    /// The readings that workers read ahead, if set.
     pub read_ahead: Option<usize>,
 }
 
-/// Whether the one answer is that the crew is busy.
 fn is_busy(found: &[Answer]) -> bool {
     match found {
         [Err(error)] => error.is_busy() && error.path().is_none() && error.depth() == 0,
@@ -86,7 +85,7 @@ fn is_busy(found: &[Answer]) -> bool {
     }
 }
 
-/// Whether this is what a walk yields; where nothing is said, whether it is that the crew is busy.
+/// Without `wanted`, the only answer must be that the crew is busy.
 fn are(alloc: Global, found: Result<Vec<Answer>, AllocError>, wanted: Option<&str>) -> bool {
     match (found, wanted) {
         (Ok(found), Some(wanted)) => are_lines(alloc, found.as_slice(), wanted),
@@ -95,7 +94,6 @@ fn are(alloc: Global, found: Result<Vec<Answer>, AllocError>, wanted: Option<&st
     }
 }
 
-/// Whether a walk yields that many entries.
 fn comes<S: FileSystem, L: Readers<States, S, NoProcess, Global>>(
     walk: &mut WalkBy<S, L>,
     count: usize,
@@ -108,7 +106,7 @@ fn comes<S: FileSystem, L: Readers<States, S, NoProcess, Global>>(
     true
 }
 
-/// Whether within some seconds that many readings are ahead for a walk.
+/// Waits up to some seconds.
 fn come_ahead<S: FileSystem, L: Readers<States, S, NoProcess, Global>>(
     clock: &impl Clock,
     walk: &WalkBy<S, L>,
@@ -123,8 +121,8 @@ fn come_ahead<S: FileSystem, L: Readers<States, S, NoProcess, Global>>(
     false
 }
 
-/// Whether after each answer no more readings are ahead of a walk than the bound and one, nor were more directories listed
-/// than these and those of the answers.
+/// After each answer, at most one more reading than the bound may be ahead, and no other directory may have been listed
+/// than those and the directories of the answers.
 fn keeps<S: FileSystem, L: Readers<States, S, NoProcess, Global>>(
     clock: &impl Clock,
     fs: &impl CountsLists,
@@ -143,7 +141,7 @@ fn keeps<S: FileSystem, L: Readers<States, S, NoProcess, Global>>(
     walk.next().is_none()
 }
 
-/// Whether a walk goes on so, and isn't to end.
+/// Returns `false` for a walk that is to end.
 fn goes_on<S: FileSystem, L: Readers<States, S, NoProcess, Global>>(
     clock: &impl Clock,
     fs: &impl CountsLists,
@@ -158,7 +156,6 @@ fn goes_on<S: FileSystem, L: Readers<States, S, NoProcess, Global>>(
     }
 }
 
-/// Whether the last of these walks goes on so.
 fn last_goes_on<S: FileSystem, L: Readers<States, S, NoProcess, Global>>(
     clock: &impl Clock,
     fs: &impl CountsLists,
@@ -181,7 +178,7 @@ fn last_goes_on<S: FileSystem, L: Readers<States, S, NoProcess, Global>>(
     }
 }
 
-/// Takes a place, and gives it back a while later on another thread.
+/// Another thread gives the place back a while later.
 fn holds<R: Host>(rt: &R, crew: &Arc<Crew<R>>) -> Option<()> {
     let clock: R = rt.clone().ok()?;
     let place = Place::take(crew, None).ok()?;
@@ -193,7 +190,7 @@ fn holds<R: Host>(rt: &R, crew: &Arc<Crew<R>>) -> Option<()> {
     Some(())
 }
 
-/// Whether an act succeeds that no walk is needed for.
+/// Takes the acts that need no walk.
 fn is_so<R: Host, S: CountsLists>(rt: &R, stand: &Stand<R, S>, act: &Act<'_>) -> bool {
     match act {
         Act::Holds => holds(rt, &stand.crew).is_some(),
@@ -205,7 +202,6 @@ fn is_so<R: Host, S: CountsLists>(rt: &R, stand: &Stand<R, S>, act: &Act<'_>) ->
     }
 }
 
-/// Whether an act succeeds beside these walks.
 fn comes_off<R: Host, S: CountsLists + Send + Sync + 'static>(
     rt: &R,
     stand: &Stand<R, S>,
@@ -226,7 +222,7 @@ fn comes_off<R: Host, S: CountsLists + Send + Sync + 'static>(
     }
 }
 
-/// The number of the first act that doesn't succeed, if they come one after another.
+/// Returns the number of the first act that fails.
 fn wrong<R: Host, S: CountsLists + Send + Sync + 'static>(
     rt: &R,
     stand: &Stand<R, S>,
@@ -242,7 +238,6 @@ fn wrong<R: Host, S: CountsLists + Send + Sync + 'static>(
     wrong
 }
 
-/// The crew of a scene, over its tree.
 fn stand_of<R: Host>(rt: &R, scene: &Scene) -> Option<Stand<R, Watched>> {
     let fs = Watched::new(tree(rt.alloc(), scene.steps).ok()?, scene.failing);
     let crew = Crew::new(rt.clone().ok()?, scene.places, scene.workers);
@@ -253,7 +248,7 @@ fn stand_of<R: Host>(rt: &R, scene: &Scene) -> Option<Stand<R, Watched>> {
     Stand::over(rt, fs, crew).ok()
 }
 
-/// The number of the first act that doesn't succeed over the crew and the tree of a scene; 0 if these can't be made.
+/// Returns the number of the first act that fails over the crew and the tree of a scene, or 0 if these can't be made.
 pub fn first_wrong<R: Host>(rt: &R, scene: &Scene, acts: &[Act<'_>]) -> Option<usize> {
     match stand_of(rt, scene) {
         Some(stand) => wrong(rt, &stand, acts),
@@ -261,7 +256,7 @@ pub fn first_wrong<R: Host>(rt: &R, scene: &Scene, acts: &[Act<'_>]) -> Option<u
     }
 }
 
-/// Goes through these acts over the crew and the tree of a scene: each succeeds.
+/// Asserts that each act succeeds over the crew and the tree of a scene.
 pub fn all_go<R: Host + Abort>(rt: &R, scene: &Scene, acts: &[Act<'_>]) {
     assert_eq!(rt; first_wrong(rt, scene, acts), None);
 }

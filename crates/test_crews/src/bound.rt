@@ -1,4 +1,4 @@
-//! How far a crew reads ahead of a walk.
+//! The bound on how far a crew reads ahead of a walk.
 use crate::acts::{Act, Bound, Going, Scene, all_go, first_wrong};
 use crate::crewed::{Asked, Reader};
 use test_fixtures::host::Host;
@@ -6,7 +6,7 @@ use test_fixtures::trees::Step;
 use test_fixtures::watched::Failing;
 use test_fixtures::ways::Setting;
 
-/// A crew of two workers that read eight directories ahead, over a root with twenty empty directories.
+/// A crew of two workers that read eight directories ahead, over a root of twenty empty directories.
 const BOUNDED: Scene = Scene {
     steps: &[
         Step::Dir("/r"),
@@ -37,7 +37,6 @@ const BOUNDED: Scene = Scene {
     read_ahead: Some(8),
 };
 
-/// A walk by name over the crew.
 const WALK: Asked<'static> = Asked {
     root: "/r",
     settings: &[Setting::Sort],
@@ -45,8 +44,8 @@ const WALK: Asked<'static> = Asked {
     then: &[],
 };
 
-/// The number of the first act that doesn't succeed: the workers read as far ahead as the bound while nobody asks, and no
-/// further; and that is so after each answer, with a pause of that many milliseconds. The root and all directories come.
+/// Returns the number of the first act that fails. The workers must read as far ahead as the bound while nobody asks,
+/// and no further, also after each answer and a pause of milliseconds.
 fn wrong_of<R: Host>(rt: &R, pause: u64) -> Option<usize> {
     let bound = Bound {
         readings: 8,
@@ -64,7 +63,7 @@ fn wrong_of<R: Host>(rt: &R, pause: u64) -> Option<usize> {
     first_wrong(rt, &BOUNDED, &acts)
 }
 
-// Where workers take whatever is queued (the wrong body `read_ahead_without_bound`), all 21 are read at once.
+// If workers took whatever is queued (the wrong body `read_ahead_without_bound`), all 21 would be read at once.
 #[test]
 fn a_crew_reads_as_far_ahead_as_its_bound(rt: HostRuntime) {
     for pause in [0, 1] {
@@ -72,7 +71,7 @@ fn a_crew_reads_as_far_ahead_as_its_bound(rt: HostRuntime) {
     }
 }
 
-// A pause is longer than a sleep's turn.
+// The pause is longer than the turn of a sleep.
 #[test]
 fn nobody_sleeps_until_a_turn_is_over_while_there_is_something_to_do(rt: HostRuntime) {
     assert_eq!(rt; wrong_of(&rt, 60), None);

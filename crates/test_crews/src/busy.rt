@@ -1,11 +1,11 @@
-//! Walks whose crew is busy, and how many a crew serves.
+//! Walks whose crew is busy, and the number of walks that a crew serves.
 use crate::acts::{Act, Going, Scene, all_go};
 use crate::crewed::{Asked, Reader};
 use test_fixtures::trees::{FORKED, GROUPED};
 use test_fixtures::watched::Failing;
 use test_fixtures::ways::Setting;
 
-/// A crew of one place, and one worker for a walk.
+/// A crew of one place, with one worker for each walk.
 const ONE_PLACE: Scene = Scene {
     steps: GROUPED,
     failing: Failing::Never,
@@ -22,7 +22,7 @@ const PATIENT: Asked<'static> = Asked {
     then: &[],
 };
 
-/// The same from a file.
+/// The same walk from a file.
 const PATIENT_FROM_FILE: Asked<'static> = Asked {
     root: "/t/a.txt",
     ..PATIENT
@@ -36,13 +36,13 @@ const IMPATIENT: Asked<'static> = Asked {
     then: &[],
 };
 
-/// The same from a file.
+/// The same walk from a file.
 const IMPATIENT_FROM_FILE: Asked<'static> = Asked {
     root: "/t/a.txt",
     ..IMPATIENT
 };
 
-// A directory is not read while another walk has the place, and the place counts as in use.
+// While a walk has the place, another one reads no directory, and the place counts as in use.
 #[test]
 fn in_use_always_zero(rt: HostRuntime) {
     const ACTS: &[Act<'static>] = &[

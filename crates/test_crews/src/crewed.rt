@@ -12,31 +12,31 @@ use test_fixtures::answers::Answer;
 use test_fixtures::host::Host;
 use test_fixtures::ways::{Setting, all_of, with_all};
 
-/// States that say nothing.
+/// States without a content.
 pub type States = ((), ());
 
 /// A walk that has not begun, and that a crew may read for.
 type Builder<R, S, C> = WalkDirGeneric<C, Arc<S>, NoProcess, Global, Crew<R>>;
 
-/// A walk under way, over some file system and for which some readers may read.
+/// A walk under way, over any file system and with any readers.
 pub type WalkBy<S, L> = DirEntryIter<States, S, NoProcess, Global, L>;
 
 /// A walk under way that a crew may read for.
 pub type Walk<R, S> = WalkBy<Arc<S>, Session<R, States, Arc<S>, NoProcess>>;
 
-/// What is to read for a walk.
+/// The reader of a walk.
 #[derive(Clone, Copy)]
 pub enum Reader {
     /// The default.
     Untold,
-    /// The crew, as soon as it has a place.
+    /// The crew. The walk waits until it has a place.
     Crew,
-    /// The crew, if it has a place within that many milliseconds.
+    /// The crew, if it has a place within a number of milliseconds.
     CrewWithin(u64),
 }
 
 impl Reader {
-    /// For how long a walk waits for a place, at most, if the crew is to read for it.
+    /// Returns how long the walk waits for a place if the crew is to read for it. `Some(None)` is without limit.
     fn waits(self) -> Option<Option<Duration>> {
         match self {
             Reader::Untold => None,
@@ -46,16 +46,16 @@ impl Reader {
     }
 }
 
-/// A walk that is asked for: its root in a tree, and its options.
+/// A walk to make: its root in a tree, and its options.
 #[derive(Clone, Copy)]
 pub struct Asked<'a> {
-    /// Where it begins.
+    /// The root.
     pub root: &'a str,
-    /// Which options are set, one after another.
+    /// The options that are set first, one after another.
     pub settings: &'a [Setting],
-    /// What it is then set to be read by.
+    /// The reader, set after them.
     pub reader: Reader,
-    /// Which options are set after that.
+    /// The options that are set after the reader.
     pub then: &'a [Setting],
 }
 
@@ -77,7 +77,7 @@ impl<R: Drop, S: FileSystem> Drop for Stand<R, S> {
 }
 
 impl<R: Wait + Clock + AllocGlobal + Clone + Drop, S: FileSystem> Stand<R, S> {
-    /// This crew, over a file system.
+    /// Returns this crew, over a file system.
     pub fn over(rt: &R, fs: S, crew: Crew<R>) -> Result<Self, AllocError> {
         let alloc = rt.alloc();
         Ok(Stand {
@@ -87,7 +87,7 @@ impl<R: Wait + Clock + AllocGlobal + Clone + Drop, S: FileSystem> Stand<R, S> {
         })
     }
 
-    /// A crew that serves one walk, with that many workers, over a file system.
+    /// Returns a crew that serves one walk with a number of workers, over a file system.
     pub fn new(rt: &R, fs: S, workers: usize) -> Result<Self, AllocError> {
         let crew = Crew::new(rt.clone()?, 1, workers);
         Stand::over(rt, fs, crew)
@@ -95,7 +95,6 @@ impl<R: Wait + Clock + AllocGlobal + Clone + Drop, S: FileSystem> Stand<R, S> {
 }
 
 impl<R: Host, S: FileSystem + Send + Sync + 'static> Stand<R, S> {
-    /// The walk, without a callback.
     fn builder<C: ClientState>(&self, asked: &Asked<'_>) -> Result<Builder<R, S, C>, AllocError> {
         let root = String::from_str(self.alloc, asked.root)?;
         let fs = self.fs.clone()?;
@@ -110,7 +109,7 @@ impl<R: Host, S: FileSystem + Send + Sync + 'static> Stand<R, S> {
         Ok(with_all(walk, asked.then))
     }
 
-    /// Begins the walk, as the last of these, or returns why it doesn't begin.
+    /// Begins the walk and appends it to `walks`, or returns why it doesn't begin.
     pub fn begin(&self, asked: &Asked<'_>, walks: &mut Vec<Walk<R, S>>) -> Result<(), Error> {
         let Ok(walk) = self.builder(asked) else {
             return Err(Error::memory());
@@ -121,7 +120,7 @@ impl<R: Host, S: FileSystem + Send + Sync + 'static> Stand<R, S> {
         }
     }
 
-    /// All that the walk yields with a callback.
+    /// Returns all that the walk yields with a callback.
     pub fn found<
         C: ClientState + Send + 'static,
         P: ProcessReadDir<C, Global> + Send + Sync + 'static,
@@ -136,7 +135,7 @@ impl<R: Host, S: FileSystem + Send + Sync + 'static> Stand<R, S> {
     }
 }
 
-/// All that a walk yields that a crew may read for.
+/// Returns all that a walk yields, for which a crew may read.
 pub fn all_by_crew<
     R: Host,
     C: ClientState + Send + 'static,

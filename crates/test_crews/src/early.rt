@@ -6,7 +6,6 @@ use test_fixtures::trees::{FORKED, Step};
 use test_fixtures::watched::Failing;
 use test_fixtures::ways::Setting;
 
-/// A walk over the crew.
 const WALK: Asked<'static> = Asked {
     root: "/r",
     settings: &[],
@@ -14,7 +13,7 @@ const WALK: Asked<'static> = Asked {
     then: &[],
 };
 
-/// A crew of two workers, with one place, over the forked directories.
+/// A crew of two workers and one place, over the forked directories.
 const TWO_WORKERS: Scene = Scene {
     steps: FORKED,
     failing: Failing::Never,
@@ -23,7 +22,7 @@ const TWO_WORKERS: Scene = Scene {
     read_ahead: None,
 };
 
-/// The number of the first act that doesn't succeed, where a walk is dropped after that many answers and another begins.
+/// Returns the number of the first act that fails. A walk is dropped after `count` answers, and another one begins.
 fn wrong_after<R: Host>(rt: &R, count: usize) -> Option<usize> {
     const NEXT: Asked<'static> = Asked {
         reader: Reader::CrewWithin(10),
@@ -47,10 +46,10 @@ fn the_place_is_given_back_after_any_number_of_answers(rt: HostRuntime) {
     }
 }
 
-// A long walk is dropped, and its workers list nothing more.
+// Once the long walk is dropped, its workers list nothing more.
 #[test]
 fn readers_outlive_the_walk(rt: HostRuntime) {
-    // Each link leads to two that lead back, more than 2^39 times in all.
+    // Each link leads to two others that lead back, more than 2^39 times in all.
     const SCENE: Scene = Scene {
         steps: &[
             Step::Dir("/r"),

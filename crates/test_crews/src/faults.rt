@@ -9,7 +9,7 @@ use test_fixtures::watched::Failing;
 /// A tree, the root of a walk, where the tree fails, and the walk's answers.
 type Row = (&'static [Step], &'static str, Failing, &'static str);
 
-/// The number of the first act that doesn't succeed: all answers of the walk, and then no place is in use.
+/// Returns the number of the first act that fails. After the walk, no place may be in use.
 fn wrong_of<R: Host>(rt: &R, (steps, root, failing, answers): &Row) -> Option<usize> {
     let scene = Scene {
         steps: *steps,

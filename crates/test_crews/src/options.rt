@@ -1,4 +1,4 @@
-//! Options of walks that may be over a crew.
+//! Options of walks that a crew may read.
 use crate::acts::{Act, Going, Scene, all_go};
 use crate::crewed::{Asked, Reader};
 use test_fixtures::trees::FORKED;
@@ -6,7 +6,7 @@ use test_fixtures::watched::Failing;
 use test_fixtures::ways::Setting;
 use test_fixtures::width::Width;
 
-/// A crew of two workers, with one place, over the forked directories.
+/// A crew of two workers and one place, over the forked directories.
 const TWO_WORKERS: Scene = Scene {
     steps: FORKED,
     failing: Failing::Never,
@@ -15,10 +15,9 @@ const TWO_WORKERS: Scene = Scene {
     read_ahead: None,
 };
 
-/// What walks over the forked directories yield.
+/// The answers of a walk over the forked directories.
 const ALL: &str = "0 d /r; 1 d /r/a; 2 d /r/a/x; 1 d /r/b; 2 d /r/b/x; 1 d /r/c; 2 d /r/c/x";
 
-/// A walk that is set to read by the crew.
 const BY_CREW: Asked<'static> = Asked {
     root: "/r",
     settings: &[],
@@ -26,13 +25,12 @@ const BY_CREW: Asked<'static> = Asked {
     then: &[],
 };
 
-/// A walk that is set to read by no crew.
+/// A walk without a reader set.
 const UNTOLD: Asked<'static> = Asked {
     reader: Reader::Untold,
     ..BY_CREW
 };
 
-/// A walk that is set to read in batches of two.
 const IN_BATCHES: Asked<'static> = Asked {
     settings: &[Setting::By(Width::Batches(2))],
     ..UNTOLD

@@ -1,4 +1,4 @@
-//! Walks that a crew of their own reads.
+//! Walks that are read by a crew of their own.
 ghost use Rattle.jwalk.specs.WalkDir.{callback_of};
 
 use crate::crewed::all_by_crew;
@@ -23,7 +23,6 @@ struct Row {
 }
 
 impl Row {
-    /// Whether these are the walk's answers, read by that many workers.
     fn holds<R: Host>(&self, rt: &R, workers: usize) -> Result<bool, BuildError> {
         let alloc = rt.alloc();
         let watched = Watched::new(tree(alloc, self.steps)?, Failing::Never);
@@ -34,8 +33,8 @@ impl Row {
     }
 }
 
-/// A tree by name, as the file system has it, with hidden names, below a depth and down to one; a file, and nothing; a
-/// directory that can't be read, directories beside one another, and a loop.
+/// A tree by name, in the order of the file system, with hidden names, below a depth and down to one; a file, and
+/// nothing; a directory that can't be read, directories beside one another, and a loop.
 const ROWS: &[Row] = &[
     Row {
         steps: GROUPED,
@@ -98,7 +97,7 @@ const ROWS: &[Row] = &[
     },
 ];
 
-// As many workers as there are cores, one, three, and 300, which count as 256.
+// The workers are as many as there are cores, one, three, and 300, which count as 256.
 #[test]
 fn the_answers_of_serial_walks_by_workers_of_their_own(rt: HostRuntime) -> Result<(), BuildError> {
     for row in ROWS {

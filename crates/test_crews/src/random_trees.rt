@@ -1,22 +1,21 @@
-//! Trees made at random.
+//! Random trees.
 use jwalk::file_system::{BuildError, MemoryFs};
 use std::alloc::Global;
 use std::io::ErrorKind;
 use test_fixtures::dice::Dice;
 
-/// How many steps make a tree.
+/// The number of steps that make a tree.
 const STEPS: usize = 60;
 
-/// One step in how many may add a link: where they are followed, each can multiply what is below it.
+/// One of this many steps may add a link. A followed link can multiply everything below it.
 const LINKS: usize = 20;
 
-/// The path of one of these directories.
 fn some_dir<'d>(dice: &mut Dice, dirs: &'d [String]) -> &'d str {
     let place = dice.below(dirs.len());
     dirs.get(place).map_or("/r", |path| path.as_str())
 }
 
-/// What a link leads to: one of these directories, up, itself or nothing.
+/// The path leads to one of these directories, up, to the link itself or nowhere.
 fn some_target<'d>(dice: &mut Dice, dirs: &'d [String]) -> &'d str {
     match dice.below(6) {
         0 => "..",
@@ -26,8 +25,8 @@ fn some_target<'d>(dice: &mut Dice, dirs: &'d [String]) -> &'d str {
     }
 }
 
-/// Takes the step of a number: denies the directory that was made last, or adds a directory, a file or a link to one of
-/// these, whose name is hidden now and then.
+/// Denies the directory that was made last, or adds a directory, a file or a link to one of the directories. Some names
+/// are hidden.
 fn step(
     alloc: Global,
     dice: &mut Dice,
@@ -54,7 +53,7 @@ fn step(
     }
 }
 
-/// The tree `/r` of a seed: directories, files, hidden names, links, and directories that may not be listed.
+/// Returns the tree `/r` of a seed, of directories, files, hidden names, links, and directories that may not be listed.
 pub fn random_tree(alloc: Global, seed: usize) -> Result<MemoryFs, BuildError> {
     let mut dice = Dice::new(seed);
     let mut fs = MemoryFs::new(alloc);

@@ -1,4 +1,4 @@
-//! Walks over trees made at random, with and without a crew.
+//! Walks over random trees, with and without a crew.
 use crate::crewed::{Asked, Reader};
 use crate::random_trees::random_tree;
 use crate::serial::are_serial;
@@ -6,10 +6,10 @@ use test_fixtures::dice::Dice;
 use test_fixtures::host::Host;
 use test_fixtures::ways::Setting;
 
-/// How many trees there are. A script compares walks over more trees.
+/// The number of trees. A script compares walks over more trees.
 const TREES: usize = 45;
 
-/// This option, or none, as often as not.
+/// Returns the option as often as not, and else one that changes nothing.
 fn maybe(dice: &mut Dice, setting: Setting) -> Setting {
     if dice.below(2) == 0 {
         setting
@@ -18,8 +18,7 @@ fn maybe(dice: &mut Dice, setting: Setting) -> Setting {
     }
 }
 
-/// Whether the walks of a seed are alike with and without a crew of that many workers. Where links are followed, the
-/// greatest depth is small.
+/// Walks that follow links have a small greatest depth.
 fn are_alike<R: Host>(rt: &R, seed: usize, workers: usize) -> bool {
     let mut dice = Dice::new(seed.wrapping_add(1_000));
     let depth = dice.below(3);

@@ -11,13 +11,13 @@ use std::time::Duration;
 use test_fixtures::host::Host;
 use test_fixtures::trees::{FORKED, tree};
 
-/// Readings over some file system that some readers may give.
+/// Readings over any file system and with any readers.
 type ReadsBy<S, L> = ReadDirIter<States, S, NoProcess, Global, L>;
 
 /// Readings that a crew may make.
 type Reads<R, S> = ReadsBy<Arc<S>, Session<R, States, Arc<S>, NoProcess>>;
 
-/// The readings of the root and of all below it, by the crew if a place is free at once. Else why they don't begin.
+/// Reads the root and everything below it by the crew, if a place is free at once.
 fn tried<R: Host, S: FileSystem + Send + Sync + 'static>(
     stand: &Stand<R, S>,
 ) -> Result<Result<Reads<R, S>, Error>, AllocError> {
@@ -31,7 +31,7 @@ fn tried<R: Host, S: FileSystem + Send + Sync + 'static>(
     Ok(ReadDirIter::try_with_crew(job, roots, by_crew))
 }
 
-/// Whether seven readings come, and then none.
+/// No reading may follow the seventh.
 fn are_seven<S: FileSystem, L: Readers<States, S, NoProcess, Global>>(
     reads: &mut ReadsBy<S, L>,
 ) -> bool {
@@ -45,7 +45,6 @@ fn are_seven<S: FileSystem, L: Readers<States, S, NoProcess, Global>>(
     ended && ended_for_good
 }
 
-/// Whether readings don't begin since the crew is busy.
 fn are_refused<R: Host, S: FileSystem + Send + Sync + 'static>(stand: &Stand<R, S>) -> bool {
     match tried(stand) {
         Ok(Err(error)) => error.is_busy(),
@@ -54,7 +53,7 @@ fn are_refused<R: Host, S: FileSystem + Send + Sync + 'static>(stand: &Stand<R, 
     }
 }
 
-/// Whether these readings have the place of the crew, others are refused meanwhile, and they are all there.
+/// Others must be refused meanwhile.
 fn have_the_place<
     R: Host,
     S: FileSystem + Send + Sync + 'static,
@@ -63,7 +62,6 @@ fn have_the_place<
     stand.crew.in_use() == 1 && are_refused(stand) && are_seven(held)
 }
 
-/// Whether that is so over a crew of one place.
 fn come<R: Host, S: FileSystem + Send + Sync + 'static>(stand: &Stand<R, S>) -> bool {
     match tried(stand) {
         Ok(Ok(mut held)) => have_the_place(stand, &mut held),
@@ -71,7 +69,7 @@ fn come<R: Host, S: FileSystem + Send + Sync + 'static>(stand: &Stand<R, S>) -> 
     }
 }
 
-/// Whether that is so, and the place is free afterwards.
+/// The place must be free afterwards.
 fn give_back<R: Host>(rt: &R) -> bool {
     let Ok(tree) = tree(rt.alloc(), FORKED) else {
         return false;

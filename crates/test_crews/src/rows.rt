@@ -19,7 +19,6 @@ type Row = (
     &'static str,
 );
 
-/// Whether these are the walk's answers, over a crew with that many workers for a walk.
 fn holds<R: Host>(rt: &R, (steps, root, settings, answers): &Row, workers: usize) -> bool {
     let scene = Scene {
         steps: *steps,
@@ -117,7 +116,7 @@ fn the_answers_of_serial_walks_with_two_workers(rt: HostRuntime) {
     }
 }
 
-/// Adds a directory with a file to `/r`, and to every seventh a directory.
+/// Every seventh directory has a directory, too.
 fn add_sibling(alloc: Global, fs: &mut MemoryFs, number: usize) -> Result<(), BuildError> {
     let mut path = format!(in alloc; "/r/{number}")?;
     fs.add_dir(path.as_str())?;
@@ -130,7 +129,7 @@ fn add_sibling(alloc: Global, fs: &mut MemoryFs, number: usize) -> Result<(), Bu
     Ok(())
 }
 
-/// Two hundred directories beside one another, and forty in one another.
+/// Two hundred directories beside one another, and forty nested ones.
 fn wide_and_deep(alloc: Global) -> Result<MemoryFs, BuildError> {
     let mut fs = tree(alloc, &[Step::Dir("/r")])?;
     for number in 0..200 {

@@ -1,4 +1,4 @@
-//! Whether walks over a crew yield what serial walks do, item by item.
+//! Walks over a crew, compared with serial walks item by item.
 use crate::crewed::{Asked, Stand};
 use jwalk::DirEntry;
 use jwalk::file_system::{BuildError, MemoryFs};
@@ -9,16 +9,16 @@ use test_fixtures::host::Host;
 use test_fixtures::ways::{self, Way};
 use test_fixtures::width::Width;
 
-/// States that count: one beside each directory's reading, and one beside each entry.
+/// The state of each directory and of each entry is a count.
 type Counts = (usize, usize);
 
-/// All that answers show, as a text: of an entry all but the directories above it.
+/// The text of an entry shows everything but the directories above it.
 fn text_of(alloc: Global, found: Result<Vec<Answer<Counts>>, AllocError>) -> Option<String> {
     let found = found.ok()?;
     format!(in alloc; "{:?}", found.as_slice()).ok()
 }
 
-/// Whether a walk over the crew with a callback yields what the serial walk does with the same one.
+/// The serial walk has the same callback.
 fn is_serial<R: Host, P: ProcessReadDir<Counts, Global> + Send + Sync + 'static>(
     rt: &R,
     stand: &Stand<R, MemoryFs>,
@@ -42,7 +42,7 @@ fn is_serial<R: Host, P: ProcessReadDir<Counts, Global> + Send + Sync + 'static>
     }
 }
 
-/// Takes some directories away, and sets for some the state in which to begin.
+/// Takes the directories of some entries away, and sets the first state of others.
 fn mark(entry: &mut DirEntry<Counts>, place: usize, state: usize) {
     entry.client_state = state.wrapping_add(place);
     if entry.depth > 0 && state.wrapping_add(place) % 6 == 0 {
@@ -55,7 +55,7 @@ fn mark(entry: &mut DirEntry<Counts>, place: usize, state: usize) {
     }
 }
 
-/// A callback that counts, reorders a list and takes directories away from some of its entries.
+/// Counts, reorders the list and takes the directories of some entries away.
 fn reorder(
     _depth: Option<usize>,
     _path: &str,
@@ -74,7 +74,8 @@ fn reorder(
     Ok(())
 }
 
-/// Whether walks over a tree with a callback that reorders lists do so, over a crew with that many workers for a walk.
+/// Returns whether walks over a tree are as serial walks are, with a callback that reorders lists, over a crew with a
+/// number of workers for each walk.
 pub fn are_serial<R: Host>(
     rt: &R,
     tree: Result<MemoryFs, BuildError>,

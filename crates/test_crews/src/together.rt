@@ -8,12 +8,11 @@ use test_fixtures::builders::builder;
 use test_fixtures::host::Host;
 use test_fixtures::meeting::{Meeting, Place};
 
-/// The two directories, each of which blocks in its listing until the other's has begun too.
+/// The listing of each directory blocks until the other's has begun, too.
 fn both<R: Host>(rt: &R, patience: u64) -> Result<Meeting<R>, AllocError> {
     Ok(Meeting::new(rt.clone()?, Place::Listings, patience))
 }
 
-/// All that a walk over the two yields, for which a crew of two workers reads.
 fn answers_by_two<R: Host>(rt: &R, patience: u64) -> Result<Vec<Answer>, AllocError> {
     const WALK: Asked<'static> = Asked {
         root: "/r",
@@ -25,7 +24,6 @@ fn answers_by_two<R: Host>(rt: &R, patience: u64) -> Result<Vec<Answer>, AllocEr
     stand.found(&WALK, NoProcess)
 }
 
-/// All that a walk over the two yields, which that many workers of its own read.
 fn answers_by_own<R: Host>(
     rt: &R,
     patience: u64,
@@ -36,13 +34,13 @@ fn answers_by_own<R: Host>(
     all_by_crew(rt.alloc(), walk)
 }
 
-/// What a walk yields if the two are read at the same time.
+/// The answers if the two are read at the same time.
 const MET: &str = "0 d /r; 1 d /r/a; 2 f /r/a/f; 1 d /r/b; 2 f /r/b/f";
 
-/// What it yields if one thread reads both.
+/// The answers if one thread reads both.
 const MISSED: &str = "0 d /r; 1 d /r/a ! 1 /r/a Other; 1 d /r/b; 2 f /r/b/f";
 
-// Two workers read at the same time. A crew of one thread would yield an error inside the first of the two.
+// A crew of one thread would yield an error inside the first of the two.
 #[test]
 fn crew_of_one_thread(rt: HostRuntime) -> Result<(), AllocError> {
     let found = answers_by_two(&rt, 5_000)?;
@@ -50,7 +48,7 @@ fn crew_of_one_thread(rt: HostRuntime) -> Result<(), AllocError> {
     Ok(())
 }
 
-// A walk with one worker (the wrong body `workers_of_one`) misses the second of the two.
+// A walk with one worker (the wrong body `workers_of_one`) would miss the second of the two.
 #[test]
 fn two_workers_of_a_walk_s_own_read_at_the_same_time(rt: HostRuntime) -> Result<(), AllocError> {
     let found = answers_by_own(&rt, 5_000, 2)?;

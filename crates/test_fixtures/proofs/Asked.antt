@@ -1,4 +1,4 @@
--- The two functions over a gate at a call: what each is handed, and what a caller has of it. Assumes `Logic`.
+-- The two functions over a gate at a call: what each is given, and what a caller has of it. Assumes `Logic`.
 use Rattle.std.proofs.Common.{◌≡◌, ℕ, ◌+◌, List, [], ◌∷◌, Bool, refl, ap}
 use seplogic.Ra.Ura.{Ura}
 use mir.Val.{Val, vunit, vbool, vptr}
@@ -19,11 +19,11 @@ use Rattle.test_fixtures.specs.contracts.refusing_alloc.Gate as G
 use Rattle.test_fixtures.specs.contracts.refusing_alloc.refuses as R
 use Rattle.test_fixtures.specs.contracts.refusing_alloc.takes_back as B
 
--- where the inner allocator is of one at a place
+-- the place of the inner allocator, of one at a place
 abbrev pub inner_at : Al → ℕ × ℕ → ℕ × ℕ
 inner_at Z at = (at.0, at.1 + up (align (α Z)) 0)
 
--- where its gate is
+-- the place of its gate
 abbrev pub gate_at : Al → ℕ × ℕ → ℕ × ℕ
 gate_at Z at = (at.0, at.1 + up 8 (up (align (α Z)) 0 + size (α Z)))
 
@@ -53,7 +53,7 @@ module _ {M : Type 1} {𝓤 : Ura M} (𝓛 : Logic 𝓤) (at_mem : Memory → SP
       feq_i ! (List Val) (vptr at.0 at.1 ∷ []) (vptr at.0 at.1 ∷ []) refl $ fjoin ! $ nothing ! $ move ! (1 ∷ []) $ fjoin ! $
       nothing ! $ move ! (2 ∷ []) $ join ! $ join ! $ nothing ! $ move ! (1 ∷ []) $ done !
 
-  -- the same is handed to both
+  -- both are given the same
   pub gives : ent 𝓤 (sep 𝓤 (sem 𝓛 (shown κ at g)) (A.lft κ q)) ((TakesBack 𝓛 at_mem run).pre (to_gate 𝓛 at_mem run κ q at g))
   gives = asks
 

@@ -9,7 +9,7 @@ use jwalk_job::error::Error;
 use jwalk_model::file_type::FileType;
 use std::alloc::{AllocError, Allocator, Global};
 
-/// What a walk yields.
+/// An answer of a walk.
 pub type Answer<C = ((), ())> = Result<DirEntry<C>, Error>;
 
 /// Returns the letter of a type, a capital if a link was met.
@@ -54,7 +54,6 @@ fn push_entry(text: &mut String, entry: &DirEntry<((), ())>) -> Result<(), Alloc
     Ok(())
 }
 
-/// Adds one answer to a text.
 fn push_answer(text: &mut String, answer: &Answer) -> Result<(), AllocError> {
     if !text.is_empty() {
         text.push_str("; ")?;

@@ -1,4 +1,4 @@
-//! Walks yet to begin, and a `for` loop over one.
+//! Walks that have not begun, and a `for` loop over one.
 use crate::answers::Answer;
 use crate::trees::{Step, tree};
 use jwalk::file_system::{BuildError, FileSystem, MemoryFs};
@@ -8,7 +8,7 @@ use std::alloc::{AllocError, Global};
 
 pub type Entry = DirEntry<((), ())>;
 
-/// A walk yet to begin.
+/// A walk that has not begun.
 pub type Builder<S> = WalkDirGeneric<((), ()), S, NoProcess>;
 
 /// Returns a walk that has not begun, with the default options.
@@ -26,7 +26,7 @@ pub fn over_tree(
     Ok(builder(alloc, tree(alloc, steps)?, root)?)
 }
 
-/// Returns what a `for` loop over a walk that has not begun yields.
+/// Returns the answers of a `for` loop over a walk that has not begun.
 pub fn in_a_for_loop<S: FileSystem>(
     alloc: Global,
     walk: Builder<S>,

@@ -1,13 +1,13 @@
-//! Numbers that look thrown.
+//! Pseudo-random numbers.
 
-/// Numbers that look thrown, and are the same each time for a seed.
+/// Pseudo-random numbers. A seed always gives the same ones.
 #[derive(Drop)]
 pub struct Dice {
     state: usize,
 }
 
 impl Dice {
-    /// The numbers of a seed.
+    /// Returns the numbers of a seed.
     pub fn new(seed: usize) -> Self {
         Dice {
             state: seed
@@ -16,7 +16,7 @@ impl Dice {
         }
     }
 
-    /// The next number, below this one.
+    /// Returns the next number, which is below `sides`.
     pub fn below(&mut self, sides: usize) -> usize {
         self.state = self
             .state

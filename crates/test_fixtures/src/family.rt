@@ -46,7 +46,7 @@ impl<A: Allocator + Copy> Plan<A> for Family {
     }
 }
 
-/// Moves by which two workers read the family and hand it out. Some can't be made, such as that of a third worker.
+/// Moves by which two workers read the family and hand it out. Some can't be made, such as a third worker's.
 pub const MOVES: &[Move] = &[
     Move::Take(0),
     Move::Finish(0),

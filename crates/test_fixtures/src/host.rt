@@ -1,9 +1,9 @@
-//! What the tests ask of a runtime.
+//! The runtime of the tests.
 use std::sync::Wait;
 use std::thread::Threads;
 use std::time::Clock;
 
-/// A runtime of which a test makes crews.
+/// A runtime that a test makes crews of.
 pub trait Host: Wait + Threads + Clock + AllocGlobal + Clone + Drop + Send + Sync + 'static {}
 
 impl<R: Wait + Threads + Clock + AllocGlobal + Clone + Drop + Send + Sync + 'static> Host for R {}

@@ -1,5 +1,6 @@
-//! What the tests share: trees, file systems that count, fail or wait, a plain walk to compare others with, the ways in which
-//! one walk can be read, an allocator that refuses, how walks over it come out, a family on a board, and answers as texts.
+//! The shared parts of the tests: trees, file systems that count, fail or wait, a plain walk to compare others with,
+//! the ways to read a walk, an allocator that refuses, the outcomes of walks over it, a family on a board, and answers
+//! as texts.
 #![tactic(auto)]
 
 pub mod answers;

@@ -23,16 +23,16 @@ pub enum Item {
 /// The directory, or a link in front of it.
 #[derive(Clone, Copy)]
 pub struct ListedDirectory<'a> {
-    /// The path at which it is listed, and at which links are followed.
+    /// The path at which the directory is listed, and at which links are followed.
     pub path: &'static str,
-    /// What is at each path.
+    /// The type of each path.
     pub file_type: FileType,
-    /// What it leads to: nothing, if it is a broken link.
+    /// The type of each path's target, or `None` for a broken link.
     pub target: Option<FileType>,
     pub items: &'a [Item],
 }
 
-/// A hidden name without a type, an item that has no name, and two files.
+/// A hidden name without a type, an item without a name, and two files.
 pub const FAULTY: ListedDirectory<'static> = ListedDirectory {
     path: "/d",
     file_type: FileType::Dir,
@@ -45,7 +45,7 @@ pub const FAULTY: ListedDirectory<'static> = ListedDirectory {
     ],
 };
 
-/// Files whose names are none.
+/// Files whose names aren't names of files.
 pub const MISNAMED: ListedDirectory<'static> = ListedDirectory {
     path: "/d",
     file_type: FileType::Dir,

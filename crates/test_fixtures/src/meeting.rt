@@ -1,4 +1,4 @@
-//! Two directories, at which two threads wait for one another.
+//! Two directories where two threads wait for each other.
 ghost use Rattle.jwalk_model.specs.Tree.{functions_of, only_root};
 
 use crate::listed_directory::{Item, ListedDirectory};
@@ -13,7 +13,6 @@ use std::sync::atomic::{AtomicBool, Ordering};
 use std::time::{Clock, Duration};
 use std::{io, thread};
 
-/// A directory of two directories.
 const BOTH: ListedDirectory<'static> = ListedDirectory {
     path: "/r",
     file_type: FileType::Dir,
@@ -24,7 +23,7 @@ const BOTH: ListedDirectory<'static> = ListedDirectory {
     ],
 };
 
-/// What each of the two is: a directory of one file.
+/// Each of the two is a directory of one file.
 const ONE_FILE: ListedDirectory<'static> = ListedDirectory {
     path: "/r/a",
     file_type: FileType::Dir,
@@ -32,29 +31,29 @@ const ONE_FILE: ListedDirectory<'static> = ListedDirectory {
     items: &[Item::Typed("f", FileType::File)],
 };
 
-/// At which calls the two threads wait for one another.
+/// The calls at which the two threads wait for each other.
 #[derive(Clone, Copy, PartialEq, Eq)]
 pub enum Place {
-    /// Where the two directories are listed.
+    /// The listings of the two directories.
     Listings,
-    /// Where the two files are looked at.
+    /// The looks at the two files.
     Looks,
 }
 
-/// The directory `/r` of the directories `a` and `b`, each with a file `f`, of 3 and of 4 bytes. A call for the one
-/// blocks until the call for the other has come too, and fails if that takes too long.
+/// The directory `/r` of the directories `a` and `b`, each with a file `f`, of 3 and of 4 bytes. A call for one of them
+/// blocks until the call for the other has come, too, and fails after too long a wait.
 #[derive(Drop)]
 pub struct Meeting<R> {
     clock: R,
     place: Place,
-    /// How many milliseconds the one waits for the other, at most.
+    /// The milliseconds that one call waits for the other, at most.
     patience: u64,
     a: AtomicBool,
     b: AtomicBool,
 }
 
 impl<R: Clock> Meeting<R> {
-    /// Returns the directory, before any call.
+    /// Returns the directory, without a call yet.
     pub fn new(clock: R, place: Place, patience: u64) -> Self {
         Meeting {
             clock,
@@ -65,7 +64,7 @@ impl<R: Clock> Meeting<R> {
         }
     }
 
-    /// Blocks until the other call has come too.
+    /// Blocks until the other call has come, too.
     fn wait(&self, own: &AtomicBool, other: &AtomicBool) -> Result<(), Fault> {
         own.store(true, Ordering::SeqCst);
         for _ in 0..self.patience {
@@ -77,7 +76,7 @@ impl<R: Clock> Meeting<R> {
         Err(Fault::Io(io::Error::from(ErrorKind::Other)))
     }
 
-    /// Does so if this is the place, and the path that of the one or of the other.
+    /// Waits if this is the place, and the path is one of the two.
     fn meet(&self, place: Place, path: &str, a: &str, b: &str) -> Result<(), Fault> {
         if place == self.place && path == a {
             self.wait(&self.a, &self.b)

@@ -1,4 +1,4 @@
-//! A walk by two stacks, with which other walks are compared.
+//! A walk by two stacks, to compare other walks with.
 ghost use Rattle.jwalk_job.specs.Job.{callback};
 
 use crate::answers::Answer;
@@ -12,10 +12,10 @@ use jwalk_job::read_dir::ReadDir;
 use jwalk_job::read_dir_spec::ReadDirSpec;
 use std::alloc::{AllocError, Global};
 
-/// How many answers a walk may have at most.
+/// The greatest number of answers of a walk.
 const MOST: usize = 100_000;
 
-/// What is left of a walk: what was received and not passed on, and the directories not read yet, the next one last.
+/// The items that were received and not passed on, and the unread directories. The next one is last.
 #[derive(Drop)]
 struct Stacks<C: ClientState> {
     items: Vec<Answer<C>>,
@@ -23,7 +23,7 @@ struct Stacks<C: ClientState> {
 }
 
 impl<C: ClientState> Stacks<C> {
-    /// Puts a list and its directories in front of all else.
+    /// The list and its directories come before everything else.
     fn receive(&mut self, read: ReadDir<C>) -> Result<(), AllocError> {
         let mut specs = read.read_children_specs()?;
         specs.reverse();
@@ -33,7 +33,6 @@ impl<C: ClientState> Stacks<C> {
         self.items.append(&mut items)
     }
 
-    /// Reads the directory of an entry.
     fn enter<S: FileSystem, P: ProcessReadDir<C, Global>>(
         &mut self,
         job: &Job<C, S, P>,
@@ -53,7 +52,6 @@ impl<C: ClientState> Stacks<C> {
         }
     }
 
-    /// Passes one item on.
     fn next<S: FileSystem, P: ProcessReadDir<C, Global>>(
         &mut self,
         job: &Job<C, S, P>,
@@ -72,7 +70,7 @@ impl<C: ClientState> Stacks<C> {
     }
 }
 
-/// Returns whether an answer isn't left out for the least depth.
+/// Errors have no depth to be left out for.
 fn is_deep<C: ClientState>(answer: &Answer<C>, min_depth: usize) -> bool {
     match answer {
         Ok(entry) => entry.depth() >= min_depth,
@@ -80,7 +78,7 @@ fn is_deep<C: ClientState>(answer: &Answer<C>, min_depth: usize) -> bool {
     }
 }
 
-/// Adds all answers of a walk, up to its end or until memory runs out.
+/// Stops where memory runs out.
 fn add_all<C: ClientState, S: FileSystem, P: ProcessReadDir<C, Global>>(
     job: &Job<C, S, P>,
     root: &str,
@@ -104,7 +102,7 @@ fn add_all<C: ClientState, S: FileSystem, P: ProcessReadDir<C, Global>>(
     Ok(())
 }
 
-/// Returns the answers of a walk. If memory runs out, the last of them reports it.
+/// Returns the answers of a walk. If memory runs out, the last one reports it.
 pub fn plain_answers<C: ClientState, S: FileSystem, P: ProcessReadDir<C, Global>>(
     alloc: Global,
     job: &Job<C, S, P>,

@@ -1,4 +1,4 @@
-//! How walks come out whose memory may be refused.
+//! The outcomes of walks whose memory may be refused.
 pub mod callbacks;
 pub mod came;
 pub mod counting;

@@ -1,29 +1,29 @@
-//! An allocator that counts requests, and refuses those that a test names.
+//! An allocator that counts requests, and refuses those that a test asks it to.
 use std::alloc::{AllocError, Allocator};
 use std::sync::atomic::{AtomicUsize, Ordering};
 
-/// Which requests are refused, and how many were made.
+/// The requests to refuse, and the counts.
 #[derive(Drop)]
 struct Gate {
-    /// How many requests were made.
+    /// The number of requests so far.
     requests: AtomicUsize,
-    /// The number of the first that is refused, from 1 on.
+    /// The number of the first request to refuse, from 1 on.
     first: AtomicUsize,
-    /// How many are refused from that one on.
+    /// The number of requests to refuse from that one on.
     many: AtomicUsize,
-    /// How many were refused.
+    /// The number of refused requests.
     refused: AtomicUsize,
-    /// How many pieces are out.
+    /// The number of pieces that are out.
     pieces: AtomicUsize,
 }
 
-/// An allocator that hands on the requests that are not refused.
+/// An allocator that passes the other requests on.
 pub struct Refusing<B: Allocator> {
     inner: B,
     gate: Gate,
 }
 
-/// Counts a request, and returns whether it is refused.
+/// Counts the request first.
 fn refuses(gate: &Gate) -> bool {
     let number = gate.requests.fetch_add(1, Ordering::SeqCst).wrapping_add(1);
     let after_first = number.checked_sub(gate.first.load(Ordering::SeqCst));
@@ -39,7 +39,6 @@ fn refuses(gate: &Gate) -> bool {
     is_refused
 }
 
-/// Counts a piece that is given back.
 fn takes_back(gate: &Gate) {
     gate.pieces.fetch_sub(1, Ordering::SeqCst);
 }
@@ -59,7 +58,7 @@ impl<B: Allocator> Refusing<B> {
         }
     }
 
-    /// From now on refuses that many requests, from one of this number on; the next is the first.
+    /// Refuses `many` requests from now on, from the request of number `first` on. The next request has the number 1.
     pub fn refuse(&self, first: usize, many: usize) {
         self.gate.requests.store(0, Ordering::SeqCst);
         self.gate.refused.store(0, Ordering::SeqCst);
@@ -67,7 +66,7 @@ impl<B: Allocator> Refusing<B> {
         self.gate.many.store(many, Ordering::SeqCst);
     }
 
-    /// Returns how many requests were refused since then.
+    /// Returns how many requests were refused since the last call of `refuse`.
     pub fn refused(&self) -> usize {
         self.gate.refused.load(Ordering::SeqCst)
     }

@@ -1,4 +1,4 @@
-//! File systems whose listings are counted, and that are left alone some time.
+//! File systems that count listings, and the wait for their end.
 use crate::watched::Watched;
 use jwalk_fs::file_system::FileSystem;
 use std::thread;
@@ -6,7 +6,7 @@ use std::time::{Clock, Duration};
 
 /// A file system that counts its listings.
 pub trait CountsLists: FileSystem {
-    /// Returns how many were asked for so far.
+    /// Returns how many listings were asked for so far.
     fn lists_so_far(&self) -> usize;
 }
 
@@ -16,7 +16,7 @@ impl CountsLists for Watched {
     }
 }
 
-/// Returns whether no directory is listed any more for 200 milliseconds, within some seconds.
+/// Returns whether within some seconds no directory is listed for 200 milliseconds.
 pub fn rests(clock: &impl Clock, fs: &impl CountsLists) -> bool {
     let mut lists = fs.lists_so_far();
     let mut still: usize = 0;

@@ -4,14 +4,14 @@ use jwalk_memory_fs::memory_fs::MemoryFs;
 use std::alloc::Global;
 use std::io::ErrorKind;
 
-/// One step of building a tree.
+/// A step that builds a tree.
 #[derive(Clone, Copy)]
 pub enum Step {
     /// A directory.
     Dir(&'static str),
     /// A file: its length, and its path.
     File(u64, &'static str),
-    /// A link: what it leads to, and its path.
+    /// A link: its text, and its path.
     Link(&'static str, &'static str),
     /// A directory that may not be listed.
     Deny(&'static str),
@@ -57,7 +57,7 @@ pub const GROUPED: &[Step] = &[
     Step::File(6, "/t/b.txt"),
 ];
 
-/// The same tree, where one group may not be listed.
+/// The same tree, with a group that may not be listed.
 pub const DENIED: &[Step] = &[
     Step::Dir("/t"),
     Step::File(1, "/t/c.txt"),
@@ -82,7 +82,7 @@ pub const FORKED: &[Step] = &[
     Step::Dir("/r/c/x"),
 ];
 
-/// Directories in one another, the innermost with a link to the second.
+/// Nested directories. The innermost has a link to the second.
 pub const LOOPED: &[Step] = &[
     Step::Dir("/r"),
     Step::Dir("/r/a"),
@@ -91,7 +91,7 @@ pub const LOOPED: &[Step] = &[
     Step::Link("/r/a", "/r/a/b/c/a-link"),
 ];
 
-/// The same with a link to the second by a relative text.
+/// The same, with a relative text of the link.
 pub const LOOPED_BACK: &[Step] = &[
     Step::Dir("/r"),
     Step::Dir("/r/a"),
@@ -100,10 +100,10 @@ pub const LOOPED_BACK: &[Step] = &[
     Step::Link("../..", "/r/a/b/c/a-link"),
 ];
 
-/// A directory of a link to itself.
+/// A directory that has a link to itself.
 pub const WITHIN: &[Step] = &[Step::Dir("/r"), Step::Link(".", "/r/l")];
 
-/// A link to a directory elsewhere, with a link to the directory that is above it there.
+/// A link to a directory elsewhere, which has a link to the directory above it.
 pub const ELSEWHERE: &[Step] = &[
     Step::Dir("/r"),
     Step::Link("/s/t", "/r/k"),

@@ -11,30 +11,30 @@ use std::io;
 use std::io::ErrorKind;
 use std::sync::atomic::{AtomicUsize, Ordering};
 
-/// At which path a tree fails, and how.
+/// The path at which a tree fails, and how it fails.
 #[derive(Clone, Copy)]
 pub enum Failing {
     Never,
-    /// This kind of error in place of a listing.
+    /// A listing fails with an error of this kind.
     List(&'static str, ErrorKind),
-    /// Memory runs out in place of a listing.
+    /// Memory runs out for a listing.
     ListForMemory(&'static str),
-    /// Memory runs out in place of metadata.
+    /// Memory runs out for metadata.
     MetadataForMemory(&'static str),
 }
 
-/// How often a tree was called.
+/// The number of calls to a tree.
 #[derive(Clone, Copy, PartialEq, Eq)]
 pub struct Calls {
-    /// For a listing.
+    /// The calls for a listing.
     pub lists: usize,
-    /// For what is at a path.
+    /// The calls for a path itself.
     pub looks: usize,
-    /// For what a path leads to, or for the text of a link.
+    /// The calls for the target of a path, or for the text of a link.
     pub follows: usize,
 }
 
-/// The tree, with how often it was called so far.
+/// The tree, with the counts of its calls.
 #[derive(Drop)]
 pub struct Watched {
     fs: MemoryFs,
@@ -45,7 +45,7 @@ pub struct Watched {
 }
 
 impl Watched {
-    /// Returns a tree that was not called yet.
+    /// Returns a tree without a call yet.
     pub fn new(fs: MemoryFs, failing: Failing) -> Self {
         Watched {
             fs,
@@ -61,7 +61,7 @@ impl Watched {
         self.lists.load(Ordering::SeqCst)
     }
 
-    /// Returns how often each was asked for.
+    /// Returns the counts of the calls.
     pub fn calls(&self) -> Calls {
         Calls {
             lists: self.lists.load(Ordering::SeqCst),

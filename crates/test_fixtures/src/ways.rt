@@ -1,4 +1,4 @@
-//! The ways in which one and the same walk can be read.
+//! The ways to read one and the same walk.
 ghost use Rattle.std.specs.Iterator.{IsFinite};
 ghost use Rattle.jwalk.specs.DirEntryIter.{job_of};
 ghost use Rattle.jwalk.specs.jwalk_job.Job.{callback};
@@ -13,12 +13,12 @@ use jwalk_job::options::Options;
 use std::alloc::{AllocError, Global};
 use std::thread::Threads;
 
-/// An option that isn't left as it is.
+/// An option that differs from the default.
 #[derive(Clone, Copy)]
 pub enum Setting {
     /// Entries sorted by their names.
     Sort,
-    /// Hidden names too.
+    /// Hidden names, too.
     Hidden,
     /// Links are followed.
     Follow,
@@ -28,25 +28,24 @@ pub enum Setting {
     Min(usize),
     /// The greatest depth.
     Max(usize),
-    /// How directories are read. The plain walk ignores it.
+    /// The way to read directories. The plain walk ignores it.
     By(Width),
 }
 
-/// How the directories of a walk are read.
+/// The way to read the directories of a walk.
 #[derive(Clone, Copy)]
 pub enum Way {
     /// By two stacks, without a board.
     Plain,
-    /// As a walk reads them one after another.
+    /// By a walk, one after another.
     InTurn(Width),
-    /// As a walk reads them by threads.
+    /// By a walk, on threads.
     OnThreads(Width),
-    /// As a `for` loop has them read.
+    /// By a walk, in a `for` loop.
     Looped(Width),
 }
 
 impl Way {
-    /// Returns how many directories are read together.
     fn width(self) -> Width {
         match self {
             Way::Plain => Width::Serial,
@@ -55,7 +54,7 @@ impl Way {
     }
 }
 
-/// Each way, and each of several widths.
+/// Each way, with several widths.
 pub const WAYS: &[Way] = &[
     Way::Plain,
     Way::InTurn(Width::Serial),
@@ -71,7 +70,6 @@ pub const WAYS: &[Way] = &[
     Way::Looped(Width::Batches(2)),
 ];
 
-/// Returns the options that these settings make.
 fn options_by(settings: &[Setting]) -> Options {
     let mut options = Options::new();
     for setting in settings {
@@ -88,10 +86,8 @@ fn options_by(settings: &[Setting]) -> Options {
     options
 }
 
-/// A walk yet to begin, without a callback.
 type Builder<C, S, W> = WalkDirGeneric<C, S, NoProcess, Global, W>;
 
-/// Returns the walk with one option set.
 fn with<C: ClientState, S: FileSystem, W: Drop>(
     walk: Builder<C, S, W>,
     setting: Setting,
@@ -119,14 +115,14 @@ pub fn with_all<C: ClientState, S: FileSystem, W: Drop>(
     walk
 }
 
-/// A walk that is asked for: its root in a file system, and its options.
+/// A walk to make: its root in a file system, and its options.
 #[derive(Drop)]
 pub struct Asked<'a, S: FileSystem> {
-    /// What it reads from.
+    /// The file system that the walk reads.
     pub fs: &'a S,
-    /// Where it begins.
+    /// The root.
     pub root: &'a str,
-    /// Which options are set, one after another.
+    /// The options, set one after another.
     pub settings: &'a [Setting],
 }
 
@@ -141,7 +137,7 @@ impl<'a, S: FileSystem> Asked<'a, S> {
     }
 }
 
-/// The answers of the walk, read in some way.
+/// The answers of the walk, read in one of the ways.
 impl<'a, S: FileSystem + Send + Sync> Asked<'a, S> {
     /// Returns all that the walk yields.
     pub fn found<
@@ -160,7 +156,6 @@ impl<'a, S: FileSystem + Send + Sync> Asked<'a, S> {
         }
     }
 
-    /// Returns all that the plain walk yields.
     fn found_plainly<C: ClientState, P: ProcessReadDir<C, Global>>(
         &self,
         alloc: Global,
@@ -172,7 +167,7 @@ impl<'a, S: FileSystem + Send + Sync> Asked<'a, S> {
         plain_answers(alloc, &job, self.root)
     }
 
-    /// Returns all that a walk yields, read in a way that isn't the plain one.
+    /// Takes no `Way::Plain`.
     fn found_by_a_walk<
         R: Threads + AllocGlobal + Sync,
         C: ClientState + Send,
@@ -194,7 +189,7 @@ impl<'a, S: FileSystem + Send + Sync> Asked<'a, S> {
         }
     }
 
-    /// Returns whether this is what the walk yields.
+    /// Returns whether the walk yields these lines.
     pub fn shows<
         R: Threads + AllocGlobal + Sync,
         P: ProcessReadDir<((), ()), Global> + Send + Sync,
@@ -209,7 +204,7 @@ impl<'a, S: FileSystem + Send + Sync> Asked<'a, S> {
 }
 
 impl Way {
-    /// Adds all answers of a walk under way, and returns whether there was memory for them.
+    /// Returns whether there was memory for the answers.
     fn add_all<
         R: Threads + Sync,
         C: ClientState + Send,
@@ -230,8 +225,7 @@ impl Way {
     }
 }
 
-/// Adds all answers of a walk under way, by calls for which no thread reads, and returns whether there was memory for
-/// them.
+/// Adds all answers of a walk under way, by calls that use no threads. Returns whether there was memory for them.
 pub fn add_in_turn<
     C: ClientState,
     S: FileSystem,
@@ -245,8 +239,7 @@ pub fn add_in_turn<
     is_filled && walk.fill(1, found).is_ok()
 }
 
-/// Adds all answers of a walk under way, by calls for which threads read, and returns whether there was memory for
-/// them.
+/// Adds all answers of a walk under way, by calls that use threads. Returns whether there was memory for them.
 pub fn add_on_threads<
     R: Threads + Sync,
     C: ClientState + Send,
@@ -264,7 +257,7 @@ where
     is_filled && walk.fill_on(rt, 1, found).is_ok()
 }
 
-/// Adds all that an iterator still yields, as a `for` loop over it does.
+/// Adds all that an iterator still yields, in a loop over it.
 pub fn add_rest<C: ClientState, I: Iterator<Item = Answer<C>>>(
     answers: &mut I,
     found: &mut Vec<Answer<C>>,
@@ -278,7 +271,7 @@ pub fn add_rest<C: ClientState, I: Iterator<Item = Answer<C>>>(
     Ok(())
 }
 
-/// Returns all answers of a walk under way, by calls for which no thread reads.
+/// Returns all answers of a walk under way, by calls that use no threads.
 pub fn all_of<
     C: ClientState,
     S: FileSystem,
@@ -295,7 +288,7 @@ pub fn all_of<
     }
 }
 
-/// Returns all answers of a walk under way, by calls for which threads read.
+/// Returns all answers of a walk under way, by calls that use threads.
 pub fn all_on_threads<
     R: Threads + Sync,
     C: ClientState + Send,
@@ -320,7 +313,7 @@ where
     }
 }
 
-/// Returns all answers of a walk under way that a `for` loop goes over.
+/// Returns all answers of a walk under way, in a `for` loop over it.
 pub fn all_looped<
     C: ClientState,
     S: FileSystem,

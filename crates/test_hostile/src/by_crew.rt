@@ -1,4 +1,4 @@
-//! Walks that a crew reads for, over one file system that tests look at too.
+//! Walks that a crew reads for, over a file system that the tests look at too.
 use jwalk::file_system::FileSystem;
 use jwalk::read_dir::{NoProcess, ProcessReadDir};
 use jwalk::{Crew, DirEntryIter, Parallelism, Readers, WalkDirGeneric};
@@ -8,34 +8,34 @@ use test_fixtures::answers::{Answer, are_lines};
 use test_fixtures::host::Host;
 use test_fixtures::ways::{Asked, Setting, WAYS, all_of, with_all};
 
-/// A walk yet to begin that a crew is to read for.
+/// A walk that has not begun, for which a crew will read.
 pub type CrewWalk<R, S> = WalkDirGeneric<((), ()), Arc<S>, NoProcess, Global, Crew<R>>;
 
 /// A walk under way that some readers read for.
 pub type WalkBy<S, L> = DirEntryIter<((), ()), Arc<S>, NoProcess, Global, L>;
 
-/// What is done with a walk under way, whoever reads for it.
+/// What a test does with a walk under way, whoever reads for it.
 pub trait Visit<S: FileSystem> {
-    /// Does it, and returns whether the walk went as it must.
+    /// Returns whether the walk went as it must.
     fn visit<L: Readers<((), ()), Arc<S>, NoProcess, Global>>(
         &self,
         walk: &mut WalkBy<S, L>,
     ) -> bool;
 }
 
-/// A walk that is asked for: its root in a file system, and its options.
+/// A walk to make: its file system, its root and its options.
 #[derive(Drop)]
 pub struct ByCrew<'a, S: FileSystem> {
-    /// What it reads from.
+    /// The file system that the walk reads.
     pub fs: Arc<S>,
-    /// Where it begins.
+    /// The root.
     pub root: &'a str,
-    /// Which options are set, one after another.
+    /// The options, set one after another.
     pub settings: &'a [Setting],
 }
 
 impl<'a, S: FileSystem + Send + Sync + 'static> ByCrew<'a, S> {
-    /// Returns the walk, for which workers of this crew read.
+    /// Returns the walk. Workers of this crew read for it.
     pub fn builder<R: Host>(
         &self,
         alloc: Global,
@@ -50,7 +50,7 @@ impl<'a, S: FileSystem + Send + Sync + 'static> ByCrew<'a, S> {
         Ok(with_all(walk, self.settings).parallelism(by_crew))
     }
 
-    /// Begins the walk, for which workers of this crew read, lends it, and drops it.
+    /// Begins the walk, lends it and drops it. Workers of this crew read for it.
     pub fn lend<R: Host>(
         &self,
         alloc: Global,
@@ -61,7 +61,7 @@ impl<'a, S: FileSystem + Send + Sync + 'static> ByCrew<'a, S> {
         Ok(visit.visit(&mut walk))
     }
 
-    /// Returns all that the walk yields, for which that many workers of a crew of its own read.
+    /// Returns all that the walk yields. A crew of its own reads for it, with the given number of workers.
     pub fn found<R: Host, P: ProcessReadDir<((), ()), Global> + Send + Sync + 'static>(
         &self,
         rt: &R,
@@ -76,7 +76,7 @@ impl<'a, S: FileSystem + Send + Sync + 'static> ByCrew<'a, S> {
         all_of(alloc, walk.into_iter())
     }
 
-    /// Returns whether this is what the walk yields, for which that many workers read.
+    /// Returns whether the walk yields these lines when a crew of the given number of workers reads for it.
     pub fn shows<R: Host>(&self, rt: &R, workers: usize, wanted: &str) -> bool {
         match self.found(rt, NoProcess, workers) {
             Ok(found) => are_lines(rt.alloc(), found.as_slice(), wanted),
@@ -84,7 +84,7 @@ impl<'a, S: FileSystem + Send + Sync + 'static> ByCrew<'a, S> {
         }
     }
 
-    /// Returns whether this is what the walk yields, read in each way and by a crew of two.
+    /// Returns whether the walk yields these lines, read in each way and by a crew of two.
     pub fn shows_always<R: Host>(&self, rt: &R, wanted: &str) -> bool {
         let asked = Asked {
             fs: &*self.fs,

@@ -1,5 +1,5 @@
-//! Walks, and steps of the parts that they are built on, whose requests for memory are refused: each in turn, all from each on,
-//! or all beyond a number of bytes.
+//! Walks, and steps of the parts that they are built on, whose requests for memory are refused: each in turn, all from
+//! each on, or all beyond a number of bytes.
 mod board;
 mod building;
 mod bytes;

@@ -1,4 +1,4 @@
-//! Readings over a board, in turn and on threads.
+//! Readings over a board, one after another and on threads.
 use crate::given::{self, Refusing, States, push_names, roots_of};
 use jwalk_core::batch_reads::BatchReads;
 use jwalk_fs::file_system::FileSystem;
@@ -24,13 +24,13 @@ const MANY: [&str; 67] = [
     "/r/x", "/r/x/x", "/r/y", "/r/y/y", "/r/z", "/r/z/z",
 ];
 
-/// These directories and no others. Memory runs out for the one at this path.
+/// Memory runs out for the directory at this path.
 fn tree(alloc: Global, dirs: &[&str], at: &'static str) -> Option<Refusing> {
     let fs = given::tree(alloc, dirs)?;
     Some(Refusing { fs, at })
 }
 
-/// A walk over all that is below the root, with that many directories read together; none without a width.
+/// Reads everything below the root, `width` directories together. Returns `None` for a width of 0.
 fn walk<C: ClientState, S: FileSystem>(
     alloc: Global,
     fs: S,
@@ -45,15 +45,15 @@ fn walk<C: ClientState, S: FileSystem>(
     BatchReads::try_new(alloc, job, roots, width).ok()
 }
 
-/// How the directories are read.
+/// The way in which the directories are read.
 #[derive(Clone, Copy)]
 enum By {
     Turn,
     Threads,
 }
 
-/// Adds what came: the names in a reading, or that there is an error or that memory ran out, and after a colon how many
-/// others are ahead. None at the end.
+/// Adds the names of a reading, `error` or `refused`, and after a colon how many other readings are ahead. Returns
+/// `None` at the end.
 fn push_next<C: ClientState>(
     text: &mut String,
     next: Result<Option<Outcome<C, Global>>, AllocError>,
@@ -90,7 +90,7 @@ where
     push_next(text, next, walk.ahead())
 }
 
-/// Adds all readings of a walk, and after each how many others are ahead.
+/// Adds each reading, as `push_next` does.
 fn push_all<C: ClientState + Send, S: FileSystem + Send + Sync>(
     rt: &(impl Threads + Sync),
     walk: &mut BatchReads<C, S, NoProcess>,
@@ -108,7 +108,7 @@ where
     }
 }
 
-/// Whether a walk gives this: each reading, and after each how many others are ahead.
+/// The text is as `push_all` writes it.
 fn gives(
     rt: &(impl Threads + Sync),
     alloc: Global,
@@ -124,7 +124,7 @@ fn gives(
     text.as_str() == wanted
 }
 
-/// Whether both ways of reading these directories give this, if memory runs out for the one at a path.
+/// Reads one after another and on threads. Memory runs out for the directory at the path.
 fn both_give(
     rt: &(impl Threads + Sync + AllocGlobal),
     dirs: &[&str],

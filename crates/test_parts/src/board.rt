@@ -1,4 +1,4 @@
-//! Boards: what is taken, finished and handed out.
+//! Boards: items that are taken, finished and handed out.
 use crate::given::{address, counts, is_at};
 use jwalk_board::board::{Board, FinishFault, FinishRefusal, HandOutRefusal, TakeRefusal};
 use std::alloc::Global;
@@ -8,29 +8,29 @@ type Names = Board<&'static str, &'static str>;
 
 type Fault = FinishFault<&'static str, &'static str>;
 
-// One step of a play on a board, with its outcome.
+// A step on a board, with its outcome.
 enum Step {
-    // The item at this address is taken, or none.
+    // Takes the item at this address, or is refused.
     Takes(Result<&'static [usize], TakeRefusal>),
-    // What was taken at this address is finished, with a reading and with children.
+    // Finishes the item at this address, with a reading and children.
     Finishes(&'static [usize], &'static str, &'static [&'static str]),
-    // The root is finished, with that many children.
+    // Finishes the root, with a number of children.
     FinishesRoot(usize),
-    // Nothing at this address is in hand, and all of it is given back.
+    // Finishes nothing, as no item at this address is in hand. All must be given back.
     FinishesNone(&'static [usize]),
-    // The item at this address is handed out, with that many children, or none.
+    // Hands out the item at this address, with a number of children, or is refused.
     HandsOut(Result<(&'static [usize], usize), HandOutRefusal>),
-    // The next reading, which is ready, is handed out: at this address, with that many children.
+    // Hands out the next reading, which is ready: at this address, with a number of children.
     HandsOutNext(&'static [usize], usize),
-    // Only children of only children are taken, finished and handed out, on 299 levels.
+    // Takes, finishes and hands out only children of only children, on 299 levels.
     GoesDown,
-    // That many are queued, in hand, ready and pending.
+    // Counts the queued, in hand, ready and pending.
     Counts([usize; 4]),
     Stops,
 }
 
-// What a step does. None of it promises anything: a test that calls the board itself carries each call's contract to
-// its end.
+// The steps. None of them promises anything: a test that calls the board itself carries each call's contract to its
+// end.
 
 fn takes(board: &mut Names, wanted: Result<&[usize], TakeRefusal>) -> bool {
     match board.take() {
@@ -102,7 +102,7 @@ fn hands_out_next(board: &mut Names, indices: &[usize], child_count: usize) -> b
     }
 }
 
-// Takes the only child of only children at each address down to this one, finishes it with one child and hands it out.
+// Each item down to the address gets one child.
 fn goes_down(board: &mut Names, alloc: Global, indices: &[usize]) -> bool {
     for length in 1..indices.len() {
         let above = &indices[..length];
@@ -137,7 +137,7 @@ fn goes(board: &mut Names, alloc: Global, step: &Step) -> bool {
     }
 }
 
-// The number of the first step that goes otherwise.
+// Returns the number of the first step that is wrong.
 fn wrong(board: &mut Names, alloc: Global, steps: &[Step]) -> Option<usize> {
     for (number, step) in steps.iter().enumerate() {
         if !goes(board, alloc, step) {
@@ -147,7 +147,6 @@ fn wrong(board: &mut Names, alloc: Global, steps: &[Step]) -> Option<usize> {
     None
 }
 
-// The same on a board with that many roots.
 fn first_wrong(alloc: Global, root_count: usize, steps: &[Step]) -> Option<usize> {
     let Ok(roots) = vec![in alloc; "r"; root_count] else {
         return Some(0);
@@ -158,7 +157,7 @@ fn first_wrong(alloc: Global, root_count: usize, steps: &[Step]) -> Option<usize
     }
 }
 
-// Each step goes as is said.
+// Asserts that each step has its outcome.
 fn all_go(rt: &(impl Abort + AllocGlobal), root_count: usize, steps: &[Step]) {
     assert_eq!(rt; first_wrong(rt.alloc(), root_count, steps), None);
 }

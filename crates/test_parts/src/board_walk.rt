@@ -6,7 +6,7 @@ use test_fixtures::family::Family;
 use tree_walk::board_walk::BoardWalk;
 use tree_walk::whole::read_all;
 
-// What a family gives in preorder.
+// The readings of a family in preorder.
 const PREORDER: [u8; 4] = [0, 1, 3, 2];
 
 fn whole_family(alloc: Global, width: usize) -> Option<Vec<u8>> {
@@ -24,7 +24,7 @@ fn all_readings_of_a_family_however_many_together(rt: HostRuntime) {
     }
 }
 
-/// Adds a reading, or that memory ran out, and how many others are ahead. None at the end.
+/// Adds a reading or `refused`, and how many others are ahead. Returns `None` at the end.
 fn push_next(text: &mut String, next: Result<Option<u8>, AllocError>, ahead: usize) -> Option<()> {
     match next {
         Ok(read) => write!(text, "{}:{ahead} ", read?).ok(),
@@ -32,7 +32,7 @@ fn push_next(text: &mut String, next: Result<Option<u8>, AllocError>, ahead: usi
     }
 }
 
-/// A walk over all that is below a root that reads two together.
+/// Reads everything below a root, two together.
 fn begun<J: Plan<Global, Spec = u8, Reading = u8> + Drop>(
     alloc: Global,
     plan: J,
@@ -42,8 +42,8 @@ fn begun<J: Plan<Global, Spec = u8, Reading = u8> + Drop>(
     Some(walk)
 }
 
-/// Prepares the next reading on threads and adds it. In front of it is how many are ahead once it is prepared, and
-/// behind it how many after it was given.
+/// Prepares the next reading on threads, and adds it. The number before it is how many are ahead once it is prepared,
+/// the number after it how many once it is given.
 fn push_prepared<J: Plan<Global, Spec = u8, Reading = u8> + Drop + Sync>(
     rt: &(impl Threads + Sync),
     walk: &mut BoardWalk<u8, u8, J>,
@@ -57,7 +57,7 @@ fn push_prepared<J: Plan<Global, Spec = u8, Reading = u8> + Drop + Sync>(
     push_next(text, next, walk.ahead())
 }
 
-/// The readings of a plan, two together on threads, each as `push_prepared` adds it.
+/// The text has each reading as `push_prepared` adds it.
 fn prepared<J: Plan<Global, Spec = u8, Reading = u8> + Drop + Sync>(
     rt: &(impl Threads + Sync),
     alloc: Global,
@@ -81,7 +81,7 @@ fn the_next_is_ready_once_it_is_prepared(rt: HostRuntime) {
     assert_eq!(rt; text.as_deref(), Some("1>0:0 2>1:1 2>3:1 1>2:0 0>"));
 }
 
-/// The readings of a plan, two together on threads, until the walk is stopped after some of them.
+/// The walk is stopped after `count` readings.
 fn stopped_after<J: Plan<Global, Spec = u8, Reading = u8> + Drop + Sync>(
     rt: &(impl Threads + Sync),
     alloc: Global,

@@ -1,4 +1,4 @@
-//! Messages of workers, and the reading that is waited for.
+//! Messages of workers, and the reading that a walk waits for.
 use crate::given::{self, Refusing, States, address, roots_of};
 use jwalk_board::board::Board;
 use jwalk_core::arrival::arrive;
@@ -26,7 +26,7 @@ type Told<'f> = Message<States, &'f Refusing, NoProcess>;
 
 type Reads<'f> = Board<Spec, Told<'f>>;
 
-/// A root with three directories, of which one can't be read, and a file. Memory runs out at one path.
+/// The root has three directories, of which one can't be read, and a file. Memory runs out at one path.
 fn tree(alloc: Global, at: &'static str) -> Option<Refusing> {
     let mut fs = given::tree(alloc, &["/r", "/r/a", "/r/a/x", "/r/b", "/r/c"])?;
     fs.add_file("/r/f", 1).ok()?;
@@ -44,7 +44,6 @@ fn job_by(alloc: Global, fs: &Refusing, options: Options) -> Option<Arc<TreeJob<
 
 // Messages.
 
-/// The outcome of a reading.
 #[derive(Clone, Copy)]
 enum Comes {
     /// A list of that many items.
@@ -54,7 +53,7 @@ enum Comes {
     Refusal,
 }
 
-/// Whether these are directories at these paths, one below the root.
+/// The directories must be one below the root.
 fn are_below(specs: &[Spec], paths: &[&str]) -> bool {
     for (spec, path) in specs.iter().zip(paths) {
         if spec.path.as_str() != *path || spec.depth() != 1 {
@@ -64,13 +63,11 @@ fn are_below(specs: &[Spec], paths: &[&str]) -> bool {
     specs.len() == paths.len()
 }
 
-/// Whether an error says that the directory at a path can't be read.
 fn is_denied(error: &Error, path: &str) -> bool {
     error.path() == Some(path)
         && matches!(error.io_error(), Some(err) if err.kind() == ErrorKind::PermissionDenied)
 }
 
-/// Whether a message has this outcome of a reading of the directory at a path.
 fn has(message: Told<'_>, path: &str, comes: Comes) -> bool {
     match message.into_outcome() {
         Ok(Ok(list)) => matches!(comes, Comes::List(count) if list.results_list().len() == count),
@@ -79,14 +76,14 @@ fn has(message: Told<'_>, path: &str, comes: Comes) -> bool {
     }
 }
 
-/// Whether a message is of the directory at a path and by the options of the tests, and whether memory ran out for it.
+/// The message must be of the directory at the path, and by the options of the tests.
 fn is_of(message: &Told<'_>, path: &str, refused: bool) -> bool {
     message.of().path.as_str() == path
         && message.job().options().reads_as(options())
         && message.is_refused() == refused
 }
 
-/// Whether the message of a directory has this outcome, and the directories below it are at these paths.
+/// The directories found below must be at these paths.
 fn tells(alloc: Global, fs: &Refusing, path: &str, below: &[&str], comes: Comes) -> Option<bool> {
     let job = job_by(alloc, fs, options())?;
     let of = roots_of(&job, path, ())?.pop()?;
@@ -96,7 +93,7 @@ fn tells(alloc: Global, fs: &Refusing, path: &str, below: &[&str], comes: Comes)
     Some(has(message, path, comes) && is_told)
 }
 
-/// Whether it does in a tree where memory runs out at one path.
+/// Memory runs out for `/r/a`.
 fn tells_in_tree(alloc: Global, path: &str, below: &[&str], comes: Comes) -> bool {
     match &tree(alloc, "/r/a") {
         Some(fs) => tells(alloc, fs, path, below, comes) == Some(true),
@@ -120,9 +117,9 @@ fn a_message_tells_what_came_of_a_reading(rt: HostRuntime) {
     }
 }
 
-// The reading that is waited for.
+// The reading that a walk waits for.
 
-/// How the reading that is wanted differs from the one that was made.
+/// How the wanted reading differs from the one that was made.
 #[derive(Clone, Copy)]
 enum Other {
     Nothing,
@@ -137,7 +134,7 @@ fn text(alloc: Global, path: &str) -> Option<Arc<String>> {
     Arc::new(alloc, String::from_str(alloc, path).ok()?).ok()
 }
 
-/// The reading of this directory, by the options of the tests.
+/// Returns the wanted reading of this directory, by the options of the tests.
 fn wanted_of(alloc: Global, of: &Spec) -> Option<Wanted> {
     Some(Wanted {
         address: address(alloc, &[0])?,
@@ -148,12 +145,10 @@ fn wanted_of(alloc: Global, of: &Spec) -> Option<Wanted> {
     })
 }
 
-/// These ancestors, and below them the one at a path.
 fn below(alloc: Global, above: &Ancestors, path: &str) -> Option<Ancestors> {
     above.with(alloc, text(alloc, path)?).ok()
 }
 
-/// Changes it in what is to differ.
 fn change(alloc: Global, wanted: &mut Wanted, other: Other) -> Option<()> {
     match other {
         Other::Nothing => {}
@@ -166,7 +161,7 @@ fn change(alloc: Global, wanted: &mut Wanted, other: Other) -> Option<()> {
     Some(())
 }
 
-/// A board on which the root is queued, and the reading that it waits for.
+/// Returns a board on which the root is queued, and the wanted reading of it.
 fn begin<'f>(alloc: Global, job: &TreeJob<'f>, other: Other) -> Option<(Reads<'f>, Wanted)> {
     let roots = roots_of(job, "/r", ())?;
     let mut wanted = wanted_of(alloc, roots.first()?)?;
@@ -174,7 +169,6 @@ fn begin<'f>(alloc: Global, job: &TreeJob<'f>, other: Other) -> Option<(Reads<'f
     Some((Board::new(roots).ok()?, wanted))
 }
 
-/// The outcome of the reading that is wanted.
 fn asks(board: &mut Reads<'_>, wanted: &Wanted) -> &'static str {
     match arrive(board, wanted) {
         Arrival::Entered(_) => "entered",
@@ -184,7 +178,7 @@ fn asks(board: &mut Reads<'_>, wanted: &Wanted) -> &'static str {
     }
 }
 
-/// A worker takes the least directory and finishes it. Returns the outcome of the reading that is wanted in between.
+/// A worker takes the least directory and finishes it. Returns the outcome of the wanted reading in between.
 fn read_least<'f>(
     board: &mut Reads<'f>,
     job: Arc<TreeJob<'f>>,
@@ -201,8 +195,8 @@ fn read_least<'f>(
     Some(in_hand)
 }
 
-/// Its outcome in a walk by these options: before the root is taken, while it is in hand, once it was read, and after
-/// that.
+/// Returns the outcomes of the wanted reading in a walk by these options: before the root is taken, while it is in
+/// hand, once it was read, and after that.
 fn answers_by(
     alloc: Global,
     fs: &Refusing,
@@ -217,7 +211,6 @@ fn answers_by(
     Some((queued, in_hand, read, asks(&mut board, &wanted)))
 }
 
-/// Its outcome once the board was stopped.
 fn answer_after_stop(alloc: Global, fs: &Refusing) -> Option<&'static str> {
     let job = job_by(alloc, fs, options())?;
     let (mut board, wanted) = begin(alloc, &job, Other::Nothing)?;
@@ -225,7 +218,7 @@ fn answer_after_stop(alloc: Global, fs: &Refusing) -> Option<&'static str> {
     Some(asks(&mut board, &wanted))
 }
 
-/// Whether it is waited for until it comes, if nothing is below the root, and no longer than to a stop.
+/// Nothing is below the root. The walk must not wait after a stop.
 fn is_waited_for(alloc: Global) -> Option<bool> {
     let fs = tree(alloc, "")?;
     let own = options().with_max_depth(0);
@@ -240,7 +233,7 @@ fn a_reading_is_waited_for_until_it_comes(rt: HostRuntime) {
     assert!(rt; is_waited_for(rt.alloc()) == Some(true));
 }
 
-/// Whether this is its outcome once the root was read, if memory runs out at one path.
+/// The outcome is that once the root was read. Memory runs out at the path.
 fn answers(alloc: Global, at: &'static str, other: Other, answer: &str) -> bool {
     let Some(fs) = tree(alloc, at) else {
         return false;
@@ -290,7 +283,7 @@ fn a_message_that_was_refused_memory_says_so_where_it_is_waited_for(rt: HostRunt
 
 // Lists of ancestors.
 
-/// Whether an entry and the directory below it, alone each, have the same list of ancestors, and which it is.
+/// Each of the two must be alone.
 fn have_list(
     found: &[Result<DirEntry<States>, Error>],
     below: &[Spec],
@@ -303,21 +296,19 @@ fn have_list(
         && matches!(found, [Ok(entry)] if entry.ancestors().is_same(of.ancestors()))
 }
 
-/// Whether the root's entry and its directory have the same list of ancestors.
 fn root_has_list_of_directory(job: &TreeJob<'_>, ancestors: &Ancestors) -> Option<bool> {
     let list = job.root_list("/r", ()).ok()?;
     let below = list.read_children_specs().ok()?;
     Some(have_list(list.results_list(), below.as_slice(), ancestors))
 }
 
-/// Whether both have the list of the root's path alone.
 fn root_is_its_own_ancestor(alloc: Global, root: &Ancestors) -> Option<bool> {
     let fs = tree(alloc, "")?;
     let job = Job::new(alloc, &fs, NoProcess, options().with_follow_links(true));
     root_has_list_of_directory(&job, root)
 }
 
-/// Whether these are the same lists where they are to be, and others where not.
+/// Returns whether lists are the same where they must be, and others where they must not.
 fn are_compared(
     root: &Ancestors,
     deeper: &Ancestors,
@@ -332,7 +323,7 @@ fn are_compared(
         && !deeper.is_same(other)
 }
 
-/// Whether lists from the root down are compared by their paths, and the root has the first of them.
+/// Builds lists from the root down.
 fn are_compared_by_paths(alloc: Global) -> Option<bool> {
     let root = below(alloc, &Ancestors::none(), "/r")?;
     let deeper = below(alloc, &root, "/r/a")?;

@@ -1,4 +1,4 @@
-//! A plan that reads no directories, by a crew; and a crew's places.
+//! A plan that reads no directories, by a crew, and the places of a crew.
 use jwalk_board::board::Plan;
 use std::alloc::Global;
 use std::sync::{Arc, Wait};
@@ -11,13 +11,12 @@ use tree_crew::places::Places;
 use tree_crew::session::Session;
 use tree_crew::whole::read_all;
 
-// What a family gives in preorder.
+// The readings of a family in preorder.
 const PREORDER: [u8; 4] = [0, 1, 3, 2];
 
-// What it gives from two roots, the second of which has no children.
+// The readings of a family from two roots, of which the second has no children.
 const OF_TWO_ROOTS: [u8; 5] = [0, 1, 3, 2, 3];
 
-/// All readings of a family.
 fn whole_family<R: Wait + Threads + Clock + Drop + Send + Sync + 'static>(
     alloc: Global,
     place: Place<R>,
@@ -26,7 +25,7 @@ fn whole_family<R: Wait + Threads + Clock + Drop + Send + Sync + 'static>(
     read_all(place, plan, vec![in alloc; 0_u8].ok()?).ok()
 }
 
-/// The readings of a session one at a time, if they are that many, and no more than this many are ahead at any time.
+/// Takes `count` readings one at a time. At most `most` may be ahead at any time.
 fn taken<R: Wait + Clock + Drop, T: Drop, U: Drop, J: Plan<Global, Spec = T, Reading = U> + Drop>(
     alloc: Global,
     session: &mut Session<R, T, U, J>,
@@ -47,7 +46,7 @@ fn taken<R: Wait + Clock + Drop, T: Drop, U: Drop, J: Plan<Global, Spec = T, Rea
     }
 }
 
-/// The same of a family from two roots.
+/// Takes the readings of a family from two roots.
 fn each<R: Wait + Threads + Clock + Drop + Send + Sync + 'static>(
     alloc: Global,
     place: Place<R>,
@@ -59,7 +58,7 @@ fn each<R: Wait + Threads + Clock + Drop + Send + Sync + 'static>(
     taken(alloc, &mut session, OF_TWO_ROOTS.len(), most)
 }
 
-/// A crew for one walk, with that many workers, which reads one ahead, or as many as there are workers.
+/// The crew has one place. It reads one ahead, or as many as it has workers.
 fn crew<R: Wait + Clock + Drop>(alloc: Global, rt: R, workers: usize) -> Option<Arc<Crew<R>>> {
     Arc::new(alloc, Crew::new(rt, 1, workers).with_read_ahead(1)).ok()
 }
@@ -95,7 +94,7 @@ fn readings_of_two_families_by_a_crew_one_at_a_time(rt: HostRuntime) {
 
 // Places.
 
-/// Whether there is one place, which is free, and which is taken once until it is given back.
+/// The place must be free, and is taken once until it is given back.
 fn is_one(mut places: Places) -> bool {
     if !places.take() {
         return false;
@@ -111,7 +110,6 @@ fn one_place_is_free_until_it_is_taken(rt: HostRuntime) {
     assert!(rt; is_one(Places::new(0)));
 }
 
-/// Whether a crew has one place, which is taken once until it is given back.
 fn is_taken_once<R: Wait + Clock + Drop>(crew: &Arc<Crew<R>>) -> bool {
     for _ in 0..2 {
         let Ok(place) = Place::take(crew, None) else {

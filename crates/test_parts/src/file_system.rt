@@ -1,4 +1,4 @@
-//! A file system that isn't fixed, one that is borrowed, and the faults that `?` makes.
+//! A file system that isn't fixed, a borrowed one, and the faults that `?` makes.
 ghost use Rattle.jwalk_model.specs.Tree.{functions_of, only_root};
 
 use jwalk_fs::fault::Fault;
@@ -11,7 +11,7 @@ use std::cell::Cell;
 use std::io;
 use std::io::ErrorKind;
 
-// A file at every path, one byte longer each time it is asked for; no path is a directory or a link.
+// A file at every path, one byte longer each time it is asked for. No path is a directory or a link.
 #[derive(Drop)]
 struct Growing {
     len: Cell<u64>,
@@ -71,7 +71,7 @@ fn is_text(answer: Result<String, Fault>, wanted: &str) -> bool {
     }
 }
 
-// Whether the four calls, made through the trait's bound, return what they do at first.
+// Returns whether the four calls, made through the trait's bound, return what they return at first.
 fn answers<S: FileSystem>(alloc: Global, fs: S) -> bool {
     kind(fs.read_dir(alloc, "/f")) == Some(ErrorKind::NotADirectory)
         && fs.metadata("/f").ok() == Some(Metadata::new(FileType::File, 1))

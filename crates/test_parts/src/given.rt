@@ -1,4 +1,4 @@
-//! What the tests work on: addresses, items at them, rehearsals, trees in memory and readings. None of it promises
+//! The data of the tests: addresses, items at them, rehearsals, trees in memory and readings. No function promises
 //! anything.
 ghost use Rattle.jwalk_model.specs.Tree.{functions_of, only_root};
 ghost use Rattle.jwalk_job.specs.Job.{callback};
@@ -19,17 +19,14 @@ use jwalk_order::ordered::Ordered;
 use std::alloc::{Allocator, Global};
 use std::io;
 
-/// The address of these indices.
 pub(crate) fn address(alloc: Global, indices: &[usize]) -> Option<IndexPath> {
     Some(IndexPath::new(Vec::from_slice(alloc, indices).ok()?))
 }
 
-/// Whether an item is at this address, with that many children.
 pub(crate) fn is_at<T>(item: &Ordered<T>, indices: &[usize], child_count: usize) -> bool {
     item.index_path.indices.as_slice() == indices && item.child_count() == child_count
 }
 
-/// Whether items are at these addresses, each with that many children.
 pub(crate) fn are_at<T>(items: &[Ordered<T>], wanted: &[(&[usize], usize)]) -> bool {
     for (item, (indices, child_count)) in items.iter().zip(wanted) {
         if !is_at(item, indices, *child_count) {
@@ -39,7 +36,7 @@ pub(crate) fn are_at<T>(items: &[Ordered<T>], wanted: &[(&[usize], usize)]) -> b
     items.len() == wanted.len()
 }
 
-/// How many are queued, in hand, ready and pending.
+/// Counts the queued, in hand, ready and pending.
 pub(crate) fn counts<T: Drop, R: Drop>(board: &Board<T, R>) -> [usize; 4] {
     [
         board.queued(),
@@ -49,7 +46,6 @@ pub(crate) fn counts<T: Drop, R: Drop>(board: &Board<T, R>) -> [usize; 4] {
     ]
 }
 
-/// A rehearsal over a plan of numbers, from these roots.
 pub(crate) fn played<P: Plan<Global, Spec = u8, Reading = u8>>(
     alloc: Global,
     plan: &P,
@@ -63,7 +59,6 @@ pub(crate) fn played<P: Plan<Global, Spec = u8, Reading = u8>>(
     rehearse(alloc, plan, roots, workers, moves)
 }
 
-/// A tree in memory with these directories.
 pub(crate) fn tree(alloc: Global, dirs: &[&str]) -> Option<MemoryFs> {
     let mut fs = MemoryFs::new(alloc);
     for dir in dirs {
@@ -72,7 +67,7 @@ pub(crate) fn tree(alloc: Global, dirs: &[&str]) -> Option<MemoryFs> {
     Some(fs)
 }
 
-/// A tree in memory for which memory runs out when one of its directories is listed.
+/// A tree in memory. Memory runs out when the directory at a path is listed.
 #[derive(Drop)]
 pub(crate) struct Refusing {
     pub(crate) fs: MemoryFs,
@@ -111,7 +106,7 @@ impl FileSystem for Refusing {
 
 pub(crate) type States = ((), ());
 
-/// The directory at a root, for which a walk starts from this state.
+/// Returns the directory of a root, for a walk that starts from this state.
 pub(crate) fn roots_of<C: ClientState, S: FileSystem, P: ProcessReadDir<C, Global>>(
     job: &Job<C, S, P>,
     root: &str,
@@ -123,7 +118,6 @@ pub(crate) fn roots_of<C: ClientState, S: FileSystem, P: ProcessReadDir<C, Globa
     list.read_children_specs().ok()
 }
 
-/// Adds the names in a reading.
 pub(crate) fn push_names<C: ClientState>(text: &mut String, read: &ReadDir<C>) -> Option<()> {
     for found in read.results_list() {
         if let Ok(entry) = found {

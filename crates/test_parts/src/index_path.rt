@@ -15,7 +15,7 @@ fn gives(heap: &mut BinaryHeap<IndexPath>, indices: &[usize]) -> bool {
     }
 }
 
-// Whether a greatest-first heap of these gives a root, its first child and its second.
+// Takes a root, its first child and its second from a greatest-first heap.
 fn come_in_order(alloc: Global, lists: &[&[usize]]) -> Option<bool> {
     let mut heap = BinaryHeap::new(alloc);
     for indices in lists {
@@ -54,7 +54,7 @@ fn has_clone(address: &IndexPath) -> bool {
     }
 }
 
-// Goes from the root 0 down to its child 1, on to the next, and up again.
+// Goes from the root 0 down to its child 1, to the next child, and up again.
 fn goes_about(address: &mut IndexPath) -> bool {
     if address.push(1).is_err() || !is(address, &[0, 1]) {
         return false;
@@ -74,7 +74,7 @@ fn an_address_goes_down_and_up(rt: HostRuntime) {
     assert!(rt; has_child(&root, 2, &[0, 2]) && has_clone(&root) && goes_about(&mut root));
 }
 
-// Whether `adding` and `push` lead from no index down these.
+// Compares `adding` and `push`, from no index down these.
 fn lead_down(alloc: Global, indices: &[usize]) -> Option<bool> {
     let mut added = address(alloc, &[])?;
     let mut pushed = address(alloc, &[])?;
@@ -85,7 +85,7 @@ fn lead_down(alloc: Global, indices: &[usize]) -> Option<bool> {
     Some(is(&pushed, indices) && added == pushed && has_clone(&pushed))
 }
 
-// Whether both lead down that many indices, the greatest first.
+// The greatest index is first.
 fn lead_far_down(alloc: Global, count: usize) -> Option<bool> {
     let indices: Vec<usize> = (0..count).rev().collect(alloc).ok()?;
     lead_down(alloc, indices.as_slice())

@@ -23,7 +23,7 @@ use jwalk_memory_fs::memory_fs::MemoryFs;
 use jwalk_order::ordered::Ordered;
 use std::alloc::{Allocator, Global};
 
-/// A root with a directory that holds another, a directory and a file.
+/// A root with a directory that has another, a directory and a file.
 fn tree(alloc: Global) -> Option<MemoryFs> {
     let mut fs = given::tree(alloc, &["/t", "/t/b", "/t/b/d", "/t/c"])?;
     for path in ["/t/a", "/t/b/e", "/t/b/d/f", "/t/c/g"] {
@@ -38,8 +38,8 @@ fn job_of(alloc: Global, fs: &MemoryFs) -> TreeJob<'_> {
     Job::new(alloc, fs, NoProcess, Options::new().with_sort(true))
 }
 
-/// What a job's rehearsal promises, in a job's own words. Over a steady job, however its workers take turns, the
-/// readings that are handed out are a beginning of those of the tree in preorder.
+/// The contract of a rehearsal, in a job's own words. Over a steady job, however its workers take turns, the readings
+/// that are handed out are a beginning of those of the tree in preorder.
 fn played<C: ClientState, S: FileSystem, P: ProcessReadDir<C, A>, A: Allocator + Copy>(
     alloc: A,
     job: &Job<C, S, P, A>,
@@ -73,7 +73,7 @@ const MOVES: &[Move] = &[
     Move::HandOut,
 ];
 
-/// The names in each reading, each followed by a space.
+/// A space follows the names of each reading.
 fn names(alloc: Global, items: &[Ordered<Result<ReadDir<States>, Error>>]) -> Option<String> {
     let mut text = String::new(alloc);
     for item in items {
@@ -85,17 +85,15 @@ fn names(alloc: Global, items: &[Ordered<Result<ReadDir<States>, Error>>]) -> Op
     Some(text)
 }
 
-/// What is handed out: the addresses with the counts of directories, and the names in the readings.
+/// The addresses of the readings with their counts of directories, and the names in the readings.
 type Wanted = (&'static [(&'static [usize], usize)], &'static str);
 
-/// Whether the moves of workers over a job hand out what is wanted.
 fn gives(alloc: Global, job: &TreeJob<'_>, moves: &[Move], wanted: &Wanted) -> Option<bool> {
     let made = played(alloc, job, roots_of(job, "/t", ())?, moves).ok()?;
     let items = made.handed_out.as_slice();
     Some(are_at(items, wanted.0) && names(alloc, items).as_deref() == Some(wanted.1))
 }
 
-/// Whether the moves hand out what is wanted.
 fn hands_out(alloc: Global, moves: &[Move], wanted: &Wanted) -> Option<bool> {
     let fs = tree(alloc)?;
     gives(alloc, &job_of(alloc, &fs), moves, wanted)
@@ -112,10 +110,9 @@ fn a_job_is_rehearsed_in_preorder(rt: HostRuntime) {
     assert!(rt; hands_out(rt.alloc(), &MOVES[..7], FIRST) == Some(true));
 }
 
-/// The addresses and the paths of directories.
 type Places = &'static [(&'static [usize], &'static str)];
 
-/// Whether directories are at these addresses, with no children counted, and have these paths.
+/// The items must have no children counted.
 fn stand_at(items: &[Ordered<ReadDirSpec<States>>], wanted: Places) -> bool {
     for (item, (indices, path)) in items.iter().zip(wanted) {
         if !is_at(item, *indices, 0) || item.value.path.as_str() != *path {
@@ -125,7 +122,7 @@ fn stand_at(items: &[Ordered<ReadDirSpec<States>>], wanted: Places) -> bool {
     items.len() == wanted.len()
 }
 
-/// The reading of a root, which is the only directory of its list.
+/// The root must be the only directory of its list.
 fn root_reading(job: &TreeJob<'_>, root: &str) -> Option<ReadDir<States>> {
     let roots = roots_of(job, root, ())?;
     match roots.as_slice() {
@@ -134,7 +131,7 @@ fn root_reading(job: &TreeJob<'_>, root: &str) -> Option<ReadDir<States>> {
     }
 }
 
-/// Whether the directories in the reading of a root are at these addresses below this one.
+/// The directories are those in the reading of the root.
 fn have_addresses(
     alloc: Global,
     fs: Option<MemoryFs>,

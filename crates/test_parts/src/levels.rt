@@ -3,19 +3,18 @@ use jwalk_board::board::{Plan, Refused};
 use std::alloc::Global;
 use std::cell::Cell;
 
-/// A specification is its level, from a root 0 on, and a reading is the same number. The children of a specification are
-/// one level down. Nothing is said of its tree.
+/// A plan whose specification is a level, from a root 0 on, and whose reading is the same number. The children of a
+/// specification are one level down. Its tree isn't specified.
 #[derive(Drop)]
 pub(crate) struct Levels {
     /// The level that has no children.
     last: u8,
-    /// How many children each specification above it has.
+    /// The number of children of each specification above it.
     width: usize,
     reads: Cell<usize>,
 }
 
 impl Levels {
-    /// Levels down to this last one, with that many children for each specification above it.
     pub(crate) fn new(last: u8, width: usize) -> Self {
         Levels {
             last,
@@ -24,7 +23,7 @@ impl Levels {
         }
     }
 
-    /// How often it was asked for a reading.
+    /// Counts the readings.
     pub(crate) fn reads(&self) -> usize {
         self.reads.get()
     }

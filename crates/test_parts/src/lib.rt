@@ -1,5 +1,5 @@
-//! What the parts do that a walk is built on, by worked examples: path texts, the slot, file systems, the tree in memory and the
-//! program's texts; the order and the board, readings over a board, and the messages of a crew.
+//! The parts that a walk is built on, by worked examples: path texts, the slot, file systems, the tree in memory, the
+//! texts of the program, the order and the board, readings over a board, and the messages of a crew.
 #![tactic(auto)]
 
 #[cfg(test)]

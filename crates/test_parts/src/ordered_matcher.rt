@@ -1,10 +1,10 @@
-//! Which address comes next.
+//! The address that comes next.
 use crate::given::address;
 use jwalk_order::ordered::Ordered;
 use jwalk_order::ordered_queue::OrderedMatcher;
 use std::alloc::{AllocError, Global};
 
-// Passes the address looked for, with that many children, if there is one and it is this.
+// The address must be the one that the matcher looks for.
 fn passes(
     alloc: Global,
     matcher: &mut OrderedMatcher,
@@ -22,7 +22,7 @@ fn passes(
         .is_ok()
 }
 
-// Passes these addresses, and then there is none.
+// No address may be left after them.
 fn passes_all(
     alloc: Global,
     matcher: Result<OrderedMatcher, AllocError>,

@@ -5,37 +5,37 @@ use jwalk_order::ordered_queue::{OrderedQueue, Ordering, Step};
 use std::alloc::Global;
 use std::process::Abort;
 
-// What a step gives.
+// The outcome of a step.
 #[derive(Clone, Copy)]
 enum Next<'a> {
     // The item at this address.
     Item(&'a [usize]),
-    // Nothing yet.
+    // No item yet.
     Nothing,
-    // Nothing any more.
+    // No item any more.
     End,
 }
 
-// One call on a queue, with its outcome.
+// A call on a queue, with its outcome.
 enum Turn {
-    // An item at this address, with that many children, is let in.
+    // Lets in an item at this address, with a number of children.
     LetsIn(&'static [usize], usize),
     Gives(Next<'static>),
     Pends(usize),
-    // All that is pending is completed.
+    // Completes everything that is pending.
     Completes,
     Stops,
-    // An iterator has one more.
+    // Asks an iterator whether it has one more.
     HasNext(bool),
     Reserves(usize),
-    // That many children of a root are let in, the last first, and are given in order.
+    // Lets in a number of children of a root, the last first, and takes them in order.
     SortsChildren(usize),
-    // Only children of only children are let in, the last first, and are given in order.
+    // Lets in only children of only children, the last first, and takes them in order.
     SortsChain,
 }
 
-// What the turns do. None of it promises anything: a test that calls the queue itself carries each call's contract to
-// its end.
+// The turns. None of them promises anything: a test that calls the queue itself carries each call's contract to its
+// end.
 
 fn item(alloc: Global, indices: &[usize], child_count: usize) -> Option<Ordered<()>> {
     Some(Ordered::new((), address(alloc, indices)?, child_count))
@@ -96,7 +96,7 @@ fn sorts_children(queue: &mut OrderedQueue<()>, alloc: Global, count: usize) -> 
     true
 }
 
-// Sorts the only children that are above an address.
+// Lets in the only children above the address.
 fn sorts_chain(queue: &mut OrderedQueue<()>, alloc: Global, indices: &[usize]) -> bool {
     for length in (1..indices.len()).rev() {
         if !lets_in(queue, alloc, &indices[..length], 1) {
@@ -125,7 +125,7 @@ fn goes(queue: &mut OrderedQueue<()>, alloc: Global, turn: &Turn) -> bool {
     }
 }
 
-// The number of the first turn that goes otherwise.
+// Returns the number of the first turn that is wrong.
 fn wrong(queue: &mut OrderedQueue<()>, alloc: Global, turns: &[Turn]) -> Option<usize> {
     for (number, turn) in turns.iter().enumerate() {
         if !goes(queue, alloc, turn) {
@@ -135,7 +135,6 @@ fn wrong(queue: &mut OrderedQueue<()>, alloc: Global, turns: &[Turn]) -> Option<
     None
 }
 
-// The same on an empty queue.
 fn first_wrong(alloc: Global, ordering: Ordering, turns: &[Turn]) -> Option<usize> {
     match OrderedQueue::new(alloc, ordering) {
         Ok(mut queue) => wrong(&mut queue, alloc, turns),
@@ -143,7 +142,7 @@ fn first_wrong(alloc: Global, ordering: Ordering, turns: &[Turn]) -> Option<usiz
     }
 }
 
-// Each turn goes as is said.
+// Asserts that each turn has its outcome.
 fn all_go(rt: &(impl Abort + AllocGlobal), ordering: Ordering, turns: &[Turn]) {
     assert_eq!(rt; first_wrong(rt.alloc(), ordering, turns), None);
 }
@@ -205,7 +204,7 @@ fn nothing_comes_of_no_roots_or_after_a_stop(rt: HostRuntime) {
     all_go(&rt, Ordering::Relaxed, TURNS);
 }
 
-// Pushes two items after a reserve of two.
+// Reserves two first.
 fn lets_two_in(alloc: Global, first: Ordered<()>, second: Ordered<()>) -> bool {
     let Ok(mut queue) = OrderedQueue::new(alloc, Ordering::Relaxed) else {
         return false;

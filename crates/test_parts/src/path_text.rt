@@ -1,4 +1,4 @@
-//! Path texts: their names and parents, which of them are the same path or place, and their joins.
+//! Path texts: their names and parents, the same paths and places, and their joins.
 use jwalk_fs::path_text::{file_name, join, join_parts, parent, same_path, same_place};
 use std::alloc::Global;
 
@@ -68,7 +68,7 @@ const PLACES: &[(&str, &str, bool)] = &[
     ("a/b", "b", false),
 ];
 
-/// Whether this says if two paths are the same place, whichever comes first.
+/// Asks in both orders.
 fn are_told(alloc: Global, a: &str, b: &str, same: bool) -> bool {
     match (same_place(alloc, a, b), same_place(alloc, b, a)) {
         (Ok(there), Ok(back)) => there == same && back == same,

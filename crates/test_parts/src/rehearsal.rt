@@ -7,16 +7,15 @@ use jwalk_order::ordered::Ordered;
 use std::alloc::Global;
 use test_fixtures::family::{Family, MOVES};
 
-// The outcome of a rehearsal.
 struct Outcome {
     taken: &'static [&'static [usize]],
-    // What is handed out: its address, its value and the number of its children.
+    // The address, the value and the number of children of each.
     handed_out: &'static [(&'static [usize], u8, usize)],
-    // How many are left queued, in hand, ready and pending.
+    // The numbers of those queued, in hand, ready and pending.
     left: [usize; 4],
 }
 
-// None of these promises anything: what comes back is compared, and no test carries the contract of a rehearsal to its
+// None of these promises anything: the tests compare outcomes, and no test carries the contract of a rehearsal to its
 // end.
 
 fn are_taken(taken: &[IndexPath], wanted: &[&[usize]]) -> bool {
@@ -37,7 +36,6 @@ fn are_handed_out(items: &[Ordered<u8>], wanted: &[(&[usize], u8, usize)]) -> bo
     items.len() == wanted.len()
 }
 
-// Whether this many workers reach this outcome by these moves.
 fn comes_to<P: Plan<Global, Spec = u8, Reading = u8>>(
     alloc: Global,
     plan: &P,

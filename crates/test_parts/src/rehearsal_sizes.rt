@@ -4,7 +4,7 @@ use crate::levels::Levels;
 use jwalk_board::board::Move;
 use std::alloc::{AllocError, Global};
 
-// Down to level 6, with three children each, there are 1 + 3 + 9 + 27 + 81 + 243 + 729.
+// 1 + 3 + 9 + 27 + 81 + 243 + 729, down to level 6 with three children each.
 const ALL: usize = 1093;
 
 fn rounds(alloc: Global, round: &[Move], count: usize) -> Result<Vec<Move>, AllocError> {
@@ -15,7 +15,7 @@ fn rounds(alloc: Global, round: &[Move], count: usize) -> Result<Vec<Move>, Allo
     Ok(moves)
 }
 
-// Plays that many rounds. Returns how many were read, taken and handed out, and how many are left.
+// Plays `count` rounds. Returns how many were read, taken and handed out, and how many are left.
 fn totals(alloc: Global, workers: usize, round: &[Move], count: usize) -> Option<[usize; 4]> {
     let plan = Levels::new(6, 3);
     let moves = rounds(alloc, round, count).ok()?;
@@ -24,7 +24,7 @@ fn totals(alloc: Global, workers: usize, round: &[Move], count: usize) -> Option
     Some([plan.reads(), made.taken.len(), made.handed_out.len(), left])
 }
 
-// Whether each is read, taken and handed out once, and none is left.
+// Each must be read, taken and handed out once.
 fn does_all(alloc: Global, workers: usize, round: &[Move]) -> bool {
     totals(alloc, workers, round, ALL) == Some([ALL, ALL, ALL, 0])
 }

@@ -1,4 +1,4 @@
-//! Listings that a sink is given.
+//! Listings that are given to a sink.
 ghost use Rattle.jwalk_model.specs.Tree.{functions_of, only_root};
 
 use jwalk_fs::fault::Fault;
@@ -13,8 +13,8 @@ use std::alloc::{AllocError, Allocator, Global};
 use std::io;
 use std::io::ErrorKind;
 
-// A sink that notes each item as its name and its type, with the length if metadata is seen. It fails where it has as
-// many as it may have.
+// A sink that notes each item as its name and its type, with the length if it is given metadata. It fails once it has
+// as many items as it may have.
 #[derive(Drop)]
 struct Noted {
     words: Vec<String>,
@@ -58,7 +58,7 @@ impl Sink for Noted {
     }
 }
 
-// One directory, whose listing has an error, and a name without a type. It lists by `read_dir` alone.
+// A directory, whose listing has an error and a name without a type. It is listed by `read_dir` alone.
 #[derive(Drop)]
 struct OneDirectory;
 
@@ -104,7 +104,6 @@ fn noting(alloc: Global, most: usize) -> Noted {
     }
 }
 
-// Whether a sink has these words.
 fn has(sink: &Noted, words: &[&str]) -> bool {
     sink.words.len() == words.len() && sink.words.iter().zip(words).all(|(a, b)| a.as_str() == *b)
 }
@@ -136,7 +135,7 @@ fn nothing_is_given_of_a_directory_that_cannot_be_listed(rt: HostRuntime) {
     assert!(rt; has(&sink, &[]));
 }
 
-// Whether a sink that takes a type alone notes it so, and an error in its place.
+// An error may be in place of a type.
 fn takes_types_alone(alloc: Global) -> Result<bool, AllocError> {
     let mut sink = noting(alloc, 3);
     sink.take("b", Ok(FileType::File))?;

@@ -1,11 +1,11 @@
-//! What is in a slot, taken and put back, without the key and with it.
+//! The value of a slot, taken and put back, without the key and with it.
 ghost use Rattle.std.specs.Prelude.{◌≤◌};
 
 use keyed_slot::marked::Marked;
 use keyed_slot::slot::KeyedSlot;
 use std::alloc::Global;
 
-/// A number that is at most some other. It is its own mark.
+/// A number that is at most its tag. It is its own mark.
 #[derive(Clone, Copy, Drop, PartialEq, Eq)]
 struct Small(u64);
 
@@ -19,7 +19,7 @@ impl Marked for Small {
     ghost mark = { λ x. x.0 };
 }
 
-/// Whether the value is in a slot. It is put back at once.
+/// Puts the value back at once.
 fn is_there(slot: &KeyedSlot<Small>) -> bool {
     match slot.take() {
         Ok((value, loan)) => {
@@ -30,7 +30,7 @@ fn is_there(slot: &KeyedSlot<Small>) -> bool {
     }
 }
 
-/// Whether the value in a slot is taken once, and once more after it was put back.
+/// Takes the value once more after it was put back.
 fn is_taken_and_put_back(slot: &KeyedSlot<Small>) -> bool {
     let Ok((value, loan)) = slot.take() else {
         return false;
@@ -46,7 +46,7 @@ fn a_value_is_taken_and_put_back(rt: HostRuntime) {
     assert!(rt; matches!(&made, Ok((slot, _)) if is_taken_and_put_back(slot)));
 }
 
-/// Whether the mark in a slot is what was put back with the key.
+/// The new mark is put back with the key.
 fn changes_its_mark(alloc: Global) -> bool {
     let Ok((slot, mut key)) = KeyedSlot::new(alloc, Small(3), &9) else {
         return false;

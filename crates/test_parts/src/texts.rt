@@ -75,7 +75,6 @@ fn are_same(asked: &Asked, wanted: &Asked) -> bool {
         && asked.read_by == wanted.read_by
 }
 
-// Whether words ask for this, and for a walk from this root.
 fn ask_for(alloc: Global, words: &[&str], wanted: &Asked, root: &str) -> bool {
     let Ok(words) = texts(alloc, words) else {
         return false;
@@ -93,7 +92,7 @@ fn is_no_number(alloc: Global, number: &str) -> bool {
         && are_bad(alloc, &["--crew", number, "--tree", "/t"])
 }
 
-// Whether a number is read as this value, after the names of options.
+// The number follows the names of options.
 fn is_number(alloc: Global, number: &str, value: usize) -> bool {
     let max = Some(value);
     let batch = Asked {
@@ -147,7 +146,7 @@ fn numbers_have_up_to_20_digits_and_fit(rt: HostRuntime) {
     }
 }
 
-// Whether each of these asks for this, and for a walk from the root that is its last word.
+// The root of each is its last word.
 fn all_ask_for(alloc: Global, rows: &[&[&str]], wanted: &Asked) -> bool {
     for words in rows {
         if !matches!(words.last(), Some(root) if ask_for(alloc, words, wanted, root)) {
@@ -296,7 +295,7 @@ fn the_first_bad_line_is_named(rt: HostRuntime) {
     }
 }
 
-/// Can't be read: each call fails with an error of this kind.
+/// A reader that fails at each call, with an error of this kind.
 #[derive(Drop)]
 struct Broken(ErrorKind);
 

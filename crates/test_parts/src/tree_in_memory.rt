@@ -1,4 +1,4 @@
-//! What trees in memory return, and how they are built.
+//! The returns of trees in memory, and how trees are built.
 use jwalk_fs::fault::Fault;
 use jwalk_fs::file_system::FileSystem;
 use jwalk_fs::listed::Listed;
@@ -16,39 +16,38 @@ use std::process::Abort;
 enum Change {
     Dir(&'static str),
     File(u64, &'static str),
-    // A link: what it leads to, and its path.
+    // Adds a link: its text, and its path.
     Link(&'static str, &'static str),
     Deny(ErrorKind, &'static str),
     Remove(&'static str),
 }
 
-// What is found at a path: a type and a length.
+// A type and a length.
 type Found = Result<(FileType, u64), ErrorKind>;
 
-// A call on a tree, with what it returns.
+// A call on a tree, with its outcome.
 enum Step {
     Does(Change),
     Refuses(BuildError, Change),
-    // What a path leads to.
+    // Looks at the target of a path.
     Leads(&'static str, Found),
-    // What is at a path, a link as such.
+    // Looks at a path itself, also if it is a link.
     Is(&'static str, Found),
-    // The names in a directory, each after a space, and those of directories with a slash.
+    // Lists a directory. A space precedes each name, and a slash follows those of directories.
     Lists(&'static str, &'static str),
     ListsNone(&'static str, ErrorKind),
-    // The text of a link.
+    // Reads the text of a link.
     Reads(&'static str, &'static str),
     ReadsNone(&'static str, ErrorKind),
-    // A directory gets that many files, and lists them.
+    // Adds a number of files to a directory, and lists them.
     ListsMany(u64),
-    // That many directories are made, each in the one before, and listed from the last up.
+    // Makes a number of nested directories, and lists them from the last up.
     IsDeep(u64),
-    // A link is made to each number before this, at the number after it.
+    // Makes a link to each number below this one, at the number after it.
     DoesLinks(u64),
 }
 
-// What the steps do. None of it promises anything: a test that calls the tree itself carries each call's contract to
-// its end.
+// The steps. None of them promises anything: a test that calls the tree itself carries each call's contract to its end.
 
 fn changes<A: Allocator + Copy>(fs: &mut MemoryFs<A>, it: &Change) -> Result<(), BuildError> {
     match it {
@@ -124,7 +123,7 @@ fn goes(fs: &mut MemoryFs, alloc: Global, step: &Step) -> bool {
     }
 }
 
-// The number of the first step that goes otherwise.
+// Returns the number of the first step that is wrong.
 fn wrong(fs: &mut MemoryFs, alloc: Global, steps: &[Step]) -> Option<usize> {
     for (number, step) in steps.iter().enumerate() {
         if !goes(fs, alloc, step) {
@@ -134,7 +133,7 @@ fn wrong(fs: &mut MemoryFs, alloc: Global, steps: &[Step]) -> Option<usize> {
     None
 }
 
-// The same of steps that build a tree, and of steps over it.
+// The first number is of the steps that build the tree, the second of the steps over it.
 fn both_wrong(alloc: Global, tree: &[Step], steps: &[Step]) -> [Option<usize>; 2] {
     let mut fs = MemoryFs::new(alloc);
     let in_tree = wrong(&mut fs, alloc, tree);
@@ -142,7 +141,7 @@ fn both_wrong(alloc: Global, tree: &[Step], steps: &[Step]) -> [Option<usize>; 2
     [in_tree, over_it]
 }
 
-// Each step goes as is said, over a tree that other steps build.
+// Asserts that each step has its outcome, over a tree that other steps build.
 fn go_over(rt: &(impl Abort + AllocGlobal), tree: &[Step], steps: &[Step]) {
     assert_eq!(rt; both_wrong(rt.alloc(), tree, steps), [None, None]);
 }
@@ -151,7 +150,7 @@ const DIR: Found = Ok((FileType::Dir, 0));
 
 const FILE: Found = Ok((FileType::File, 7));
 
-// A directory that holds a file.
+// A directory that has a file.
 const SMALL: &[Step] = &[
     Step::Does(Change::Dir("/r")),
     Step::Does(Change::File(7, "/r/f")),
@@ -257,7 +256,7 @@ fn children_in_order_of_creation(rt: HostRuntime) {
     go_over(&rt, SMALL, STEPS);
 }
 
-// Makes the file of this number, and adds its name to a text.
+// Adds the name of the file to a text, too.
 fn adds_child(fs: &mut MemoryFs, alloc: Global, number: u64, names: &mut String) -> bool {
     let Ok(path) = format!(in alloc; "/wide/{number}") else {
         return false;
@@ -287,14 +286,14 @@ fn five_thousand_children(rt: HostRuntime) {
     go_over(&rt, TREE, STEPS);
 }
 
-// Makes a directory in the one at a path, to which it adds the new one's name.
+// Adds the name of the new directory to its path.
 fn goes_down(fs: &mut MemoryFs, path: &mut String, level: u64) -> bool {
     write!(path, "/{level}").is_ok()
         && fs.add_dir(path.as_str()).is_ok()
         && path.push_str("/.").is_ok()
 }
 
-// Goes up from a path to the directory that holds the one of this level.
+// Adds `..` to the path. Its directory must have the one of this level.
 fn goes_up(fs: &MemoryFs, alloc: Global, path: &mut String, level: u64) -> bool {
     match format!(in alloc; " {level}/") {
         Ok(name) => path.push_str("/..").is_ok() && lists(fs, alloc, path.as_str(), name.as_str()),
@@ -330,7 +329,7 @@ fn thirty_deep(rt: HostRuntime) {
     go_over(&rt, &[], &[Step::IsDeep(30)]);
 }
 
-// A directory that holds a file and a link to it, and links that lead there and elsewhere.
+// A directory that has a file and a link to it, and links that lead there and elsewhere.
 const LINKED: &[Step] = &[
     Step::Does(Change::Dir("/r")),
     Step::Does(Change::File(7, "/r/f")),
@@ -409,7 +408,6 @@ fn up_after_a_link(rt: HostRuntime) {
 
 const FILE_OF_3: Found = Ok((FileType::File, 3));
 
-// Makes a link at one number to another.
 fn adds_link(fs: &mut MemoryFs, alloc: Global, from: u64, to: u64) -> bool {
     let Ok(path) = format!(in alloc; "/{from}") else {
         return false;
@@ -420,7 +418,7 @@ fn adds_link(fs: &mut MemoryFs, alloc: Global, from: u64, to: u64) -> bool {
     }
 }
 
-// Makes a link to each number before the count, at the number after it.
+// Makes a link to each number below the count, at the number after it.
 fn adds_links(fs: &mut MemoryFs, alloc: Global, count: u64) -> bool {
     for number in 0..count {
         if !adds_link(fs, alloc, number.wrapping_add(1), number) {
@@ -506,7 +504,6 @@ fn a_link_to_a_removed_directory_is_broken(rt: HostRuntime) {
     go_over(&rt, LINKED, STEPS);
 }
 
-// Directories in a directory.
 const BUILT: &[Change] = &[
     Change::Dir("/t"),
     Change::Dir("/t/a"),
@@ -523,7 +520,7 @@ fn builds(fs: &mut MemoryFs<&LocalHeap>, directories: &[Change]) -> bool {
     true
 }
 
-// Builds a tree, looks behind a link in it, and takes it away.
+// Looks through a link in it before it is removed.
 fn builds_and_removes(fs: &mut MemoryFs<&LocalHeap>, len: u64) -> bool {
     builds(fs, BUILT)
         && fs.add_file("/t/a/b/f", len).is_ok()
@@ -532,7 +529,7 @@ fn builds_and_removes(fs: &mut MemoryFs<&LocalHeap>, len: u64) -> bool {
         && fs.remove("/t").is_ok()
 }
 
-// Whether as much of a heap is used after each round but the first.
+// Each round but the first must leave as much of the heap in use.
 fn frees_all(heap: &LocalHeap, rounds: u64) -> bool {
     let mut fs = MemoryFs::new(heap);
     let mut held = 0;
@@ -553,7 +550,7 @@ fn what_is_removed_is_freed(rt: HostRuntime) {
     assert!(rt; matches!(&made, Ok(heap) if frees_all(heap, 1000)));
 }
 
-/// A step that fails as a `push` does which runs out of memory.
+/// Fails as a `push` that runs out of memory does.
 fn fails_as_a_push() -> Result<(), BuildError> {
     Err(AllocFailed { value: 7 })?
 }

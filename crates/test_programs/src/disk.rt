@@ -1,4 +1,4 @@
-//! What walks over the real disk yield, and over disks whose answers are written down.
+//! Walks over the real disk, and over disks whose answers are in a table.
 mod folder;
 pub mod lines;
 mod links;

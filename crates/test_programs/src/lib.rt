@@ -1,4 +1,4 @@
-//! What the program `walk` and the small programs of `examples` print, and what walks over a disk answer.
+//! The output of the program `walk` and of the small programs of `examples`, and walks over a disk.
 #![tactic(auto)]
 
 #[cfg(test)]

@@ -1,4 +1,4 @@
-//! What each small program of `examples` prints.
+//! The output of each small program of `examples`.
 use examples::{
     all_errors, archive, batch_walk, crew_walk, finder, ignore_walk, newest, one_disk, to_csv,
     totals, unmarked, usage_walk,
@@ -24,7 +24,6 @@ const PHOTOS: &[&str] = &[
     "photos/index.txt",
 ];
 
-/// Returns that tree.
 fn photos(alloc: Global) -> Result<MemoryFs, BuildError> {
     let mut tree = MemoryFs::new(alloc);
     for path in PHOTOS {
@@ -36,17 +35,15 @@ fn photos(alloc: Global) -> Result<MemoryFs, BuildError> {
     Ok(tree)
 }
 
-/// Returns the root of that tree.
 fn root(alloc: Global) -> Result<String, AllocError> {
     String::from_str(alloc, "photos")
 }
 
-/// Returns a walk over it.
 fn walk(alloc: Global) -> Result<WalkDirGeneric<((), ()), MemoryFs, NoProcess>, BuildError> {
     Ok(WalkDirGeneric::new(photos(alloc)?, root(alloc)?))
 }
 
-/// What is in it and not hidden, by name.
+/// The paths that aren't hidden, by name.
 const PATHS: &str =
     "photos\nphotos/2025\nphotos/2025/mountain.jpg\nphotos/2026\nphotos/2026/sea, north.jpg\n\
                      photos/2026/sea.jpg\nphotos/index.txt\n";
@@ -144,8 +141,8 @@ fn what_errors_are(rt: HostRuntime) -> anyhow::Result<()> {
     Ok(())
 }
 
-/// Makes a folder on the disk for the test of this name, with files, and returns its path. Each file has the folder
-/// that it is in, its name, and its text.
+/// Makes a folder on the disk for a test, and returns its path. The three texts of a file are the folder that it is in,
+/// its name and its contents.
 fn folder(rt: &HostRuntime, test: &str, files: &[[&str; 3]]) -> io::Result<String> {
     let temporary = env::temp_dir(rt)?;
     let temporary = temporary.as_path().as_str();
@@ -202,7 +199,7 @@ fn what_ignore_files_leave(rt: HostRuntime) -> anyhow::Result<()> {
     Ok(())
 }
 
-/// Writes when a file was written last, in seconds since 1970.
+/// The seconds are since 1970.
 fn set_written(rt: &HostRuntime, path: &str, seconds: u64) -> io::Result<()> {
     let Some(time) = UNIX_EPOCH.checked_add(Duration::from_secs(seconds)) else {
         return Err(io::Error::from(io::ErrorKind::InvalidInput));

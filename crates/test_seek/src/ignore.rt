@@ -1,4 +1,4 @@
-//! What ignore files say of paths and leave of trees, beside git's answers.
+//! The decisions of ignore files on paths and trees, compared with git's.
 mod always;
 mod by_crew;
 mod callback;

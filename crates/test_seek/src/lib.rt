@@ -1,4 +1,4 @@
-//! What ignore files say of paths and leave of trees, beside git's answers, and runs of the program `seek`.
+//! The decisions of ignore files on paths and trees, compared with git's, and runs of the program `seek`.
 #![tactic(auto)]
 
 #[cfg(test)]

@@ -1,11 +1,11 @@
-//! Which file is which, and how much of the disk it takes.
+//! The identity of files, and the room that they take on the disk.
 use crate::numbered::{Known, Numbered};
 use crate::runs::{Want, comes};
 use std::process::Abort;
 use test_fixtures::host::Host;
 use walk_text::tree::build_tree;
 
-/// A file with a name in each of two directories, one of which is on another device, and a file with a hole.
+/// A file with a name in each of two directories, of which one is on another device, and a file with a hole.
 pub(crate) const TREE: &str =
     "d /r\nd /r/b\nf 9 /r/b/x\nf 1 /r/b/own\nd /r/a\nf 9 /r/a/x\nf 100000 /r/hole\nd /r/c\nf 5 /r/c/y\n";
 
@@ -25,10 +25,9 @@ pub(crate) const KNOWN: &[Known] = &[
     ("/r/a/..", 1, 1, 2, 8),
 ];
 
-/// The words of a call, and the outcome.
 type Row = (&'static [&'static str], Want<'static>);
 
-/// Each row has its outcome, by one thread and by three.
+/// Asserts that each row has its outcome, with one thread and with three.
 fn all_come(rt: &(impl Abort + Host), rows: &[Row]) {
     for (words, want) in rows {
         for threads in &["-j1", "-j3"] {
@@ -124,7 +123,7 @@ fn one_file_system(rt: HostRuntime) {
             ("16384\t/r/b\n4096\t/r/a\n4096\t/r/c\n28672\t/r\n", "", 0),
         ),
         (
-            // What isn't read from the first root is counted as the second.
+            // Entries that aren't read from the first root are counted from the second.
             &["--plain", "-x", "-s", "-b", "/r", "/r/c"],
             ("28672\t/r\n8192\t/r/c\n", "", 0),
         ),

@@ -1,4 +1,4 @@
-//! What is left out: by lines of the call, and by files of rules.
+//! Entries that are left out: by the words of the call, and by files of rules.
 use crate::runs::{RulesFile, Want, comes_with};
 use std::process::Abort;
 use test_fixtures::host::Host;
@@ -14,10 +14,9 @@ const RULES: &[RulesFile] = &[
     ("/r/lib/.gitignore", "!keep.o\n"),
 ];
 
-/// The words of a call, and the outcome.
 type Row = (&'static [&'static str], Want<'static>);
 
-/// Each row has its outcome over the tree, by one thread and by three.
+/// Asserts that each row has its outcome over the tree, with one thread and with three.
 fn all_come(rt: &(impl Abort + Host), rows: &[Row]) {
     for (words, want) in rows {
         for threads in &["-j1", "-j3"] {

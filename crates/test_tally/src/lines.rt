@@ -111,7 +111,7 @@ fn links_are_counted_as_links_unless_they_are_followed(rt: HostRuntime) {
         (
             &["--plain", "-b", "--apparent", "/r/l"],
             LINKED,
-            // The link counts itself, and what is in the directory that it leads to.
+            // The link counts itself and everything in the directory that it leads to.
             ("8\t/r/l\n", "", 0),
         ),
     ];

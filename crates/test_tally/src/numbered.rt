@@ -1,4 +1,4 @@
-//! A tree on a disk that knows which file is which, and how much of it a file takes.
+//! A tree on a disk that knows the identity of files and the room that they take.
 ghost use Rattle.jwalk.specs.jwalk_model.Tree.{functions_of, only_root};
 
 use jwalk::file_system::{
@@ -8,17 +8,16 @@ use jwalk::path_text::join;
 use std::alloc::Allocator;
 use std::io;
 
-/// What the disk knows of a path: the path, its device and inode, how many names the file has, and its blocks.
+/// A path, its device and inode, the number of names of the file, and its blocks.
 pub(crate) type Known = (&'static str, u64, u64, u64, u64);
 
-/// A tree, with what is known of some of its paths.
+/// A tree, with the known details of some paths.
 #[derive(Drop)]
 pub(crate) struct Numbered {
     pub(crate) tree: MemoryFs,
     pub(crate) known: &'static [Known],
 }
 
-/// Returns metadata with what is known of a path.
 fn with_known(metadata: Metadata, (_, device, inode, links, blocks): &Known) -> Metadata {
     const NEVER: Moment = Moment {
         seconds: 0,
@@ -42,7 +41,7 @@ fn with_known(metadata: Metadata, (_, device, inode, links, blocks): &Known) -> 
 }
 
 impl Numbered {
-    /// Returns metadata of a path with what is known of it.
+    /// Leaves the metadata of an unknown path unchanged.
     fn told(&self, path: &str, metadata: Metadata) -> Metadata {
         for known in self.known {
             if known.0 == path {

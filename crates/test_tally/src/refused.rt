@@ -10,7 +10,7 @@ use test_fixtures::refusing_alloc::Refusing;
 use test_fixtures::width::Width;
 use walk_text::tree::build_tree;
 
-/// All of the tree, in blocks.
+/// The whole tree, in blocks.
 const OPTIONS: SubtotalOptions = SubtotalOptions {
     apparent: false,
     each_name: false,
@@ -18,7 +18,7 @@ const OPTIONS: SubtotalOptions = SubtotalOptions {
     max_depth: usize::MAX,
 };
 
-/// The entries by name, with the bytes at and below them.
+/// The entries by name, with the bytes at and below each.
 const ROWS: &[(&str, u128)] = &[
     ("x", 8192),
     ("a", 12288),
@@ -31,17 +31,17 @@ const ROWS: &[(&str, u128)] = &[
     ("r", 32768),
 ];
 
-/// Subtotals of the tree that are taken again and again: how many directories are read together.
+/// Subtotals of the tree that are taken again and again, with the number of directories that are read together.
 #[derive(Drop)]
 struct Play {
     disk: Numbered,
     width: Width,
 }
 
-/// What a call yielded of subtotals.
+/// The return of a call for subtotals.
 type Yielded<C, A> = Option<Result<WithSubtotal<C, A>, SubtotalError<A>>>;
 
-/// Returns whether an error reports that memory ran out, for the walk or for the subtotals.
+/// Memory may run out for the walk or for the subtotals.
 fn is_refusal<C: ClientState, A: Allocator + Copy>(yielded: &Yielded<C, A>) -> bool {
     match yielded {
         Some(Err(SubtotalError::Memory)) => true,
@@ -50,7 +50,6 @@ fn is_refusal<C: ClientState, A: Allocator + Copy>(yielded: &Yielded<C, A>) -> b
     }
 }
 
-/// Returns whether the subtotal of a row was yielded.
 fn is_row<C: ClientState, A: Allocator + Copy>(
     yielded: &Yielded<C, A>,
     (name, bytes): &(&str, u128),
@@ -61,7 +60,7 @@ fn is_row<C: ClientState, A: Allocator + Copy>(
     }
 }
 
-/// A beginning of the rows comes, and then one error; or all rows, and nothing more.
+/// The first rows come, and then one error, or all rows, and nothing more.
 impl Repeated for Play {
     fn comes(&self, _alloc: Global, memory: &Refusing<Global>) -> Came {
         let Ok(root) = String::from_str(memory, "/r") else {

@@ -9,14 +9,14 @@ use test_fixtures::host::Host;
 use test_fixtures::texts::texts;
 use walk_text::tree::build_tree;
 
-/// A tree of three directories, one file hidden.
+/// A tree of three directories. One file is hidden.
 pub(crate) const TREE_A: &str =
     "d /t\nf 1 /t/c.txt\nf 2 /t/a.txt\nd /t/group 2\nf 3 /t/group 2/.hidden_file.txt\nf 4 /t/group 2/e.txt\nd /t/group 1\nf 5 /t/group 1/d.txt\nf 6 /t/b.txt\n";
 
-/// What is written on standard output and on standard error, and the status.
+/// The standard output, the standard error and the status.
 pub(crate) type Want<'a> = (&'a str, &'a str, u8);
 
-/// The words of a call behind the program's name, the lines of a tree, and the outcome.
+/// The words of a call after the program's name, the lines of a tree, and the outcome.
 pub(crate) type Row<'a> = (&'a [&'a str], &'a str, Want<'a>);
 
 /// No terminal, and lines of 80 characters.
@@ -29,7 +29,6 @@ pub(crate) const FILE: Screen = Screen {
 /// A file of rules: its path, and its text.
 pub(crate) type RulesFile = (&'static str, &'static str);
 
-/// Returns these files, as texts.
 fn rules_of(alloc: Global, files: &[RulesFile]) -> Result<MemoryTexts, AllocError> {
     let mut rules = MemoryTexts::new(alloc);
     for (path, text) in files {
@@ -38,7 +37,7 @@ fn rules_of(alloc: Global, files: &[RulesFile]) -> Result<MemoryTexts, AllocErro
     Ok(rules)
 }
 
-/// Returns whether a call over a disk with these files of rules, by this many threads, has this outcome on a screen.
+/// Returns whether a call has this outcome on a screen. The option `threads` precedes its words.
 pub(crate) fn comes_on<S: FileSystem + Send + Sync + 'static>(
     rt: &impl Host,
     screen: Screen,
@@ -68,7 +67,7 @@ pub(crate) fn comes_on<S: FileSystem + Send + Sync + 'static>(
     out.as_slice() == want.0.as_bytes() && err.as_slice() == want.1.as_bytes() && status == want.2
 }
 
-/// Returns whether a call over a disk with these files of rules, by this many threads, has this outcome.
+/// Returns whether a call has this outcome. The option `threads` precedes its words.
 pub(crate) fn comes_with<S: FileSystem + Send + Sync + 'static>(
     rt: &impl Host,
     disk: (S, &[RulesFile]),
@@ -79,7 +78,7 @@ pub(crate) fn comes_with<S: FileSystem + Send + Sync + 'static>(
     comes_on(rt, FILE, disk, threads, words, want)
 }
 
-/// Returns whether a call over a disk without rules, by this many threads, has this outcome.
+/// Returns whether a call has this outcome over a disk without rules. The option `threads` precedes its words.
 pub(crate) fn comes<S: FileSystem + Send + Sync + 'static>(
     rt: &impl Host,
     disk: S,
@@ -90,7 +89,7 @@ pub(crate) fn comes<S: FileSystem + Send + Sync + 'static>(
     comes_with(rt, (disk, &[]), threads, words, want)
 }
 
-/// Returns the number of the first row whose outcome is another, by one thread or by three.
+/// Returns the number of the first row that is wrong, with one thread or with three.
 fn first_wrong(rt: &impl Host, rows: &[Row<'_>]) -> Option<usize> {
     for (number, (words, lines, want)) in rows.iter().enumerate() {
         for threads in &["-j1", "-j3"] {
@@ -106,7 +105,7 @@ fn first_wrong(rt: &impl Host, rows: &[Row<'_>]) -> Option<usize> {
     None
 }
 
-/// Each row has its outcome, by one thread and by three.
+/// Asserts that each row has its outcome, with one thread and with three.
 pub(crate) fn all_come(rt: &(impl Abort + Host), rows: &[Row<'_>]) {
     assert_eq!(rt; first_wrong(rt, rows), None);
 }

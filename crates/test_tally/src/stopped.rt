@@ -1,9 +1,9 @@
-//! Calls that end before their end.
+//! Calls that are stopped early.
 use crate::runs::{Want, comes};
 use test_fixtures::watched::{Failing, Watched};
 use walk_text::tree::build_tree;
 
-/// A directory behind others, for whose listing memory runs out.
+/// A directory after others, for whose listing memory runs out.
 const TREE: &str = "d /r\nd /r/a\nf 1 /r/a/x\nd /r/s\nf 2 /r/s/y\nf 3 /r/z\n";
 
 #[test]

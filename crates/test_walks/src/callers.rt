@@ -1,3 +1,3 @@
-//! Walks with states, and over a file system of one's own, by worked examples.
+//! Walks with states, and walks over a caller's own file system, by worked examples.
 mod callbacks;
 mod walks;

@@ -5,10 +5,8 @@ use test_fixtures::answers::{Answer, are_lines};
 use test_fixtures::builders::over_tree;
 use test_fixtures::trees::SMALL;
 
-/// The lines of the small tree.
 const WHOLE: &str = "0 d /r; 1 f /r/b; 1 d /r/s; 2 f /r/s/x; 1 f /r/a";
 
-/// Appends the answers of a walk over it.
 fn append(alloc: Global, found: &mut Vec<Answer>) -> Result<(), BuildError> {
     Ok(over_tree(alloc, SMALL, "/r")?.collect_into(found)?)
 }

@@ -9,7 +9,6 @@ use test_fixtures::answers::Answer;
 use test_fixtures::builders::builder;
 use test_fixtures::ways::all_of;
 
-/// What of a file system fails.
 #[derive(Clone, Copy)]
 enum Failing {
     Item,
@@ -18,7 +17,6 @@ enum Failing {
     Root,
 }
 
-/// A directory of one item, where something fails.
 #[derive(Drop)]
 struct Telling {
     failing: Failing,
@@ -85,7 +83,7 @@ impl FileSystem for Telling {
     }
 }
 
-/// The file system's error that an answer reports, or that an entry's directory has.
+/// The error may be the answer itself, or that of an entry's directory.
 fn io_error_of(answer: &Answer) -> Option<&io::Error> {
     match answer {
         Ok(entry) => entry.read_children.as_ref()?.error()?.io_error(),
@@ -93,7 +91,6 @@ fn io_error_of(answer: &Answer) -> Option<&io::Error> {
     }
 }
 
-/// Whether a walk reports the text of the one error that it meets.
 fn is_told(alloc: Global, failing: Failing) -> Result<bool, AllocError> {
     let text = "block 17 can't be read";
     let walk = builder(alloc, Telling { failing, text }, "/d")?;

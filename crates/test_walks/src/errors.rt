@@ -9,12 +9,11 @@ use test_fixtures::listed_directory::{Item, ListedDirectory};
 use test_fixtures::trees::{DENIED, LOOPED, Step, tree};
 use test_fixtures::watched::{Failing, Watched};
 
-/// The last answer of a walk, if there is one.
 fn last<S: FileSystem>(walk: Builder<S>) -> Option<Answer> {
     walk.into_iter().last()
 }
 
-/// Whether an error has this kind and this text, and is printed as the text.
+/// The error must also be printed as this text.
 fn tells(alloc: Global, error: &Error, kind: ErrorKind, text: &str) -> bool {
     match (error.kind_and_text(alloc), error.to_string(alloc)) {
         (Ok((found, told)), Ok(printed)) => {
@@ -24,7 +23,7 @@ fn tells(alloc: Global, error: &Error, kind: ErrorKind, text: &str) -> bool {
     }
 }
 
-/// Whether an error of this kind, which a file system returned, has this text and then its own.
+/// The text is `lead`, followed by the text of the file system's own error.
 fn tells_own(alloc: Global, error: &Error, kind: ErrorKind, lead: &str) -> Option<bool> {
     let err = error.io_error()?;
     let text = format!(in alloc; "{lead}{err}").ok()?;
@@ -35,15 +34,14 @@ fn is_at(error: &Error, depth: usize, path: Option<&str>) -> bool {
     error.depth() == depth && error.path() == path
 }
 
-/// The kind of the error that a file system returned.
+/// Returns `None` if the error isn't a file system's.
 fn kind_of(error: Error) -> Option<ErrorKind> {
     Some(error.into_io_error()?.kind())
 }
 
-/// What is said of the loop in the looped tree.
+/// The text of the loop in the looped tree.
 const LOOP_TEXT: &str = "File system loop found: /r/a/b/c/a-link points to an ancestor /r/a";
 
-/// Whether a walk that follows the link reports the loop.
 fn tells_of_the_loop(alloc: Global) -> Option<bool> {
     let error = last(over_tree(alloc, LOOPED, "/r").ok()?.follow_links(true))?.err()?;
     Some(tells(alloc, &error, ErrorKind::Other, LOOP_TEXT) && kind_of(error).is_none())
@@ -54,7 +52,7 @@ fn a_loop_tells_of_the_link_and_of_the_ancestor(rt: HostRuntime) {
     assert!(rt; tells_of_the_loop(rt.alloc()) == Some(true));
 }
 
-/// Whether the entry of the directory that may not be listed has the error of that.
+/// The error is that of the entry's directory.
 fn meets_denied(alloc: Global) -> Option<bool> {
     let entry = last(over_tree(alloc, DENIED, "/t").ok()?.sort(true))?.ok()?;
     let error = entry.read_children_error()?;
@@ -68,7 +66,6 @@ fn a_failed_reading_has_its_directorys_depth_and_path(rt: HostRuntime) {
     assert!(rt; meets_denied(rt.alloc()) == Some(true));
 }
 
-/// The error of an item that could not be read.
 fn unread(alloc: Global, kind: ErrorKind) -> Option<Error> {
     let fs = ListedDirectory {
         path: "/d",
@@ -79,7 +76,7 @@ fn unread(alloc: Global, kind: ErrorKind) -> Option<Error> {
     last(builder(alloc, fs, "/d").ok()?)?.err()
 }
 
-/// Whether an item that could not be read has its own text, and no path.
+/// The error has no path, and the item's own text alone.
 fn tells_of_the_unread(alloc: Global, kind: ErrorKind) -> Option<bool> {
     let error = unread(alloc, kind)?;
     let is_told = is_at(&error, 1, None) && tells_own(alloc, &error, kind, "")?;
@@ -91,7 +88,7 @@ fn an_error_without_a_path_tells_its_own_text(rt: HostRuntime) {
     assert!(rt; tells_of_the_unread(rt.alloc(), ErrorKind::InvalidData) == Some(true));
 }
 
-/// Whether an error has nothing but its text.
+/// The error has neither a path nor a cause.
 fn is_bare(alloc: Global, error: &Error, text: &str) -> bool {
     is_at(error, 0, None)
         && error.loop_ancestor().is_none()
@@ -99,7 +96,7 @@ fn is_bare(alloc: Global, error: &Error, text: &str) -> bool {
         && tells(alloc, error, ErrorKind::Other, text)
 }
 
-/// Whether an error has nothing but its text and its cause: a busy crew, memory that ran out, or a lost reading.
+/// The three are a busy crew, memory that ran out, and a lost reading.
 fn has_cause(alloc: Global, error: Error, text: &str, wanted: (bool, bool, bool)) -> bool {
     is_bare(alloc, &error, text) && (error.is_busy(), error.is_memory(), error.is_lost()) == wanted
 }
@@ -116,7 +113,7 @@ fn errors_of_a_crew_and_of_memory(rt: HostRuntime) {
     assert!(rt; is_busy && is_memory && is_lost);
 }
 
-/// How many bytes the paths of a walk have; the first error ends it.
+/// The first error ends the walk.
 fn bytes_of<S: FileSystem>(walk: Builder<S>) -> anyhow::Result<usize> {
     let mut bytes: usize = 0;
     for answer in walk {
@@ -125,12 +122,10 @@ fn bytes_of<S: FileSystem>(walk: Builder<S>) -> anyhow::Result<usize> {
     Ok(bytes)
 }
 
-/// How many bytes the paths of the looped tree have.
 fn looped_bytes(alloc: Global, follow: bool) -> anyhow::Result<usize> {
     bytes_of(over_tree(alloc, LOOPED, "/r")?.follow_links(follow))
 }
 
-/// The text of the error that ends a walk through the loop.
 fn loop_text(alloc: Global) -> Option<String> {
     looped_bytes(alloc, true).err()?.to_string(alloc).ok()
 }
@@ -149,8 +144,8 @@ const LINKED_FILE: &[Step] = &[
     Step::Link("f", "/r/l"),
 ];
 
-/// What the entry of the link says of its metadata over another file system; or the entry of the file, if a walk
-/// follows the link.
+/// Returns the metadata that the link's entry asks of another file system. Where links are followed, the entry is the
+/// file's.
 fn link_metadata(
     alloc: Global,
     follow: bool,
@@ -162,7 +157,7 @@ fn link_metadata(
     Some(entry.metadata(&Watched::new(fs, failing)))
 }
 
-/// The metadata of the link, or of the file if a walk follows it.
+/// Returns the metadata of the link, or of the file where links are followed.
 fn metadata(alloc: Global, follow: bool) -> Option<Metadata> {
     link_metadata(
         alloc,
@@ -173,7 +168,7 @@ fn metadata(alloc: Global, follow: bool) -> Option<Metadata> {
     .ok()
 }
 
-// An unfollowed link has its own metadata, a followed one those of the file that it leads to.
+// An unfollowed link has its own metadata. A followed link has that of the file that it leads to.
 #[test]
 fn metadata_through_the_wrong_call(rt: HostRuntime) {
     let link = metadata(rt.alloc(), false);
@@ -183,7 +178,7 @@ fn metadata_through_the_wrong_call(rt: HostRuntime) {
     assert!(rt; is_link && is_file);
 }
 
-/// Whether the link's metadata is not found once the link is removed.
+/// The link is removed before its entry is asked.
 fn is_gone(alloc: Global) -> Option<bool> {
     let mut fs = tree(alloc, LINKED_FILE).ok()?;
     fs.remove("/r/l").ok()?;
@@ -196,7 +191,7 @@ fn the_metadata_of_what_is_gone(rt: HostRuntime) {
     assert!(rt; is_gone(rt.alloc()) == Some(true));
 }
 
-/// The error of the link's metadata if memory runs out for it.
+/// Memory runs out for the metadata.
 fn refused_metadata(alloc: Global) -> Option<Error> {
     let fs = tree(alloc, LINKED_FILE).ok()?;
     link_metadata(alloc, false, fs, Failing::MetadataForMemory("/r/l"))?.err()
@@ -209,7 +204,7 @@ fn the_metadata_where_memory_is_refused(rt: HostRuntime) {
     assert!(rt; matches!(&error, Some(error) if is_bare(rt.alloc(), error, text)));
 }
 
-/// The entry of an empty root and an error, as `Debug` shows them.
+/// Shows the entry of an empty root, and an error.
 fn shown(alloc: Global) -> Option<String> {
     let entry = last(over_tree(alloc, &[Step::Dir("/r")], "/r").ok()?)?.ok();
     let answers = (entry, Error::<Global>::lost());

@@ -13,10 +13,9 @@ use test_fixtures::trees::{GROUPED, Step, tree};
 use test_fixtures::watched::{Failing, Watched};
 use test_fixtures::ways::{Asked, Setting, WAYS, Way};
 
-/// States of which an entry's is its size.
+/// The state of an entry is its size.
 type States = ((), Size);
 
-/// Adds the path of an entry and its size to a text.
 fn push_size(text: &mut String, entry: &DirEntry<States>) -> Result<(), AllocError> {
     let path = entry.path()?;
     match entry.client_state {
@@ -26,7 +25,7 @@ fn push_size(text: &mut String, entry: &DirEntry<States>) -> Result<(), AllocErr
     }
 }
 
-/// The paths of entries, each with its size, and a mark for each error.
+/// Errors are marks in place of a path.
 fn sizes_of(alloc: Global, found: &[Answer<States>]) -> Result<String, AllocError> {
     let mut text = String::new(alloc);
     for answer in found {
@@ -39,8 +38,7 @@ fn sizes_of(alloc: Global, found: &[Answer<States>]) -> Result<String, AllocErro
     Ok(text)
 }
 
-/// What a `for` loop yields over a walk by name that asks another file system for sizes, whose links are followed or
-/// not.
+/// Walks by name in a `for` loop, and asks another file system for the sizes.
 fn walked<S: FileSystem, T: FileSystem>(
     alloc: Global,
     fs: S,
@@ -60,11 +58,9 @@ fn walked<S: FileSystem, T: FileSystem>(
     sizes_of(alloc, found.as_slice())
 }
 
-/// The sizes in the grouped tree.
 const GROUPED_SIZES: &str = "/t -; /t/a.txt 2; /t/b.txt 6; /t/c.txt 1; /t/group 1 -; \
                              /t/group 1/d.txt 5; /t/group 2 -; /t/group 2/e.txt 4; ";
 
-/// Whether these are the sizes of a walk by name over the grouped tree, read in this way.
 fn is_sized<R: Threads + AllocGlobal + Sync>(
     rt: &R,
     fs: &MemoryFs,
@@ -87,7 +83,6 @@ fn files_with_their_sizes(rt: HostRuntime) {
     }
 }
 
-/// The sizes that a crew of that many workers finds.
 fn sized_by_crew<R: Host, S: FileSystem + Send + Sync + 'static>(
     rt: &R,
     fs: S,
@@ -114,7 +109,7 @@ fn sized_by_crew<R: Host, S: FileSystem + Send + Sync + 'static>(
     }
 }
 
-// Where the thread that takes the answers asks for sizes, the first of the two files is an error.
+// If the thread that takes the answers asked for the sizes, the first of the two files would be an error.
 #[test]
 fn two_workers_ask_for_sizes_at_the_same_time(rt: HostRuntime) -> Result<(), AllocError> {
     let disk = Meeting::new(rt.clone()?, Place::Looks, 5_000);
@@ -137,8 +132,7 @@ fn one_worker_asks_for_one_size_at_a_time(rt: HostRuntime) -> Result<(), AllocEr
     Ok(())
 }
 
-/// Whether these are the sizes of a walk over a tree, where links are followed or not, and another tree is asked for
-/// sizes, which may fail.
+/// The sizes are asked of another tree, which may fail.
 fn shows(
     alloc: Global,
     walk: (&[Step], &str, bool),

@@ -1,12 +1,11 @@
-//! What each getter of each entry returns.
+//! The returns of each getter of each entry.
 use jwalk::file_system::BuildError;
 use std::alloc::{AllocError, Global};
 use test_fixtures::answers::{Answer, letter};
 use test_fixtures::builders::{Entry, in_a_for_loop, over_tree};
 use test_fixtures::trees::{SMALL, Step};
 
-/// Adds what the getters of an entry return to a text: depth, name, parent, the letter of its type, and `+` if it has a
-/// directory to be read.
+/// The text is the depth, the name, the parent, the letter of the type, and `+` for a directory to be read.
 fn push_getters(text: &mut String, entry: &Entry) -> Result<(), AllocError> {
     let depth = entry.depth();
     let name = entry.file_name();
@@ -20,7 +19,7 @@ fn push_getters(text: &mut String, entry: &Entry) -> Result<(), AllocError> {
     write!(text, "{depth} {name} in {parent} {letter}{mark}")
 }
 
-/// Adds the getters of an answer to a text, in which answers are separated by `; `.
+/// A `; ` separates the answers.
 fn push_answer(text: &mut String, answer: &Answer) -> Result<(), AllocError> {
     if !text.is_empty() {
         text.push_str("; ")?;
@@ -31,14 +30,12 @@ fn push_answer(text: &mut String, answer: &Answer) -> Result<(), AllocError> {
     }
 }
 
-/// A walk with the default options, and the getters of its entries.
 struct Row {
     steps: &'static [Step],
     root: &'static str,
     getters: &'static str,
 }
 
-/// Whether these are the getters.
 fn holds(alloc: Global, row: &Row) -> Result<bool, BuildError> {
     let found = in_a_for_loop(alloc, over_tree(alloc, row.steps, row.root)?)?;
     let mut text = String::new(alloc);
@@ -56,7 +53,7 @@ fn each_getter_of_each_entry(rt: HostRuntime) {
             root: "/r",
             getters: "0 r in / d+; 1 b in /r f; 1 s in /r d+; 2 x in /r/s f; 1 a in /r f",
         },
-        // Roots without a file name: such a root is its own name, below an empty path.
+        // Roots without a file name. Such a root is its own name, below an empty path.
         Row {
             steps: &[Step::Dir("/r")],
             root: ".",

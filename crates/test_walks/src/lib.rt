@@ -1,5 +1,5 @@
-//! What walks and their readings yield, by worked examples, and what their callers meet: states, `for` loops, getters, errors
-//! and their texts, sizes of files, walks of size, and totals.
+//! The answers of walks and of their readings, by worked examples, and the cases of their callers: states, `for` loops,
+//! getters, errors and their texts, sizes of files, walks of size, and totals.
 #![tactic(auto)]
 
 #[cfg(test)]

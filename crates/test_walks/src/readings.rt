@@ -8,12 +8,12 @@ use std::alloc::{AllocError, Global};
 use test_fixtures::trees::{GROUPED, tree};
 use test_fixtures::watched::{Failing, Watched};
 
-/// A state that is a text.
+/// The state of a directory is a text.
 type Noted = (Option<String>, ());
 
 type Items = Vec<Result<DirEntry<Noted>, Error>>;
 
-/// Leaves the names of each list in the state.
+/// A callback that leaves the names of each list in the state.
 #[derive(Drop)]
 struct NotesNames;
 
@@ -45,7 +45,6 @@ impl ProcessReadDir<Noted, Global> for NotesNames {
     }
 }
 
-// The specification of the root that a job begins with.
 fn root_spec<C: ClientState, S: FileSystem, P: ProcessReadDir<C, Global>>(
     job: &Job<C, S, P>,
 ) -> Option<ReadDirSpec<C>>
@@ -55,7 +54,6 @@ fn root_spec<C: ClientState, S: FileSystem, P: ProcessReadDir<C, Global>>(
     list.read_children_specs().ok()?.pop()
 }
 
-// The specifications of the directories in a directory.
 fn specs_in<C: ClientState, S: FileSystem, P: ProcessReadDir<C, Global>>(
     job: &Job<C, S, P>,
     of: &ReadDirSpec<C>,
@@ -78,14 +76,13 @@ fn are_groups(specs: &[ReadDirSpec<Noted>]) -> bool {
     }
 }
 
-/// Whether the root is the one that was named, and its directories are the two groups.
+/// The root must have the path that was named.
 fn has_groups<S: FileSystem>(job: &Job<Noted, S, NotesNames>) -> Option<bool> {
     let root = root_spec(job)?;
     let specs = specs_in(job, &root)?;
     Some(root.path.as_str() == "/t" && are_groups(specs.as_slice()))
 }
 
-/// Whether the root of the grouped tree has the two groups.
 fn tree_has_groups(alloc: Global) -> Option<bool> {
     let fs = tree(alloc, GROUPED).ok()?;
     has_groups(&Job::new(alloc, fs, NotesNames, Options::new()))
@@ -96,10 +93,8 @@ fn a_reading_has_its_items_and_directories_in_order(rt: HostRuntime) {
     assert!(rt; tree_has_groups(rt.alloc()) == Some(true));
 }
 
-/// A reading without a callback.
 type Plain<S> = Job<((), ()), S, NoProcess>;
 
-/// A reading as far as this depth.
 fn plain<S: FileSystem>(alloc: Global, fs: S, max_depth: usize) -> Plain<S> {
     Job::new(
         alloc,
@@ -109,13 +104,13 @@ fn plain<S: FileSystem>(alloc: Global, fs: S, max_depth: usize) -> Plain<S> {
     )
 }
 
-// How many directories the root has, as far as a job reads.
+// Counts the directories that the job would read.
 fn directories<S: FileSystem>(job: &Plain<S>) -> Option<usize> {
     let root = root_spec(job)?;
     Some(specs_in(job, &root)?.len())
 }
 
-/// How many directories the root has at the greatest depth, and how many listings were asked for.
+/// Returns also how many listings were asked for.
 fn directories_and_lists(alloc: Global) -> Option<(usize, usize)> {
     let fs = Watched::new(tree(alloc, GROUPED).ok()?, Failing::Never);
     let found = directories(&plain(alloc, &fs, 0))?;
@@ -127,7 +122,7 @@ fn nothing_is_read_at_the_greatest_depth(rt: HostRuntime) {
     assert!(rt; directories_and_lists(rt.alloc()) == Some((0, 0)));
 }
 
-/// The root's entry, if it comes alone.
+/// Returns `None` unless the entry is alone in its list.
 fn root_of<S: FileSystem>(job: &Plain<S>) -> Option<DirEntry<((), ())>> {
     let read = job.root_list("/t", ()).ok()?;
     if read.results_list().len() != 1 {
@@ -136,13 +131,11 @@ fn root_of<S: FileSystem>(job: &Plain<S>) -> Option<DirEntry<((), ())>> {
     read.into_results_list().pop()?.ok()
 }
 
-/// The entry of the root of the grouped tree.
 fn root_of_the_grouped_tree(alloc: Global) -> Option<DirEntry<((), ())>> {
     let fs = tree(alloc, GROUPED).ok()?;
     root_of(&plain(alloc, fs, usize::MAX))
 }
 
-/// The path of that entry.
 fn root_path(alloc: Global) -> Option<String> {
     root_of_the_grouped_tree(alloc)?.path().ok()
 }
@@ -152,13 +145,12 @@ fn a_reading_gives_its_list_out(rt: HostRuntime) {
     assert!(rt; root_path(rt.alloc()).as_deref() == Some("/t"));
 }
 
-/// Whether an entry's directory has the error that reports that memory ran out, and nothing else.
+/// The error must be that of memory that ran out, without a depth or a path.
 fn holds_memory(entry: &DirEntry<((), ())>) -> Option<bool> {
     let error = entry.read_children.as_ref()?.error()?;
     Some(error.is_memory() && error.depth() == 0 && error.path().is_none())
 }
 
-/// Whether the root's entry, which is given an error, has it.
 fn holds_error(alloc: Global) -> Option<bool> {
     let failed = root_of_the_grouped_tree(alloc)?
         .with_error(Error::memory())

@@ -1,4 +1,4 @@
-//! Walks over trees of size.
+//! Walks over large trees.
 use crate::wide::{FILES, name, scrambled, wide_directory};
 use jwalk::file_system::{BuildError, FileSystem, MemoryFs};
 use std::alloc::{AllocError, Global};
@@ -6,7 +6,7 @@ use test_fixtures::answers::{Answer, are_lines};
 use test_fixtures::builders::{Builder, builder};
 use test_fixtures::watched::{Failing, Watched};
 
-/// The outcome of that many calls for the next answer.
+/// Collects the outcome of a number of calls of `next`.
 fn called<S: FileSystem>(
     alloc: Global,
     walk: Builder<S>,
@@ -22,7 +22,7 @@ fn called<S: FileSystem>(
     Ok(found)
 }
 
-/// The lines of the wide directory and of all its files, by name or as they were made.
+/// The files are by name, or in the order in which they were made.
 fn wide_lines(alloc: Global, by_name: bool) -> Result<String, AllocError> {
     let mut lines = String::from_str(alloc, "0 d /d")?;
     for place in 0..FILES {
@@ -32,7 +32,7 @@ fn wide_lines(alloc: Global, by_name: bool) -> Result<String, AllocError> {
     Ok(lines)
 }
 
-/// A walk has the directory and all its files, of one listing, and nothing after them.
+/// The directory must be listed once, and nothing may follow its files.
 fn has_all_files(alloc: Global, by_name: bool) -> Result<bool, BuildError> {
     let fs = Watched::new(wide_directory(alloc)?, Failing::Never);
     let walk = builder(alloc, &fs, "/d")?.sort(by_name);
@@ -51,7 +51,7 @@ fn many_files_by_name(rt: HostRuntime) {
     assert!(rt; matches!(has_all_files(rt.alloc(), true), Ok(true)));
 }
 
-/// How many answers of a walk a call for all appends and a second one, and how many are there then.
+/// Returns how many answers a first and a second call for all append, and how many there are at last.
 fn filled<S: FileSystem>(
     alloc: Global,
     walk: Builder<S>,
@@ -63,7 +63,6 @@ fn filled<S: FileSystem>(
     Ok((first, second, found.len()))
 }
 
-/// The same for the wide directory.
 fn filled_from_wide(alloc: Global) -> Result<(usize, usize, usize), BuildError> {
     Ok(filled(alloc, builder(alloc, wide_directory(alloc)?, "/d")?)?)
 }
@@ -73,7 +72,7 @@ fn all_answers_by_one_call(rt: HostRuntime) {
     assert!(rt; matches!(filled_from_wide(rt.alloc()), Ok((5_001, 0, 5_001))));
 }
 
-/// A directory in a directory, and so on, down to a depth of 30 below the first.
+/// Each directory has one directory, down to a depth of 30.
 fn chain(alloc: Global) -> Result<MemoryFs, BuildError> {
     let mut fs = MemoryFs::new(alloc);
     let mut path = String::new(alloc);
@@ -84,7 +83,7 @@ fn chain(alloc: Global) -> Result<MemoryFs, BuildError> {
     Ok(fs)
 }
 
-/// Whether these are entries that are deeper and deeper.
+/// The depth of each entry must be its number.
 fn go_down(found: &[Answer]) -> bool {
     for (depth, answer) in found.iter().enumerate() {
         if !matches!(answer, Ok(entry) if entry.depth() == depth) {
@@ -94,7 +93,7 @@ fn go_down(found: &[Answer]) -> bool {
     true
 }
 
-/// A walk goes down the chain, and lists each directory once.
+/// Each directory must be listed once.
 fn goes_down_once(alloc: Global) -> Result<bool, BuildError> {
     let fs = Watched::new(chain(alloc)?, Failing::Never);
     let walk = builder(alloc, &fs, "/c")?;

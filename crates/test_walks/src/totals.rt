@@ -9,7 +9,7 @@ use test_fixtures::answers::Answer;
 use test_fixtures::trees::{GROUPED, tree};
 use test_fixtures::watched::{Failing, Watched};
 
-/// The totals of the grouped tree: five files that aren't hidden.
+/// The totals of the grouped tree, which has five files that aren't hidden.
 const WHOLE: Usage = Usage {
     files: 5,
     dirs: 3,
@@ -26,20 +26,20 @@ fn a_sum_past_the_greatest_number_is_too_many(rt: HostRuntime) {
     assert_eq!(rt; plus(u128::MAX, 0), Ok(u128::MAX));
 }
 
-/// When files are asked for their sizes.
+/// The time at which files are asked for their sizes.
 #[derive(Clone, Copy)]
 enum Asking {
-    /// By `usage`, when it counts them.
+    /// When `usage` counts them.
     Counted,
-    /// By the callback `WithSizes`, when their directory is read.
+    /// When the callback `WithSizes` reads their directory.
     Read,
-    /// Not at all: their entries keep what the listing of their directory said.
+    /// Never: the entries keep the metadata of the listing.
     Kept,
-    /// By `usage`, which asks none that keeps its metadata.
+    /// When `usage` counts them, unless the entry keeps its metadata.
     KeptAndCounted,
 }
 
-/// A walk that isn't begun, and what is asked for the sizes of its files.
+/// A walk that has not begun, and the file system that is asked for sizes.
 #[derive(Drop)]
 struct Asked<'a, S: FileSystem> {
     root: &'a str,
@@ -49,7 +49,6 @@ struct Asked<'a, S: FileSystem> {
 }
 
 impl<'a, S: FileSystem> Asked<'a, S> {
-    /// The walk with these states.
     fn builder<C: ClientState>(
         &self,
         alloc: Global,
@@ -58,14 +57,14 @@ impl<'a, S: FileSystem> Asked<'a, S> {
         Ok(WalkDirGeneric::new(self.fs, root).min_depth(self.min_depth))
     }
 
-    /// Its totals, where each file is asked for its size when it is read.
+    /// Each file is asked for its size when its directory is read.
     fn read(&self, alloc: Global) -> Result<Result<Usage, UsageFault>, AllocError> {
         let walk = self.builder::<((), Size)>(alloc)?;
         let walk = walk.process_read_dir(WithSizes::new(self.sizes));
         Ok(usage_sized(walk.into_iter()))
     }
 
-    /// Its totals, where no file is asked when it is read.
+    /// No file is asked for its size when its directory is read.
     fn counted(
         &self,
         alloc: Global,
@@ -83,7 +82,6 @@ impl<'a, S: FileSystem> Asked<'a, S> {
         })
     }
 
-    /// Its totals.
     fn totals(
         &self,
         alloc: Global,
@@ -98,7 +96,7 @@ impl<'a, S: FileSystem> Asked<'a, S> {
     }
 }
 
-/// The totals of a walk from a root and a least depth, whose file system is asked for sizes.
+/// The same file system is read and asked for sizes.
 fn totals_from(
     alloc: Global,
     fs: &Watched,
@@ -115,7 +113,7 @@ fn totals_from(
     asked.totals(alloc, asking)
 }
 
-/// Whether these are the totals of a walk over the grouped tree that fails so, whenever files are asked.
+/// The files are asked for their sizes, when counted or when read.
 fn has_totals(
     alloc: Global,
     failing: Failing,
@@ -141,7 +139,7 @@ fn totals_of_a_walk_or_that_memory_ran_out(rt: HostRuntime) {
     }
 }
 
-/// The totals of a walk over the grouped tree from a root and a least depth, counted in both ways.
+/// The files are asked for their sizes when counted, and when read.
 fn counted_twice(
     alloc: Global,
     root: &str,
@@ -175,7 +173,7 @@ fn one_walk_counted_in_both_ways(rt: HostRuntime) {
     }
 }
 
-/// Whether these are the totals of a walk over the grouped tree where no file is found any more, in two ways of asking.
+/// The files are gone when they are asked for their sizes.
 fn has_totals_of_missing(
     alloc: Global,
     ways: [Asking; 2],
@@ -213,7 +211,7 @@ fn files_that_keep_metadata_are_not_asked(rt: HostRuntime) {
     assert!(rt; matches!(has_totals_of_missing(rt.alloc(), ways, WHOLE), Ok(true)));
 }
 
-/// Whether an iterator that is lent is left where the counting ended: behind the error that says that memory ran out.
+/// The iterator must be left behind the error of memory that ran out, which ends the count.
 fn leaves_the_rest(alloc: Global) -> Result<bool, AllocError> {
     let answers: [Answer; 3] = [
         Err(jwalk::Error::busy()),

@@ -1,11 +1,10 @@
-//! Walks over trees in memory, and what they return.
+//! Counts and paths of walks over trees in memory.
 use jwalk::file_system::{BuildError, MemoryFs};
 use jwalk::{WalkDirGeneric, path_text};
 use std::alloc::Global;
 use test_fixtures::builders::over_tree;
 use test_fixtures::trees::SMALL;
 
-/// How many answers a walk over the small tree has.
 fn count(alloc: Global) -> Result<usize, BuildError> {
     Ok(over_tree(alloc, SMALL, "/r")?.into_iter().count())
 }
@@ -15,7 +14,7 @@ fn a_walk_counted(rt: HostRuntime) {
     assert!(rt; matches!(count(rt.alloc()), Ok(5)));
 }
 
-/// The paths of a walk over a tree that is built here, one on each line.
+/// The paths are one on each line.
 fn paths_in_memory(alloc: Global) -> anyhow::Result<String> {
     let mut text = String::new(alloc);
     // begin tree-in-memory

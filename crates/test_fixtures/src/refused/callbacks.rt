@@ -10,22 +10,22 @@ use jwalk::DirEntry;
 use jwalk::read_dir::ProcessReadDir;
 use std::alloc::{AllocError, Allocator};
 
-/// States that are texts, or none: a directory's and an entry's.
+/// The states of a directory and of an entry are texts, or none.
 pub type Texts<A> = (Option<String<A>>, Option<String<A>>);
 
-/// What a directory holds whose states are texts.
+/// The list of a directory whose states are texts.
 type List<A> = Vec<Given<Texts<A>, A>, A>;
 
-/// What a walk's callback does with each list.
+/// A callback's change to each list.
 #[derive(Clone, Copy)]
 pub enum Callback {
-    /// It moves the directory of `group 1` to `c.txt`, both in `/t`.
+    /// Moves the directory of `group 1` to `c.txt`, both in `/t`.
     MovesGroup,
-    /// It keeps the entries that have a directory. Each gets the list's state, and its directory the entry's name.
+    /// Keeps the entries that have a directory. Each gets the list's state, and its directory the entry's name.
     HandsOnNames,
 }
 
-/// Gives an entry its list's state, and its name to its directory.
+/// The entry gets the list's state, and its directory the entry's name.
 fn hand_on<A: Allocator + Copy>(
     entry: &mut DirEntry<Texts<A>, A>,
     state: &Option<String<A>>,
@@ -37,7 +37,7 @@ fn hand_on<A: Allocator + Copy>(
     Ok(())
 }
 
-/// Drops the entries that have no directory, and hands names on to the directories of the others.
+/// Drops the entries that have no directory first.
 fn hand_on_names<A: Allocator + Copy>(
     state: &Option<String<A>>,
     list: &mut List<A>,
@@ -51,7 +51,6 @@ fn hand_on_names<A: Allocator + Copy>(
     Ok(())
 }
 
-/// The depth of the entries of a directory of this depth, or of the root.
 fn depth_below(depth: Option<usize>) -> usize
     requires { list_depth depth < 2 ^ 64 }
     ensures { result ≡ list_depth depth }
@@ -62,7 +61,6 @@ fn depth_below(depth: Option<usize>) -> usize
     }
 }
 
-/// Whether an item is an error or an entry at this depth.
 fn is_at<A: Allocator + Copy>(depth: usize, found: &Given<Texts<A>, A>) -> bool
     ensures { result ≡ true → AtDepth depth (item found.now ∷ []) }
 {
@@ -72,7 +70,6 @@ fn is_at<A: Allocator + Copy>(depth: usize, found: &Given<Texts<A>, A>) -> bool
     }
 }
 
-/// Drops the entries at other depths.
 fn keep_depth<A: Allocator + Copy>(depth: usize, list: &mut List<A>)
     ensures { AtDepth depth (map item list.new.items) }
 {

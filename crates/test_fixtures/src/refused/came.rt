@@ -1,4 +1,4 @@
-//! How walks come out.
+//! The outcomes of walks.
 ghost use Rattle.std.specs.Prelude.{IfOk};
 ghost use Rattle.jwalk.specs.DirEntryIter.{job_of};
 ghost use Rattle.jwalk.specs.WalkDir.{callback_of};
@@ -11,18 +11,18 @@ use jwalk::read_dir::ProcessReadDir;
 use jwalk::{ClientState, DirEntryIter, Error, Readers, WalkDirGeneric};
 use std::alloc::{Allocator, Global};
 
-/// How a walk came out.
+/// The outcome of a walk.
 #[derive(Clone, Copy, PartialEq, Eq)]
 pub enum Came {
-    /// All its answers came.
+    /// All answers came.
     Whole,
-    /// That many of its answers came, from the first on, and then one error that reports that memory ran out.
+    /// This number of its answers came, from the first on, and then the error that memory ran out.
     Refused(usize),
-    /// It came otherwise.
+    /// Anything else.
     Wrong,
 }
 
-/// How a walk's answers are taken.
+/// The way to take a walk's answers.
 #[derive(Clone, Copy, PartialEq, Eq)]
 pub enum Taken {
     /// Begun by `try_into_iter`, one after another.
@@ -33,10 +33,10 @@ pub enum Taken {
     Filled,
 }
 
-/// Each way to take them.
+/// All ways to take the answers.
 pub const TAKEN: &[Taken] = &[Taken::Tried, Taken::Begun, Taken::Filled];
 
-/// Each number of directories that are read together, with each way to take the answers.
+/// All numbers of directories that are read together, with all ways to take the answers.
 pub const WAYS: &[(Width, Taken)] = &[
     (Width::Serial, Taken::Tried),
     (Width::Serial, Taken::Begun),
@@ -52,7 +52,7 @@ pub const WAYS: &[(Width, Taken)] = &[
     (Width::Batches(8), Taken::Filled),
 ];
 
-/// What came if nothing follows, and that something is wrong if anything does.
+/// Returns `came` if nothing follows, and else that it is wrong.
 pub(crate) fn if_over<
     C: ClientState,
     S: FileSystem,
@@ -70,7 +70,7 @@ pub(crate) fn if_over<
     }
 }
 
-/// How a walk goes on that is to yield these lines, after that many that came before.
+/// The walk must yield these lines, after `before` of them.
 pub(crate) fn goes_on<
     C: ClientState,
     S: FileSystem,
@@ -93,7 +93,7 @@ where
     if_over(walk, Came::Whole)
 }
 
-/// Returns how a walk under way goes that is to yield these lines, taken one after another.
+/// Returns the outcome of a walk under way that must yield these lines, taken one after another.
 pub fn goes<
     C: ClientState,
     S: FileSystem,
@@ -108,7 +108,7 @@ where
     goes_on(alloc, &mut walk, lines, 0)
 }
 
-/// Takes away the last of these answers if it reports that memory ran out, and returns whether it does.
+/// Removes the last answer if it reports that memory ran out, and returns whether it does.
 fn take_refusal<C: ClientState, A: Allocator + Copy>(found: &mut Vec<Given<C, A>, A>) -> bool {
     let is_refused = is_refusal(found.last());
     if is_refused {
@@ -117,7 +117,7 @@ fn take_refusal<C: ClientState, A: Allocator + Copy>(found: &mut Vec<Given<C, A>
     is_refused
 }
 
-/// How a walk goes on that is to yield these lines, of which these answers came at once.
+/// The walk must yield these lines. `found` are the first answers, which came at once.
 pub(crate) fn goes_after<
     C: ClientState,
     S: FileSystem,
@@ -144,7 +144,7 @@ where
     }
 }
 
-/// How answers come that are asked for all at once, and the others after them.
+/// Asks for all answers at once, and then for those that didn't come, one after another.
 fn is_filled<
     C: ClientState,
     S: FileSystem,
@@ -157,12 +157,12 @@ where
     requires { P.IsLawful (callback (job_of walk.old)) }
 {
     let mut found: Vec<Given<C, A>, A> = Vec::new(memory);
-    // Where memory runs out for the vector, not all are in it.
+    // If memory runs out for the vector, it doesn't have all answers.
     let _ = walk.fill(100, &mut found);
     goes_after(alloc, walk, &mut found, lines)
 }
 
-/// Begins a walk as its answers are taken.
+/// Begins a walk in the way that its answers are taken.
 pub(crate) fn begin<C: ClientState, S: FileSystem, P: ProcessReadDir<C, A>, A: Allocator + Copy>(
     walk: WalkDirGeneric<C, S, P, A>,
     taken: Taken,
@@ -176,7 +176,6 @@ pub(crate) fn begin<C: ClientState, S: FileSystem, P: ProcessReadDir<C, A>, A: A
     }
 }
 
-/// How a walk comes out that didn't begin.
 pub(crate) fn not_begun<A: Allocator + Copy>(error: &Error<A>) -> Came {
     if error.is_memory() {
         Came::Refused(0)
@@ -185,7 +184,7 @@ pub(crate) fn not_begun<A: Allocator + Copy>(error: &Error<A>) -> Came {
     }
 }
 
-/// Returns how a walk yet to begin comes out that is to yield these lines, with this memory.
+/// Returns the outcome of a walk that has not begun and must yield these lines, with this memory.
 pub fn comes<C: ClientState, S: FileSystem, P: ProcessReadDir<C, A>, A: Allocator + Copy>(
     alloc: Global,
     memory: A,

@@ -4,7 +4,7 @@ use jwalk::{ClientState, DirEntry, Error};
 use std::alloc::{AllocError, Allocator};
 use std::sync::atomic::{AtomicUsize, Ordering};
 
-/// A callback that hands each list to another, and counts how often that runs out of memory.
+/// A callback that passes each list to another one, and counts how often that runs out of memory.
 #[derive(Drop)]
 pub struct Counting<'c, P: Drop> {
     inner: P,
@@ -14,7 +14,7 @@ pub struct Counting<'c, P: Drop> {
 impl<'c, P: Drop> Counting<'c, P> {
     ghost use Rattle.std.specs.Prelude.{◌≡◌};
 
-    /// Returns the callback that hands lists to this one, and counts here.
+    /// Returns a callback that passes lists to `inner`, and counts in `refusals`.
     pub fn new(inner: P, refusals: &'c AtomicUsize) -> Self
         ensures { result.inner ≡ inner }
     {

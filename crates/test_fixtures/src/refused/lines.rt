@@ -4,23 +4,23 @@ use jwalk::path_text::join;
 use jwalk::{ClientState, DirEntry, Error};
 use std::alloc::{AllocError, Allocator, Global};
 
-/// What a walk yields.
+/// An answer of a walk.
 pub type Given<C, A> = Result<DirEntry<C, A>, Error<A>>;
 
-/// An entry's state, which stands at the end of its line.
+/// The state of an entry, which ends the line of the entry.
 pub trait Shown {
     /// Adds the state to a line.
     fn push_to(&self, line: &mut String) -> Result<(), AllocError>;
 }
 
-/// Nothing is added.
+/// Adds nothing.
 impl Shown for () {
     fn push_to(&self, _line: &mut String) -> Result<(), AllocError> {
         Ok(())
     }
 }
 
-/// The text is added, if there is one.
+/// Adds the text, if there is one.
 impl<A: Allocator + Copy> Shown for Option<String<A>> {
     fn push_to(&self, line: &mut String) -> Result<(), AllocError> {
         match self {
@@ -30,7 +30,7 @@ impl<A: Allocator + Copy> Shown for Option<String<A>> {
     }
 }
 
-/// Adds the kind of an error: that of the file system, or the directory that a loop leads to.
+/// The kind is the file system's, or the directory that a loop leads to.
 fn push_kind<A: Allocator + Copy>(text: &mut String, error: &Error<A>) -> Result<(), AllocError> {
     if let Some(ancestor) = error.loop_ancestor() {
         return write!(text, "loop {ancestor}");
@@ -71,7 +71,7 @@ where
     Ok(text)
 }
 
-/// Whether this is the line of an answer, made with other memory than the answer's.
+/// Returns whether this is the line of an answer. The memory for it isn't that of the answer.
 pub fn is_line<C: ClientState, A: Allocator + Copy>(
     alloc: Global,
     answer: &Given<C, A>,
@@ -87,7 +87,7 @@ where
     matches!(&line, Ok(line) if line.as_str() == wanted)
 }
 
-/// Whether answers are a beginning of these lines.
+/// Returns whether these answers are the first of these lines.
 pub fn are_first<C: ClientState, A: Allocator + Copy>(
     alloc: Global,
     answers: &[Given<C, A>],
@@ -104,23 +104,22 @@ where
     answers.len() <= lines.len()
 }
 
-/// Whether an answer reports that memory ran out.
+/// Returns whether an answer reports that memory ran out.
 pub fn is_refusal<C: ClientState, A: Allocator + Copy>(answer: Option<&Given<C, A>>) -> bool {
     matches!(answer, Some(Err(error)) if error.is_memory())
 }
 
-/// What an answer is of a walk that is to yield a line.
+/// An answer, where a walk must yield a line.
 #[derive(Clone, Copy)]
 pub(crate) enum Met {
     /// That line.
     Line,
-    /// The error that reports that memory ran out.
+    /// The error that memory ran out.
     Refusal,
     /// Nothing, or anything else.
     Other,
 }
 
-/// What an answer is of a walk that is to yield this line.
 pub(crate) fn what_came<C: ClientState, A: Allocator + Copy>(
     alloc: Global,
     answer: &Option<Given<C, A>>,

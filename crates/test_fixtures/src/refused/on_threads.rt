@@ -1,4 +1,4 @@
-//! How walks come out that threads read.
+//! The outcomes of walks that threads read.
 ghost use Rattle.jwalk.specs.DirEntryIter.{job_of};
 ghost use Rattle.jwalk.specs.WalkDir.{callback_of};
 ghost use Rattle.jwalk.specs.jwalk_job.Job.{callback};
@@ -11,7 +11,7 @@ use jwalk::{ClientState, DirEntryIter, Readers, WalkDirGeneric};
 use std::alloc::{Allocator, Global};
 use std::thread::Threads;
 
-/// How a walk goes that is to yield these lines, taken one after another.
+/// The walk must yield these lines, taken one after another.
 fn goes<
     R: Threads + Sync,
     C: ClientState + Send,
@@ -36,7 +36,7 @@ where
     if_over(walk, Came::Whole)
 }
 
-/// How answers come that are asked for all at once, and the others after them.
+/// Asks for all answers at once, and then for those that didn't come, one after another.
 fn is_filled<
     R: Threads + Sync,
     C: ClientState + Send,
@@ -51,12 +51,12 @@ where
     requires { P.IsLawful (callback (job_of walk.old)) }
 {
     let mut found: Vec<Given<C, A>, A> = Vec::new(memory);
-    // Where memory runs out for the vector, not all are in it.
+    // If memory runs out for the vector, it doesn't have all answers.
     let _ = walk.fill_on(rt, 100, &mut found);
     goes_after(alloc, walk, &mut found, lines)
 }
 
-/// Returns how a walk yet to begin comes out that is to yield these lines, with this memory.
+/// Returns the outcome of a walk that has not begun and must yield these lines, with this memory.
 pub fn comes<
     R: Threads + Sync,
     C: ClientState + Send,

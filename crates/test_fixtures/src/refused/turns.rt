@@ -9,18 +9,17 @@ pub const MOST: usize = 10_000;
 /// Fewer requests than any walk makes.
 const FEW: usize = 20;
 
-/// How a run of a walk ended.
+/// The outcome of a run of a walk.
 #[derive(Clone, Copy, PartialEq, Eq)]
 pub enum Run {
-    /// Rightly, with a refusal.
+    /// Right, with a refusal.
     Refused,
-    /// Rightly, without one.
+    /// Right, without a refusal.
     Quiet,
     /// Wrongly.
     Wrong,
 }
 
-/// Whether a walk may come out so, of which that many requests were refused.
 fn may_come(came: Came, refused: usize, may_be_whole: bool) -> bool {
     match came {
         Came::Whole => refused == 0 || may_be_whole,
@@ -29,9 +28,9 @@ fn may_come(came: Came, refused: usize, may_be_whole: bool) -> bool {
     }
 }
 
-/// Returns how a run ended in which the requests of this memory were refused from that number on, and whose walk came
-/// out so. All pieces must be back, and a walk that met a refusal may come whole if `may_be_whole`. No run is quiet in
-/// which one of the first requests was to be refused.
+/// Returns the outcome of a run. The requests of this memory were refused from `number` on, and the walk came out as
+/// `came`. All pieces must be back. A walk that met a refusal may come whole if `may_be_whole`. A run without a refusal
+/// is wrong if one of the first requests was to be refused.
 pub fn run_of(memory: &Refusing<Global>, number: usize, came: Came, may_be_whole: bool) -> Run {
     let refused = memory.refused();
     if memory.pieces() != 0 || !may_come(came, refused, may_be_whole) {
@@ -47,15 +46,15 @@ pub fn run_of(memory: &Refusing<Global>, number: usize, came: Came, may_be_whole
 
 /// A walk that can be made again and again.
 pub trait Repeated {
-    /// Returns how it comes out with this memory.
+    /// Returns the outcome of the walk with this memory.
     fn comes(&self, alloc: Global, memory: &Refusing<Global>) -> Came;
 
-    /// Returns whether it may come whole after a refusal.
+    /// Returns whether the walk may come whole after a refusal.
     fn may_be_whole(&self) -> bool;
 }
 
-/// Returns the number from which on a walk comes out wrong where that many requests are refused: first from the first
-/// request on, then from the second on, and so on, up to a run that meets no refusal. None if no number is wrong.
+/// Returns the number from which on the walk comes out wrong if `many` requests are refused: from the first request on,
+/// then from the second on, and so on, up to a run without a refusal. Returns `None` if no number is wrong.
 pub fn first_wrong<W: Repeated>(alloc: Global, many: usize, walk: &W) -> Option<usize> {
     let memory = Refusing::new(alloc);
     for number in 1..MOST {

@@ -17,7 +17,7 @@ fn counts(board: &Names<'_>) -> [usize; 4] {
     ]
 }
 
-/// Takes an item: at first where a request is refused, which must change nothing, and then again.
+/// The first attempt has a request refused, and must change nothing then. The second has all granted.
 fn take<'m>(player: &Player<'m>, board: &mut Names<'m>) -> Result<Item<'m>, TakeRefusal> {
     let before = counts(board);
     player.refuse();
@@ -29,7 +29,7 @@ fn take<'m>(player: &Player<'m>, board: &mut Names<'m>) -> Result<Item<'m>, Take
     }
 }
 
-/// Hands an item out in the same way.
+/// Tries twice, as `take` does.
 fn hand_out<'m>(player: &Player<'m>, board: &mut Names<'m>) -> Result<Item<'m>, HandOutRefusal> {
     let before = counts(board);
     player.refuse();
@@ -41,7 +41,7 @@ fn hand_out<'m>(player: &Player<'m>, board: &mut Names<'m>) -> Result<Item<'m>, 
     }
 }
 
-/// Finishes what is in hand in the same way, with what was handed back.
+/// Tries twice, as `take` does. The second attempt has what the first handed back.
 fn finish<'m>(
     player: &Player<'m>,
     board: &mut Names<'m>,
@@ -66,13 +66,12 @@ fn finish<'m>(
         && board.finish(address, reading, children).is_ok()
 }
 
-/// One step, with its outcome.
 enum Step {
-    /// The item at this address is taken, or none.
+    /// Takes the item at this address, or is refused.
     Takes(Result<&'static [usize], TakeRefusal>),
-    /// What is at this address is finished, with these children.
+    /// Finishes the item at this address, with these children.
     Finishes(&'static [usize], &'static [&'static str]),
-    /// The item at this address is handed out, or none.
+    /// Hands out the item at this address, or is refused.
     HandsOut(Result<&'static [usize], HandOutRefusal>),
 }
 
@@ -95,7 +94,6 @@ fn finishes<'m>(
     }
 }
 
-/// Whether a step goes as is said.
 fn goes<'m>(player: &Player<'m>, board: &mut Names<'m>, step: &Step) -> bool {
     match step {
         Step::Takes(wanted) => match take(player, board) {
@@ -126,7 +124,6 @@ const STEPS: &[Step] = &[
     Step::Takes(Err(TakeRefusal::Done)),
 ];
 
-/// The board of one root.
 fn board<'m>(player: &Player<'m>) -> Option<Names<'m>> {
     Board::new(Vec::from_slice(player.memory, &["r"]).ok()?).ok()
 }

@@ -8,7 +8,6 @@ use std::io::ErrorKind;
 
 type Tree<'m> = MemoryFs<Memory<'m>>;
 
-/// A call.
 enum Call {
     Dir(&'static str),
     File(&'static str),
@@ -39,12 +38,11 @@ impl Call {
     }
 }
 
-/// What is at a path, if anything is.
 fn at(fs: &Tree<'_>, path: &str) -> Option<Metadata> {
     fs.symlink_metadata(path).ok()
 }
 
-/// Makes a call: at first where a request is refused, which must change nothing, and then again.
+/// The first attempt has a request refused, and must change nothing then. The second has all granted.
 fn is_made(player: &Player<'_>, fs: &mut Tree<'_>, call: &Call) -> bool {
     let before = at(fs, call.path());
     player.refuse();

@@ -9,7 +9,7 @@ use test_fixtures::trees::tree;
 /// The greatest heap, in pieces of 64 bytes.
 const GREATEST: usize = 1_000;
 
-/// How a walk comes out over a heap of that many bytes, all of which must be free again afterwards.
+/// All of the heap must be free again afterwards.
 fn comes_over(alloc: Global, size: usize, play: Play<'_>) -> Came {
     let Ok(heap) = LocalHeap::new(alloc, size) else {
         return Came::Wrong;
@@ -23,8 +23,8 @@ fn comes_over(alloc: Global, size: usize, play: Play<'_>) -> Came {
     }
 }
 
-/// Whether a walk comes out right over each heap up to the first that is large enough, and many are too small. Else the
-/// size of the heap where it doesn't.
+/// Returns the size of the first heap over which the walk comes out wrong. The heaps grow until the walk comes out
+/// whole, and the first five must be too small.
 fn first_wrong(alloc: Global, play: Play<'_>) -> Option<usize> {
     for pieces in 1..GREATEST {
         let size = pieces.wrapping_mul(64);
@@ -37,7 +37,7 @@ fn first_wrong(alloc: Global, play: Play<'_>) -> Option<usize> {
     Some(usize::MAX)
 }
 
-/// Whether the walk of a row comes out right in each way. Else the size of the heap where it doesn't.
+/// Returns the size of the first heap over which the walk of the row comes out wrong, in any way.
 fn wrong_of(alloc: Global, row: &Row) -> Option<usize> {
     let Ok(fs) = tree(alloc, row.steps) else {
         return Some(0);

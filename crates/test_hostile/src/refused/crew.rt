@@ -19,19 +19,17 @@ use test_fixtures::refused::turns::MOST;
 use test_fixtures::refusing_alloc::Refusing;
 use test_fixtures::trees::tree;
 
-/// Memory that lives as long as the process, since a crew's threads may.
+/// Memory that lives as long as the process, as a crew's threads may.
 type Memory = &'static Refusing<Global>;
 
-/// A walk yet to begin that a crew is to read for.
+/// A walk that has not begun, for which a crew will read.
 type Builder<R, C, P> = WalkDirGeneric<C, Arc<MemoryFs>, P, Memory, Crew<R>>;
 
-/// One without a callback.
 type Plain<R> = Builder<R, ((), ()), NoProcess>;
 
-/// One with a callback.
 type Called<R> = Builder<R, Texts<Memory>, Callback>;
 
-/// That a crew reads, as soon as it has a place.
+/// A walk waits until the crew has a place.
 fn by_crew<R: Host>(pool: Arc<Crew<R>, Memory>) -> Parallelism<Crew<R>, Memory> {
     Parallelism::RayonExistingPool {
         pool,
@@ -39,7 +37,7 @@ fn by_crew<R: Host>(pool: Arc<Crew<R>, Memory>) -> Parallelism<Crew<R>, Memory> 
     }
 }
 
-/// Returns the walk of a row without a callback, if there is memory for its root.
+/// Returns `None` if there is no memory for the root.
 fn plain<R: Host>(
     memory: Memory,
     fs: Arc<MemoryFs>,
@@ -53,7 +51,7 @@ fn plain<R: Host>(
     Some(walk.parallelism(by_crew(pool)))
 }
 
-/// Returns the walk of a row with this callback, if there is memory for its root.
+/// Returns `None` if there is no memory for the root.
 fn called<R: Host>(
     memory: Memory,
     fs: Arc<MemoryFs>,
@@ -68,7 +66,7 @@ fn called<R: Host>(
     Some(walk.parallelism(by_crew(pool)).process_read_dir(callback))
 }
 
-/// How a walk comes out that didn't begin. A crew of which no thread could be started is busy.
+/// A crew of which no thread could be started is busy.
 fn not_begun<A: Allocator + Copy>(error: &Error<A>) -> Came {
     if error.is_memory() || error.is_busy() {
         Came::Refused(0)
@@ -77,7 +75,7 @@ fn not_begun<A: Allocator + Copy>(error: &Error<A>) -> Came {
     }
 }
 
-/// How a walk comes out that a crew is to read for, if there was memory for its root.
+/// Without a walk there was no memory for its root.
 fn comes_by<
     R: Wait + Threads + Clock + Drop + Send + Sync + 'static,
     C: ClientState + Send + 'static,
@@ -99,7 +97,6 @@ where
     }
 }
 
-/// How the walk of a row comes out.
 fn comes<R: Host>(
     alloc: Global,
     memory: Memory,
@@ -113,7 +110,7 @@ fn comes<R: Host>(
     }
 }
 
-/// Whether within two seconds no more pieces are out than that many.
+/// Returns whether within two seconds at most that many pieces are out.
 fn are_back<R: Host>(rt: &R, memory: Memory, before: usize) -> bool {
     for _ in 0..2_000 {
         if memory.pieces() == before {
@@ -124,17 +121,15 @@ fn are_back<R: Host>(rt: &R, memory: Memory, before: usize) -> bool {
     false
 }
 
-/// Which requests are refused.
 #[derive(Clone, Copy)]
 struct Refusals {
-    /// The number of the first.
+    /// The number of the first request.
     first: usize,
-    /// How many.
     many: usize,
 }
 
-/// Whether the walk of a row comes out right where these requests are refused, no place is in use after it, and all
-/// pieces are back soon. Then how many were refused.
+/// Returns how many requests were refused. Returns `None` if the walk came out wrong, if it left a place in use, or if
+/// pieces stayed out.
 fn refused<R: Host>(
     rt: &R,
     memory: Memory,
@@ -158,8 +153,8 @@ fn refused<R: Host>(
     }
 }
 
-/// How many requests were refused one after another, until five walks of a row met no refusal; none if one came out
-/// wrong.
+/// Returns how many requests were refused one after another until five walks of the row met no refusal, or `None` if
+/// one came out wrong.
 fn plays<R: Host>(rt: &R, row: &Row, many: usize) -> Option<usize> {
     let memory: Memory = Box::leak(Box::new(rt.alloc(), Refusing::new(rt.alloc())).ok()?);
     let fs = Arc::new(rt.alloc(), tree(rt.alloc(), row.steps).ok()?).ok()?;
@@ -179,7 +174,7 @@ fn plays<R: Host>(rt: &R, row: &Row, many: usize) -> Option<usize> {
     None
 }
 
-/// Whether a row comes out right, where each request is refused and where all are from each on.
+/// Refuses each request alone, and all from each on. More than 20 must be met.
 fn is_right<R: Host>(rt: &R, row: &Row) -> bool {
     for many in [1, usize::MAX] {
         if !matches!(plays(rt, row, many), Some(number) if number > 20) {

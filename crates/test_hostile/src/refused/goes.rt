@@ -14,10 +14,10 @@ use test_fixtures::refused::turns::Repeated;
 use test_fixtures::refusing_alloc::Refusing;
 use test_fixtures::width::Width;
 
-/// A walk yet to begin.
+/// A walk that has not begun.
 pub type Builder<'f, C, P, A> = WalkDirGeneric<C, &'f MemoryFs, P, A>;
 
-/// A walk of a row over its tree: how many directories are read together, and how its answers are taken.
+/// The walk of a row over its tree, with how many directories are read together and how its answers are taken.
 #[derive(Clone, Copy)]
 pub struct Play<'f> {
     pub fs: &'f MemoryFs,
@@ -27,7 +27,7 @@ pub struct Play<'f> {
 }
 
 impl<'f> Play<'f> {
-    /// The walk with a callback, if there is memory for its root.
+    /// Returns the walk with this callback, or `None` if there is no memory for its root.
     pub fn builder<C: ClientState, P: ProcessReadDir<C, A>, A: Allocator + Copy>(
         &self,
         memory: A,
@@ -43,7 +43,7 @@ impl<'f> Play<'f> {
         Some(walk.process_read_dir(process))
     }
 
-    /// How the walk comes out with this memory and this callback.
+    /// Returns how the walk comes out with this memory and this callback.
     pub fn comes_with<C: ClientState, P: ProcessReadDir<C, A>, A: Allocator + Copy>(
         &self,
         alloc: Global,
@@ -60,7 +60,7 @@ impl<'f> Play<'f> {
         }
     }
 
-    /// How the walk comes out with this memory and the row's callback.
+    /// Returns how the walk comes out with this memory and the row's callback.
     pub fn comes_over<A: Allocator + Copy>(&self, alloc: Global, memory: A) -> Came {
         match self.row.callback {
             Some(callback) => self.comes_with::<Texts<A>, _, _>(alloc, memory, callback),
@@ -69,7 +69,7 @@ impl<'f> Play<'f> {
     }
 }
 
-/// What is asked for all at once may come whole after a refusal, as more is asked for then.
+/// A walk whose answers are all asked for at once may come whole after a refusal, as more is asked for then.
 impl Repeated for Play<'_> {
     fn comes(&self, alloc: Global, memory: &Refusing<Global>) -> Came {
         self.comes_over(alloc, memory)

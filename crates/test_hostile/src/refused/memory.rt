@@ -4,26 +4,26 @@ use std::alloc::Global;
 use std::cell::Cell;
 use test_fixtures::refusing_alloc::Refusing;
 
-/// The allocator, lent.
+/// An allocator that refuses requests, lent.
 pub type Memory<'m> = &'m Refusing<Global>;
 
-/// What plays steps.
+/// The player of steps.
 #[derive(Drop)]
 pub struct Player<'m> {
     pub memory: Memory<'m>,
-    /// The number of the request that each step is refused at first.
+    /// The number of the request that each step is refused at its first attempt.
     number: usize,
-    /// How many steps met a refusal.
+    /// The number of steps that met a refusal.
     met: Cell<usize>,
 }
 
 impl<'m> Player<'m> {
-    /// From now on the request of the number is refused.
+    /// Refuses the request of that number from now on.
     pub fn refuse(&self) {
         self.memory.refuse(self.number, 1);
     }
 
-    /// From now on nothing is refused.
+    /// Refuses nothing from now on.
     pub fn grant(&self) {
         if self.memory.refused() > 0 {
             self.met.set(self.met.get().saturating_add(1));
@@ -31,14 +31,14 @@ impl<'m> Player<'m> {
         self.memory.refuse(0, 0);
     }
 
-    /// The address of these indices.
+    /// Returns the address of these indices.
     pub fn address(&self, indices: &[usize]) -> Option<IndexPath<Memory<'m>>> {
         Some(IndexPath::new(Vec::from_slice(self.memory, indices).ok()?))
     }
 }
 
-/// Whether a play comes out right for each number, up to one where no step meets a refusal, and all pieces are back after
-/// each. Many steps of all must have met one.
+/// Returns whether a play comes out right for each number, up to one where no step meets a refusal. All pieces must be
+/// back after each, and some step must have met a refusal.
 pub fn all_are_right(alloc: Global, play: &impl Play) -> bool {
     let memory = Refusing::new(alloc);
     let mut all: usize = 0;
@@ -62,6 +62,6 @@ pub fn all_are_right(alloc: Global, play: &impl Play) -> bool {
 
 /// Steps on a value that is made for them.
 pub trait Play {
-    /// Plays them, and returns whether each goes as it must.
+    /// Plays the steps, and returns whether each goes as it must.
     fn is_right(&self, player: &Player<'_>) -> bool;
 }

@@ -7,7 +7,8 @@ type Queue<'m> = OrderedQueue<(), Memory<'m>>;
 
 type Item<'m> = Ordered<(), Memory<'m>>;
 
-/// Lets an item in: at first where a request is refused, which must hand it back and change nothing, and then again.
+/// The first attempt has a request refused, and must hand the item back and change nothing then. The second has all
+/// granted.
 fn lets_in<'m>(player: &Player<'m>, queue: &mut Queue<'m>, item: Item<'m>) -> bool {
     let before = queue.pending();
     if before > 1_000 {
@@ -22,7 +23,6 @@ fn lets_in<'m>(player: &Player<'m>, queue: &mut Queue<'m>, item: Item<'m>) -> bo
     }
 }
 
-/// Whether the next step gives the item at this address, or none yet.
 fn gives(player: &Player<'_>, queue: &mut Queue<'_>, wanted: Option<&[usize]>) -> bool {
     player.refuse();
     let first = queue.iter().step();
@@ -41,13 +41,12 @@ fn gives(player: &Player<'_>, queue: &mut Queue<'_>, wanted: Option<&[usize]>) -
     }
 }
 
-/// A push of an item at an address with that many children, or a step.
+/// A push of an item at an address with a number of children, or a step.
 enum Turn {
     LetsIn(&'static [usize], usize),
     Gives(Option<&'static [usize]>),
 }
 
-/// Whether a turn goes as is said.
 fn goes<'m>(player: &Player<'m>, queue: &mut Queue<'m>, turn: &Turn) -> bool {
     match turn {
         Turn::LetsIn(indices, children) => match player.address(*indices) {
@@ -76,7 +75,6 @@ const STRICT: &[Turn] = &[
     Turn::Gives(Some(&[0, 0])),
 ];
 
-/// The turns of a queue.
 struct OfQueue(Ordering, &'static [Turn]);
 
 impl Play for OfQueue {
@@ -99,7 +97,7 @@ fn each_push_and_step_of_a_queue_is_refused_and_made_again(rt: HostRuntime) {
     assert!(rt; all_are_right(rt.alloc(), &OfQueue(Ordering::Strict, STRICT)));
 }
 
-/// Passes the address that is looked for, in the same way.
+/// The first attempt has a request refused, the second has all granted.
 fn passes<'m>(
     player: &Player<'m>,
     matcher: &mut OrderedMatcher<Memory<'m>>,
@@ -120,7 +118,7 @@ fn passes<'m>(
         || (item.index_path == *matcher.looking_for() && matcher.advance_past(&item).is_ok())
 }
 
-/// So deep that the matcher's memory doesn't last.
+/// Deep enough that the matcher's memory has to grow.
 const PASSED: &[(&[usize], usize)] = &[
     (&[0], 2),
     (&[0, 0], 1),
@@ -134,7 +132,6 @@ const PASSED: &[(&[usize], usize)] = &[
     (&[0, 1], 0),
 ];
 
-/// The passes of a matcher.
 struct OfMatcher;
 
 impl Play for OfMatcher {

@@ -3,10 +3,10 @@ use crate::refused::memory::{Memory, Play, Player, all_are_right};
 use jwalk_board::board::{Rehearsal, rehearse};
 use test_fixtures::family::{Family, MOVES};
 
-/// The addresses in the order in which they are taken.
+/// In the order in which they are taken.
 const TAKEN: &[&[usize]] = &[&[0], &[0, 0], &[0, 1], &[0, 0, 0]];
 
-/// What is handed out: its address, its value and the number of its children.
+/// The address, the value and the number of children of each.
 const HANDED_OUT: &[(&[usize], u8, usize)] = &[
     (&[0], 0, 2),
     (&[0, 0], 1, 1),
@@ -14,7 +14,6 @@ const HANDED_OUT: &[(&[usize], u8, usize)] = &[
     (&[0, 1], 2, 0),
 ];
 
-/// Whether the addresses were taken in this order.
 fn are_taken(made: &Rehearsal<u8, u8, Memory<'_>>) -> bool {
     for (path, indices) in made.taken.iter().zip(TAKEN) {
         if path.indices.as_slice() != *indices {
@@ -24,7 +23,6 @@ fn are_taken(made: &Rehearsal<u8, u8, Memory<'_>>) -> bool {
     made.taken.len() == TAKEN.len()
 }
 
-/// Whether this was handed out, in this order.
 fn are_handed_out(made: &Rehearsal<u8, u8, Memory<'_>>) -> bool {
     for (item, (indices, value, children)) in made.handed_out.iter().zip(HANDED_OUT) {
         let is_there = item.index_path.indices.as_slice() == *indices;

@@ -13,13 +13,12 @@ use test_fixtures::refusing_alloc::Refusing;
 use test_fixtures::trees::tree;
 use test_fixtures::width::Width;
 
-/// How many directories are read together: enough for two threads.
+/// Enough for two threads.
 const WIDE: Width = Width::Batches(64);
 
-/// From how many directories on threads share a batch.
+/// The number of directories from which threads share a batch.
 const SHARED: usize = 32;
 
-/// A directory with 40 directories.
 fn wide(alloc: Global) -> Result<MemoryFs, BuildError> {
     let mut fs = MemoryFs::new(alloc);
     fs.add_dir("/w")?;
@@ -29,7 +28,6 @@ fn wide(alloc: Global) -> Result<MemoryFs, BuildError> {
     Ok(fs)
 }
 
-/// How a walk without a callback comes out with this memory.
 fn plain_comes<R: Threads + Sync>(
     rt: &R,
     alloc: Global,
@@ -42,7 +40,6 @@ fn plain_comes<R: Threads + Sync>(
     }
 }
 
-/// How a walk with this callback comes out with this memory.
 fn called_comes<R: Threads + Sync>(
     rt: &R,
     alloc: Global,
@@ -56,13 +53,13 @@ fn called_comes<R: Threads + Sync>(
     }
 }
 
-/// Whether a walk may come whole after a refusal: what is asked for all at once, and what threads share.
+/// A walk may come whole after a refusal if its answers are all asked for at once, or if threads share its batches.
 fn may_be_whole(play: Play<'_>) -> bool {
     play.may_be_whole() || play.row.lines.len() > SHARED
 }
 
-/// The number from which on a walk comes out wrong where that many requests are refused. A trait's method can't start
-/// threads, so the runs are here.
+/// Returns the number of the first request from which the walk comes out wrong. A trait's method can't start threads,
+/// so the runs are here.
 fn first_wrong<R: Threads + AllocGlobal + Sync>(
     rt: &R,
     play: Play<'_>,
@@ -84,12 +81,11 @@ fn first_wrong<R: Threads + AllocGlobal + Sync>(
     Some(MOST)
 }
 
-/// Whether a walk comes out right where each request is refused, and where all are from each on.
+/// Refuses each request alone, and all from each on.
 fn is_right<R: Threads + AllocGlobal + Sync>(rt: &R, play: Play<'_>) -> bool {
     first_wrong(rt, play, 1).is_none() && first_wrong(rt, play, usize::MAX).is_none()
 }
 
-/// Whether the walk of a row comes out right over a tree, if many directories are read together.
 fn is_right_widely<R: Threads + AllocGlobal + Sync>(rt: &R, fs: &MemoryFs, row: &Row) -> bool {
     for taken in TAKEN {
         let play = Play {
@@ -105,7 +101,7 @@ fn is_right_widely<R: Threads + AllocGlobal + Sync>(rt: &R, fs: &MemoryFs, row: 
     true
 }
 
-/// Whether the walk of a row comes out right, however many directories are read together.
+/// Reads in each way.
 fn is_right_always<R: Threads + AllocGlobal + Sync>(rt: &R, row: &Row) -> bool {
     let Ok(fs) = tree(rt.alloc(), row.steps) else {
         return false;
@@ -124,7 +120,6 @@ fn is_right_always<R: Threads + AllocGlobal + Sync>(rt: &R, row: &Row) -> bool {
     is_right_widely(rt, &fs, row)
 }
 
-/// The walk over the wide directory.
 const WIDE_ROW: Row = Row {
     steps: &[],
     root: "/w",

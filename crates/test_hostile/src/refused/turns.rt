@@ -6,8 +6,7 @@ use test_fixtures::refused::came::WAYS;
 use test_fixtures::refused::turns::first_wrong;
 use test_fixtures::trees::tree;
 
-/// Whether the walk of a row comes out right in each way where that many requests are refused. Else the number of the
-/// first where it doesn't.
+/// Returns the number of the first request at which the walk of the row comes out wrong, in any way.
 fn wrong_of(alloc: Global, row: &Row, many: usize) -> Option<usize> {
     let Ok(fs) = tree(alloc, row.steps) else {
         return Some(0);

@@ -10,7 +10,7 @@ use test_fixtures::refused::turns::MOST;
 use test_fixtures::refusing_alloc::Refusing;
 use test_fixtures::trees::tree;
 
-/// How the walk that hands names on comes out with this memory, and how often its callback ran out of it.
+/// Returns also how often the callback ran out of memory.
 fn comes(alloc: Global, memory: &Refusing<Global>, play: Play<'_>) -> (Came, usize) {
     let within = AtomicUsize::new(0);
     let counting = Counting::new(Callback::HandsOnNames, &within);
@@ -18,8 +18,9 @@ fn comes(alloc: Global, memory: &Refusing<Global>, play: Play<'_>) -> (Came, usi
     (came, within.load(Ordering::SeqCst))
 }
 
-/// How many requests, refused one at a time, are of the callback. None, if one of them isn't reported by the first
-/// `next`, which reads the list that the callback works on, or by the walk that doesn't begin, or a piece isn't back.
+/// Returns how many of the requests, refused one at a time, are the callback's. Returns `None` if the first `next`,
+/// which reads the list that the callback works on, or the start of the walk doesn't report one of them, or if a piece
+/// isn't back.
 fn refused_within(alloc: Global, play: Play<'_>) -> Option<usize> {
     let memory = Refusing::new(alloc);
     let mut refusals: usize = 0;
@@ -38,11 +39,10 @@ fn refused_within(alloc: Global, play: Play<'_>) -> Option<usize> {
     None
 }
 
-/// The requests of the callback: for the root the name alone, since it has no state to copy, and for each of the groups
-/// a copy of the state and the name.
+/// The requests of the callback. For the root it asks for the name alone, which has no state to copy, and for each of
+/// the groups for a copy of the state and the name.
 const REQUESTS: usize = 5;
 
-/// Whether that many are refused, in each way to read the directories and to take the answers.
 fn all_are_refused(alloc: Global) -> bool {
     let Ok(fs) = tree(alloc, HANDED_ON.steps) else {
         return false;

@@ -12,7 +12,7 @@ use test_fixtures::builders::builder;
 use test_fixtures::trees::{SMALL, tree};
 use test_fixtures::ways::all_of;
 
-/// A clock that adds up how many microseconds it was to sleep.
+/// A clock that doesn't sleep, and adds up the microseconds that it should have slept.
 #[derive(Drop)]
 struct Slept(AtomicU64);
 
@@ -41,7 +41,7 @@ impl Clock for Slept {
     }
 }
 
-/// The tree, where listings fail with an error of the system's number until that many were asked for.
+/// A tree whose listings fail with an error of the system's number until a number of them were asked for.
 #[derive(Drop)]
 struct Failing {
     fs: MemoryFs,
@@ -64,7 +64,7 @@ impl Failing {
         self.lists.load(Ordering::SeqCst)
     }
 
-    /// From now on that many listings fail.
+    /// From now on, the next `count` listings fail.
     fn fail(&self, count: usize) {
         let until = self.lists().saturating_add(count);
         self.until.store(until, Ordering::SeqCst);
@@ -101,23 +101,22 @@ impl FileSystem for Failing {
     }
 }
 
-/// The system's number that a process has as many descriptors as it may have.
+/// The process has as many descriptors as it may have.
 const EMFILE: i32 = 24;
 
-/// The system's number that all processes together have as many as they may have.
+/// All processes together have as many descriptors as they may have.
 const ENFILE: i32 = 23;
 
-/// The system's number that a directory may not be read.
+/// The directory may not be read.
 const EACCES: i32 = 13;
 
-/// Whether a walk yields the whole tree.
 fn shows_all<S: FileSystem>(alloc: Global, fs: S) -> Result<bool, AllocError> {
     let found = all_of(alloc, builder(alloc, fs, "/r")?.into_iter())?;
     let wanted = "0 d /r; 1 f /r/b; 1 d /r/s; 2 f /r/s/x; 1 f /r/a";
     Ok(are_lines(alloc, found.as_slice(), wanted))
 }
 
-/// Whether a walk yields the whole tree where the first listings fail with this number, and sleeps meanwhile.
+/// The first five listings fail with this number. The walk must sleep meanwhile.
 fn is_whole(alloc: Global, number: i32) -> Option<bool> {
     let slept = Slept::not_yet();
     let failing = Failing::new(alloc, number)?;
@@ -132,15 +131,15 @@ fn no_descriptor_for_a_while(rt: HostRuntime) {
     assert!(rt; is_whole(rt.alloc(), ENFILE) == Some(true));
 }
 
-/// Whether a directory is listed at last, and how often that was tried.
+/// Returns also how often the listing was tried.
 fn tries(alloc: Global, fs: &impl FileSystem, failing: &Failing) -> (bool, usize) {
     let before = failing.lists();
     let is_listed = fs.read_dir(alloc, "/r").is_ok();
     (is_listed, failing.lists().wrapping_sub(before))
 }
 
-/// Whether a directory is tried for at most 100 milliseconds, the next ones once, and more often again after one was
-/// listed.
+/// Returns whether one directory is tried for at most 100 milliseconds, the next ones once each, and more often again
+/// after one was listed.
 fn is_tried_once(alloc: Global, number: i32) -> Option<bool> {
     let slept = Slept::not_yet();
     let failing = Failing::new(alloc, number)?;
@@ -163,7 +162,6 @@ fn no_descriptor_for_good(rt: HostRuntime) {
     assert!(rt; is_tried_once(rt.alloc(), ENFILE) == Some(true));
 }
 
-/// Whether a directory that can't be listed for another reason is tried once.
 fn is_not_tried_again(alloc: Global, number: i32) -> Option<bool> {
     let slept = Slept::not_yet();
     let failing = Failing::new(alloc, number)?;

@@ -1,4 +1,4 @@
-//! Directories without end: each lists one directory.
+//! Directories without end: each has one directory.
 ghost use Rattle.jwalk.specs.jwalk_model.Tree.{functions_of, only_root};
 
 use crate::by_crew::ByCrew;
@@ -16,7 +16,6 @@ use test_fixtures::host::Host;
 use test_fixtures::resting::{CountsLists, rests};
 use test_fixtures::ways::{Asked, Setting, WAYS};
 
-/// The file system, with how often a listing was asked for.
 #[derive(Drop)]
 struct Endless {
     lists: AtomicUsize,
@@ -34,7 +33,7 @@ impl Endless {
     }
 }
 
-/// The listing of each directory.
+/// Each directory has the same listing.
 fn listing<A: Allocator + Copy>(alloc: A) -> Result<Vec<io::Result<Listed<A>>, A>, AllocError> {
     let mut items = Vec::new(alloc);
     let name = String::from_str(alloc, "d")?;
@@ -75,7 +74,6 @@ impl FileSystem for Endless {
     }
 }
 
-/// The answers from the root to the depth of three.
 const FOUR: &str = "0 d /; 1 d /d; 2 d /d/d; 3 d /d/d/d";
 
 const TO_THREE: &[Setting] = &[Setting::Max(3)];
@@ -93,7 +91,6 @@ fn a_greatest_depth_ends_an_endless_walk_after_three_listings(rt: HostRuntime) {
     }
 }
 
-/// Whether this is so if a crew of two reads.
 fn ends_by_crew<R: Host>(rt: &R) -> Result<bool, AllocError> {
     let asked = ByCrew {
         fs: Arc::new(rt.alloc(), Endless::new())?,
@@ -108,7 +105,7 @@ fn a_greatest_depth_ends_an_endless_walk_of_a_crew(rt: HostRuntime) {
     assert!(rt; ends_by_crew(&rt) == Ok(true));
 }
 
-/// Whether these are a hundred entries, each one deeper than the one before.
+/// Each must be deeper than the one before.
 fn are_a_hundred(found: &[Answer]) -> bool {
     for (depth, answer) in found.iter().enumerate() {
         if !matches!(answer, Ok(entry) if entry.depth() == depth) {
@@ -118,7 +115,6 @@ fn are_a_hundred(found: &[Answer]) -> bool {
     found.len() == 100
 }
 
-/// Whether a walk yields a hundred entries on request, and is dropped then.
 fn gives_a_hundred(alloc: Global) -> Result<bool, AllocError> {
     let fs = Endless::new();
     let mut walk = builder(alloc, &fs, "/")?.into_iter();
@@ -132,7 +128,7 @@ fn a_hundred_answers_of_an_endless_walk(rt: HostRuntime) {
     assert!(rt; gives_a_hundred(rt.alloc()) == Ok(true));
 }
 
-/// The first answers of a walk that a crew of two reads for, which is dropped then.
+/// Drops the walk of a crew of two after them.
 fn first_of_crew<R: Host>(
     rt: &R,
     asked: &ByCrew<'_, Endless>,
@@ -146,7 +142,6 @@ fn first_of_crew<R: Host>(
     Ok(found)
 }
 
-/// Whether a crew's walk yields a hundred entries on request, and once it is dropped nothing is listed any more.
 fn gives_a_hundred_and_rests<R: Host>(rt: &R) -> Result<bool, AllocError> {
     let asked = ByCrew {
         fs: Arc::new(rt.alloc(), Endless::new())?,
@@ -162,7 +157,6 @@ fn a_hundred_answers_of_an_endless_walk_of_a_crew(rt: HostRuntime) {
     assert!(rt; gives_a_hundred_and_rests(&rt) == Ok(true));
 }
 
-/// Whether nothing is listed any more once a crew's walk is dropped after five answers.
 fn rests_after_five<R: Host>(rt: &R) -> Result<bool, AllocError> {
     let asked = ByCrew {
         fs: Arc::new(rt.alloc(), Endless::new())?,

@@ -1,4 +1,4 @@
-//! A tree whose call of one number fails.
+//! A tree where the call of one number fails.
 ghost use Rattle.jwalk.specs.jwalk_model.Tree.{functions_of, only_root};
 
 use jwalk::file_system::{Fault, FileSystem, Listed, MemoryFs, Metadata};
@@ -11,7 +11,6 @@ use test_fixtures::texts::texts;
 use test_fixtures::trees::{SMALL, Step, tree};
 use walk_run::run::run;
 
-/// The tree, with how often it was called so far, and the number of the call that fails.
 #[derive(Drop)]
 struct FailsOnce {
     fs: MemoryFs,
@@ -20,7 +19,7 @@ struct FailsOnce {
 }
 
 impl FailsOnce {
-    /// Counts a call, and returns the error of the one that fails.
+    /// Counts a call.
     fn call(&self) -> Result<(), Fault> {
         let before = self.calls.fetch_add(1, Ordering::SeqCst);
         if before.wrapping_add(1) == self.failing {
@@ -61,7 +60,6 @@ impl FileSystem for FailsOnce {
     }
 }
 
-/// A directory and a link to it.
 const LINKED: &[Step] = &[
     Step::Dir("/r"),
     Step::Dir("/r/a"),
@@ -69,15 +67,14 @@ const LINKED: &[Step] = &[
     Step::Link("a", "/r/a-link"),
 ];
 
-/// A tree, the words of a call of the program, and of each call on the tree that may fail its number with what the
-/// program writes then and its status.
+/// A tree, the words of a call of the program, and rows: the number of the call on the tree that fails, what the
+/// program writes then, and its status.
 type Rows = (
     &'static [Step],
     &'static [&'static str],
     &'static [(usize, &'static str, u8)],
 );
 
-/// The tree where the call of this number fails.
 fn failing(alloc: Global, steps: &[Step], number: usize) -> Option<FailsOnce> {
     Some(FailsOnce {
         fs: tree(alloc, steps).ok()?,
@@ -86,7 +83,6 @@ fn failing(alloc: Global, steps: &[Step], number: usize) -> Option<FailsOnce> {
     })
 }
 
-/// Whether the program writes these lines over this disk, and ends with this status.
 fn writes<R: Host, S: FileSystem + Send + Sync + 'static>(
     rt: &R,
     disk: S,
@@ -112,7 +108,7 @@ fn writes<R: Host, S: FileSystem + Send + Sync + 'static>(
     out.as_slice() == lines.as_bytes() && err.is_empty() && ended == status
 }
 
-/// The number of the first call that fails otherwise than said.
+/// Returns the number of the first call whose row is wrong.
 fn first_wrong<R: Host>(rt: &R, (steps, words, rows): &Rows) -> Option<usize> {
     for (number, lines, status) in *rows {
         let is_so = match failing(rt.alloc(), steps, *number) {

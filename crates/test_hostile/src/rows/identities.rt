@@ -1,9 +1,9 @@
-//! Links that are followed on disks that tell by numbers which directory is which, or that don't.
+//! Links that are followed on disks that tell directories apart by numbers, or that don't.
 use crate::rows::numbered::Told::{Gone, Nothing, Numbers};
 use crate::rows::numbered::{At, Row, holds};
 use test_fixtures::ways::Setting;
 
-/// Links are followed. A loop that isn't told ends at the greatest depth.
+/// A loop that isn't found ends at the greatest depth.
 const FOLLOW: &[Setting] = &[Setting::Follow, Setting::Max(6)];
 
 #[test]

@@ -1,4 +1,4 @@
-//! Listings that lie: of names that are none, and of types that aren't so.
+//! Listings that lie: of names that aren't names, and of types that are wrong.
 ghost use Rattle.jwalk.specs.jwalk_model.Tree.{functions_of, only_root};
 
 use crate::by_crew::ByCrew;
@@ -11,7 +11,6 @@ use test_fixtures::listed_directory::MISNAMED;
 use test_fixtures::trees::{Step, tree};
 use test_fixtures::ways::Setting;
 
-/// Whether a walk yields these lines, read in each way and by a crew of two.
 fn shows_always<R: Host, S: FileSystem + Send + Sync + 'static>(
     rt: &R,
     fs: S,
@@ -34,7 +33,7 @@ fn odd_names_hidden_or_not(rt: HostRuntime) {
     assert!(rt; shows_always(&rt, MISNAMED, &[Setting::Hidden], all) == Ok(true));
 }
 
-/// A tree whose listings say that all are directories.
+/// A tree whose listings say of each item that it is a directory.
 #[derive(Drop)]
 struct AllDirectories {
     fs: MemoryFs,
@@ -72,7 +71,6 @@ impl FileSystem for AllDirectories {
     }
 }
 
-/// Whether a walk over a file that is said to be a directory yields these lines.
 fn shows_file_as_directory<R: Host>(rt: &R, wanted: &str) -> Option<bool> {
     let fs = tree(rt.alloc(), &[Step::Dir("/d"), Step::File(1, "/d/f")]).ok()?;
     shows_always(rt, AllDirectories { fs }, &[], wanted).ok()

@@ -1,4 +1,4 @@
-//! A disk whose files have numbers, that is written down and counts how often it is asked what a path leads to.
+//! A disk in a table, whose files have numbers. It counts how often it is asked what a path leads to.
 ghost use Rattle.jwalk.specs.jwalk_model.Tree.{functions_of, only_root};
 
 use crate::by_crew::ByCrew;
@@ -15,14 +15,14 @@ use std::sync::atomic::{AtomicUsize, Ordering};
 use test_fixtures::host::Host;
 use test_fixtures::ways::{Asked, Setting, WAYS, Way};
 
-/// What the disk says of which file it is.
+/// What the disk tells of a file's identity.
 #[derive(Clone, Copy)]
 pub enum Told {
     /// The numbers of its device and of its inode.
     Numbers(u64, u64),
     /// No numbers.
     Nothing,
-    /// It is listed, and gone when the disk is asked what its path leads to.
+    /// The file is listed, but gone when the disk is asked what its path leads to.
     Gone,
 }
 
@@ -45,7 +45,6 @@ impl At {
         }
     }
 
-    /// The text of a link.
     fn text(self) -> Option<&'static str> {
         match self {
             At::File(_) | At::Dir(_, _) => None,
@@ -53,7 +52,6 @@ impl At {
         }
     }
 
-    /// The type of what the path leads to.
     fn target_type(self) -> FileType {
         match self {
             At::File(_) | At::FileLink(_, _, _) => FileType::File,
@@ -61,7 +59,6 @@ impl At {
         }
     }
 
-    /// What is told of what the path leads to.
     fn told(self) -> Told {
         match self {
             At::File(_) => Told::Nothing,
@@ -69,7 +66,7 @@ impl At {
         }
     }
 
-    /// What a listing says of what is there. Of a link it says the type alone.
+    /// A listing says of a link its type alone.
     fn seen(self) -> Seen {
         if self.text().is_some() {
             return Seen::TypeAlone(FileType::Symlink);
@@ -85,7 +82,6 @@ impl At {
     }
 }
 
-/// The metadata of a file with these numbers.
 fn with_numbers(file_type: FileType, device: u64, inode: u64) -> Metadata {
     const NEVER: Moment = Moment {
         seconds: 0,
@@ -105,7 +101,7 @@ fn with_numbers(file_type: FileType, device: u64, inode: u64) -> Metadata {
     })
 }
 
-/// The disk, with how often it was asked so far.
+/// The disk, with a count of the questions.
 #[derive(Drop)]
 pub struct Numbered {
     places: &'static [At],
@@ -124,7 +120,7 @@ impl Numbered {
         }
     }
 
-    /// How often it was asked what a path leads to.
+    /// Counts the questions what a path leads to.
     fn asked(&self) -> usize {
         self.asked.load(Ordering::SeqCst)
     }
@@ -139,7 +135,7 @@ impl Numbered {
     }
 }
 
-/// The item of a place, if it is in this directory.
+/// Returns `None` if the place isn't in this directory.
 fn item<A: Allocator + Copy>(
     alloc: A,
     at: At,
@@ -154,7 +150,6 @@ fn item<A: Allocator + Copy>(
     }
 }
 
-/// The items of a directory.
 fn listing<A: Allocator + Copy>(
     alloc: A,
     places: &[At],
@@ -204,7 +199,7 @@ impl FileSystem for Numbered {
     }
 }
 
-/// A walk over such a disk, and what is so of it.
+/// A walk over such a disk, with its answers.
 pub struct Row {
     pub places: &'static [At],
     pub root: &'static str,
@@ -214,7 +209,6 @@ pub struct Row {
     pub asked: usize,
 }
 
-/// Whether this is so if a crew of two reads.
 fn holds_by_crew<R: Host>(rt: &R, row: &Row) -> Result<bool, AllocError> {
     let walk = ByCrew {
         fs: Arc::new(rt.alloc(), Numbered::new(row.places))?,
@@ -224,7 +218,6 @@ fn holds_by_crew<R: Host>(rt: &R, row: &Row) -> Result<bool, AllocError> {
     Ok(walk.shows(rt, 2, row.answers) && walk.fs.asked() == row.asked)
 }
 
-/// Whether this is so if the walk is read in this way.
 fn holds_in<R: Host>(rt: &R, row: &Row, way: Way) -> bool {
     let fs = Numbered::new(row.places);
     let walk = Asked {
@@ -235,7 +228,7 @@ fn holds_in<R: Host>(rt: &R, row: &Row, way: Way) -> bool {
     walk.shows(rt, NoProcess, way, row.answers) && fs.asked() == row.asked
 }
 
-/// Whether this is so, read in each way and by a crew of two.
+/// Returns whether the walk has these answers and asks that often, read in each way and by a crew of two.
 pub fn holds<R: Host>(rt: &R, row: &Row) -> bool {
     let mut is_so = holds_by_crew(rt, row) == Ok(true);
     for way in WAYS {

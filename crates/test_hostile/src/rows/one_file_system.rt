@@ -3,10 +3,8 @@ use crate::rows::numbered::Told::{Nothing, Numbers};
 use crate::rows::numbered::{At, Row, holds};
 use test_fixtures::ways::Setting;
 
-/// The walk stays on one file system.
 const STAY: &[Setting] = &[Setting::SameFileSystem, Setting::Max(6)];
 
-/// Links are followed besides.
 const STAY_AND_FOLLOW: &[Setting] = &[Setting::SameFileSystem, Setting::Follow, Setting::Max(6)];
 
 #[test]
@@ -82,7 +80,7 @@ fn a_root_on_no_known_device_is_read(rt: HostRuntime) {
     assert!(rt; holds(&rt, &ROW));
 }
 
-/// A link to a directory on another device, in which a directory is on the link's own.
+/// A link to a directory on another device, which has a directory on the link's device.
 const ROOT_LINK: &[At] = &[
     At::Dir("/", Numbers(1, 1)),
     At::Link("/l", "/s", Numbers(2, 1)),

@@ -17,7 +17,7 @@ use test_fixtures::trees::{GROUPED, tree};
 use test_fixtures::ways::Setting;
 use test_fixtures::width::Width;
 
-/// The tree of groups, and whether its second group is gone.
+/// The tree of groups, whose second group may be gone.
 #[derive(Drop)]
 struct Vanishing {
     fs: MemoryFs,
@@ -66,15 +66,14 @@ impl FileSystem for Vanishing {
     }
 }
 
-/// All of the tree by name.
 const WHOLE: &str = "0 d /t; 1 f /t/a.txt; 1 f /t/b.txt; 1 f /t/c.txt; 1 d /t/group 1; \
                      2 f /t/group 1/d.txt; 1 d /t/group 2; 2 f /t/group 2/e.txt";
 
-/// The same without what is in the second group.
+/// The tree without the items of the second group.
 const GONE: &str = "0 d /t; 1 f /t/a.txt; 1 f /t/b.txt; 1 f /t/c.txt; 1 d /t/group 1; \
                     2 f /t/group 1/d.txt; 1 d /t/group 2 ! 1 /t/group 2 NotFound";
 
-/// Whether a walk yields one of these texts, whose second group is gone after that many answers.
+/// The second group vanishes after `count` answers. One of the texts must be the walk's.
 #[derive(Clone, Copy)]
 struct Vanishes<'a> {
     alloc: Global,
@@ -84,7 +83,7 @@ struct Vanishes<'a> {
 }
 
 impl Vanishes<'_> {
-    /// All answers of a walk.
+    /// The second group vanishes between them.
     fn found<S: FileSystem, L: Readers<((), ()), Arc<S>, NoProcess, Global>>(
         &self,
         walk: &mut WalkBy<S, L>,
@@ -113,7 +112,6 @@ impl<S: FileSystem> Visit<S> for Vanishes<'_> {
     }
 }
 
-/// Whether a serial walk, or one in batches, yields this.
 fn shows(alloc: Global, width: Width, count: usize, wanted: &str) -> Result<bool, BuildError> {
     let fs = Arc::new(alloc, Vanishing::new(alloc)?).map_err(AllocError::from)?;
     let walk = builder(alloc, fs.clone()?, "/t")?.sort(true);
@@ -144,7 +142,7 @@ fn a_group_that_is_gone_before_or_after_it_was_read(rt: HostRuntime) {
     }
 }
 
-/// Whether the group is gone or read ahead by a crew of two, and nothing else differs.
+/// A crew of two may have read the group ahead. Nothing else may differ.
 fn is_gone_or_not<R: Host>(rt: &R, count: usize) -> Result<bool, BuildError> {
     let alloc = rt.alloc();
     let fs = Arc::new(alloc, Vanishing::new(alloc)?).map_err(AllocError::from)?;

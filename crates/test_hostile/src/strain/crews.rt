@@ -11,10 +11,8 @@ use test_fixtures::answers::{Answer, are_lines};
 use test_fixtures::host::Host;
 use test_fixtures::trees::{FORKED, tree};
 
-/// The lines of the tree.
 const LINES: &str = "0 d /r; 1 d /r/a; 2 d /r/a/x; 1 d /r/b; 2 d /r/b/x; 1 d /r/c; 2 d /r/c/x";
 
-/// The tree, as what walks are asked for.
 fn forked(alloc: Global) -> Option<ByCrew<'static, MemoryFs>> {
     Some(ByCrew {
         fs: Arc::new(alloc, tree(alloc, FORKED).ok()?).ok()?,
@@ -23,12 +21,11 @@ fn forked(alloc: Global) -> Option<ByCrew<'static, MemoryFs>> {
     })
 }
 
-/// How many threads the process has.
+/// Asks the system for the threads of the process.
 fn threads<R: Files + Drop>(alloc: Global, disk: &RealFs<R>) -> Option<usize> {
     Some(disk.read_dir(alloc, "/proc/self/task").ok()?.len())
 }
 
-/// Begins a walk and drops it after that many answers.
 fn begins_and_drops<R: Host>(walk: CrewWalk<R, MemoryFs>, count: usize) -> bool {
     let mut walk = walk.into_iter();
     for _ in 0..count {
@@ -39,7 +36,7 @@ fn begins_and_drops<R: Host>(walk: CrewWalk<R, MemoryFs>, count: usize) -> bool 
     true
 }
 
-/// Whether that many walks on one crew, one after another, are begun and dropped.
+/// The walks follow one another on one crew.
 fn begin_and_drop<R: Host>(rt: &R, walks: usize) -> Option<bool> {
     let asked = forked(rt.alloc())?;
     let pool = Arc::new(rt.alloc(), Crew::new(rt.clone().ok()?, 1, 2)).ok()?;
@@ -52,7 +49,7 @@ fn begin_and_drop<R: Host>(rt: &R, walks: usize) -> Option<bool> {
     Some(pool.in_use() == 0)
 }
 
-/// Whether within some seconds there are as many threads as at first.
+/// Waits up to some seconds.
 fn are_as_at_first<R: Host + Files>(rt: &R, disk: &RealFs<R>, first: usize) -> bool {
     for _ in 0..5_000 {
         if threads(rt.alloc(), disk) == Some(first) {
@@ -63,7 +60,6 @@ fn are_as_at_first<R: Host + Files>(rt: &R, disk: &RealFs<R>, first: usize) -> b
     false
 }
 
-/// Whether a thousand walks leave no thread.
 fn leave_no_thread<R: Host + Files>(rt: &R) -> Option<bool> {
     let disk = RealFs::new(rt.clone().ok()?);
     let first = threads(rt.alloc(), &disk)?;
@@ -76,7 +72,7 @@ fn a_thousand_walks_on_one_crew_leave_no_thread(rt: HostRuntime) {
     assert!(rt; leave_no_thread(&rt) == Some(true));
 }
 
-/// The answers of two walks in turn, each on a crew of its own.
+/// Takes the answers of two walks in turn, each on a crew of its own.
 fn of_two<R: Host>(rt: &R) -> Option<(Vec<Answer>, Vec<Answer>)> {
     let alloc = rt.alloc();
     let asked = forked(alloc)?;
@@ -92,7 +88,6 @@ fn of_two<R: Host>(rt: &R) -> Option<(Vec<Answer>, Vec<Answer>)> {
     Some(found)
 }
 
-/// Whether both yield the lines of the tree.
 fn both_show<R: Host>(rt: &R) -> Option<bool> {
     let (first, second) = of_two(rt)?;
     let alloc = rt.alloc();

@@ -12,7 +12,7 @@ use test_fixtures::dice::Dice;
 use test_fixtures::host::Host;
 use test_fixtures::trees::{FORKED, tree};
 
-/// The tree, with what it waits by and how often it was called.
+/// A tree whose calls wait first.
 #[derive(Drop)]
 struct Slow<R> {
     fs: MemoryFs,
@@ -65,7 +65,6 @@ impl<R: Clock + Drop> FileSystem for Slow<R> {
     }
 }
 
-/// Whether a walk over the slow tree yields these lines, for which that many workers read.
 fn shows<R: Host>(rt: &R, workers: usize, wanted: &str) -> Option<bool> {
     let alloc = rt.alloc();
     let fs = Slow {

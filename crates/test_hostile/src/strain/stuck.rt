@@ -13,7 +13,7 @@ use std::{io, thread};
 use test_fixtures::host::Host;
 use test_fixtures::trees::{FORKED, tree};
 
-/// A tree in which the call for one directory blocks until it is let go.
+/// A tree where the call for one directory blocks until it is let go.
 #[derive(Drop)]
 struct Stuck<R> {
     fs: MemoryFs,
@@ -22,7 +22,7 @@ struct Stuck<R> {
     is_let_go: AtomicBool,
 }
 
-/// Whether a flag is set within some seconds.
+/// Waits up to some seconds.
 fn is_set(clock: &impl Clock, flag: &AtomicBool) -> bool {
     for _ in 0..10_000 {
         if flag.load(Ordering::SeqCst) {
@@ -63,7 +63,7 @@ impl<R: Clock + Drop> FileSystem for Stuck<R> {
     }
 }
 
-/// A walk that goes on until the call blocks that reads ahead for it.
+/// A visit that takes an answer, and then waits until the call that reads ahead blocks.
 #[derive(Drop)]
 struct Sticks<'a, R: Drop> {
     disk: &'a Stuck<R>,
@@ -79,7 +79,6 @@ impl<R: Clock + Drop, S: FileSystem> Visit<S> for Sticks<'_, R> {
     }
 }
 
-/// The tree, in which no call has blocked yet.
 fn stuck_tree<R: Host>(rt: &R) -> Option<Stuck<R>> {
     Some(Stuck {
         fs: tree(rt.alloc(), FORKED).ok()?,
@@ -89,7 +88,7 @@ fn stuck_tree<R: Host>(rt: &R) -> Option<Stuck<R>> {
     })
 }
 
-/// Whether a walk is dropped while the call blocks that reads ahead for it, and its place is free then.
+/// The walk is dropped while a call that reads ahead blocks. Its place must be free then.
 fn is_dropped<R: Host>(rt: &R) -> Option<bool> {
     let alloc = rt.alloc();
     let asked = ByCrew {

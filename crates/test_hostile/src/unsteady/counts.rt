@@ -5,12 +5,12 @@ use std::sync::Arc;
 use std::sync::atomic::{AtomicUsize, Ordering};
 use test_fixtures::answers::Answer;
 
-/// The count of the directories above the greatest depth.
+/// A count of directories above the greatest depth.
 #[derive(Drop)]
 pub struct Counts {
-    /// How many were given so far.
+    /// The number given so far.
     pub given: Arc<AtomicUsize>,
-    /// The greatest depth, at which none is read.
+    /// The greatest depth, where no directory is read.
     pub max_depth: usize,
 }
 

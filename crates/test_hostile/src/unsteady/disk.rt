@@ -9,7 +9,7 @@ use std::io::ErrorKind;
 use std::sync::atomic::{AtomicUsize, Ordering};
 use test_fixtures::dice::Dice;
 
-/// The file system of a seed, with how often it was called so far.
+/// The file system of a seed.
 #[derive(Drop)]
 pub struct Unsteady {
     seed: usize,
@@ -19,7 +19,7 @@ pub struct Unsteady {
     lists: AtomicUsize,
 }
 
-/// Names of every form: some are none.
+/// Names of every form. Some aren't names of files.
 const NAMES: &[&str] = &[
     "a",
     "b",
@@ -41,7 +41,6 @@ const NAMES: &[&str] = &[
     "a name that is as long as names of files seldom are, and that has some commas, too",
 ];
 
-/// Kinds of errors.
 const KINDS: &[ErrorKind] = &[
     ErrorKind::NotFound,
     ErrorKind::PermissionDenied,
@@ -70,7 +69,7 @@ fn error(dice: &mut Dice) -> io::Error {
     }
 }
 
-/// A type: a directory most often.
+/// Most often a directory.
 fn file_type(dice: &mut Dice) -> FileType {
     match dice.below(8) {
         0..=3 => FileType::Dir,
@@ -80,7 +79,6 @@ fn file_type(dice: &mut Dice) -> FileType {
     }
 }
 
-/// A directory above a path.
 fn above<'p>(dice: &mut Dice, path: &'p str) -> &'p str {
     let mut above = path;
     for _ in 0..dice.below(4) {
@@ -89,7 +87,7 @@ fn above<'p>(dice: &mut Dice, path: &'p str) -> &'p str {
     above
 }
 
-/// The text of a link at a path: that of a directory above it most often.
+/// Most often the path of a directory above.
 fn target<'p>(dice: &mut Dice, path: &'p str) -> &'p str {
     match dice.below(8) {
         0 => "..",
@@ -100,7 +98,6 @@ fn target<'p>(dice: &mut Dice, path: &'p str) -> &'p str {
     }
 }
 
-/// An item of a listing, or the error in its place.
 fn item<A: Allocator + Copy>(
     alloc: A,
     dice: &mut Dice,
@@ -117,7 +114,7 @@ fn item<A: Allocator + Copy>(
     Ok(Ok(Listed::of_type(name, file_type)))
 }
 
-/// A listing of up to six items.
+/// Draws up to six items.
 fn listing<A: Allocator + Copy>(
     alloc: A,
     dice: &mut Dice,
@@ -130,7 +127,7 @@ fn listing<A: Allocator + Copy>(
 }
 
 impl Unsteady {
-    /// The file system of a seed. Memory runs out in it now and then, or never.
+    /// Returns the file system of a seed. With `runs_out`, memory runs out now and then.
     pub fn new(seed: usize, runs_out: bool) -> Self {
         Unsteady {
             seed,
@@ -140,12 +137,12 @@ impl Unsteady {
         }
     }
 
-    /// How often a listing was asked for.
+    /// Returns how often a listing was asked for.
     pub fn lists(&self) -> usize {
         self.lists.load(Ordering::SeqCst)
     }
 
-    /// The numbers that the next call draws from. It fails now and then.
+    /// Returns the dice of the next call. Some calls fail.
     fn call(&self) -> Result<Dice, Fault> {
         let number = self.calls.fetch_add(1, Ordering::SeqCst);
         let seed = self.seed.wrapping_mul(1_000_003).wrapping_add(number);
@@ -159,7 +156,6 @@ impl Unsteady {
         Ok(dice)
     }
 
-    /// The metadata that a call draws.
     fn drawn_metadata(&self) -> Result<Metadata, Fault> {
         let mut dice = self.call()?;
         Ok(Metadata::new(file_type(&mut dice), 1))

@@ -3,14 +3,14 @@ use std::alloc::{AllocError, Global};
 use test_fixtures::answers::Answer;
 use test_fixtures::builders::Entry;
 
-/// How a walk ended.
+/// The end of a walk.
 #[derive(Clone, Copy, PartialEq, Eq, Debug)]
 pub enum End {
     /// With its last answer.
     Whole,
     /// Memory ran out.
     Memory,
-    /// An answer is one that can't come.
+    /// An answer is impossible.
     Wrong,
 }
 
@@ -19,11 +19,11 @@ pub enum End {
 struct Open {
     min_depth: usize,
     max_depth: usize,
-    /// Their paths, from the least depth on.
+    /// Their paths, shallowest first.
     paths: Vec<String>,
 }
 
-/// The path of an entry's directory, if that was read.
+/// Returns `None` if the directory wasn't read.
 fn read_at(entry: &Entry) -> Option<&str> {
     let directory = entry.read_children.as_ref()?;
     match directory.error() {
@@ -33,8 +33,7 @@ fn read_at(entry: &Entry) -> Option<&str> {
 }
 
 impl Open {
-    /// Whether an entry is from the least to the greatest depth, and comes after its directory. Then its own items may
-    /// come.
+    /// Returns whether an entry has a depth that is asked for and comes after its directory. Then its items may come.
     fn lets_in(&mut self, entry: &Entry) -> Result<bool, AllocError> {
         let Some(level) = entry.depth().checked_sub(self.min_depth) else {
             return Ok(false);
@@ -56,7 +55,6 @@ impl Open {
     }
 }
 
-/// Whether answers before the last may come so.
 fn may_come(open: &mut Open, answer: &Answer) -> Result<bool, AllocError> {
     match answer {
         Ok(entry) => open.lets_in(entry),
@@ -64,7 +62,7 @@ fn may_come(open: &mut Open, answer: &Answer) -> Result<bool, AllocError> {
     }
 }
 
-/// Returns how a walk ended whose entries are from one depth to another.
+/// Returns how a walk ended that yields entries from one depth to another.
 pub fn end_of(
     alloc: Global,
     found: &[Answer],

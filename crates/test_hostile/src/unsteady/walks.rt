@@ -12,13 +12,11 @@ use test_fixtures::dice::Dice;
 use test_fixtures::host::Host;
 use test_fixtures::ways::{Asked, Setting, WAYS, Way};
 
-/// How many seeds are played.
 const SEEDS: usize = 200;
 
-/// The greatest of all greatest depths, which ends the walks.
+/// The largest greatest depth. It ends the walks.
 const DEEPEST: usize = 5;
 
-/// A walk that is drawn: its file system, its root, its options, and who reads.
 #[derive(Clone, Copy)]
 struct Drawn {
     seed: usize,
@@ -43,7 +41,7 @@ fn root(dice: &mut Dice) -> &'static str {
     }
 }
 
-/// This option, or none, as often as not.
+/// Returns the option as often as not, and else one that changes nothing.
 fn maybe(dice: &mut Dice, setting: Setting) -> Setting {
     if dice.below(2) == 0 {
         setting
@@ -53,7 +51,6 @@ fn maybe(dice: &mut Dice, setting: Setting) -> Setting {
 }
 
 impl Drawn {
-    /// The walk of a seed.
     fn new(seed: usize) -> Self {
         let mut dice = Dice::new(seed);
         let max_depth = dice.below(DEEPEST + 1);
@@ -80,7 +77,7 @@ impl Drawn {
         }
     }
 
-    /// Whether a walk may have gone so: each directory that was given was read once, or some not where memory ran out.
+    /// Each directory that was given must be read once. Some may be unread if memory ran out.
     fn lets(&self, course: &Course) -> bool {
         match course.end {
             End::Whole => course.lists == course.given,
@@ -89,7 +86,6 @@ impl Drawn {
         }
     }
 
-    /// How a walk with these answers went.
     fn course(
         &self,
         alloc: Global,
@@ -104,7 +100,6 @@ impl Drawn {
         })
     }
 
-    /// How the walk goes in its way.
     fn in_way<R: Host>(&self, rt: &R) -> Result<Course, AllocError> {
         let alloc = rt.alloc();
         let fs = Unsteady::new(self.seed, self.runs_out);
@@ -122,7 +117,6 @@ impl Drawn {
         self.course(alloc, found.as_slice(), fs.lists(), &given)
     }
 
-    /// How the walk goes that a crew reads for.
     fn by_crew<R: Host>(&self, rt: &R) -> Result<Course, AllocError> {
         let alloc = rt.alloc();
         let given = Arc::new(alloc, AtomicUsize::new(0))?;
@@ -141,24 +135,22 @@ impl Drawn {
     }
 }
 
-/// How a walk went.
 #[derive(Clone, Copy, Debug, PartialEq, Eq)]
 struct Course {
     end: End,
-    /// How often a listing was asked for.
+    /// The number of listings that were asked for.
     lists: usize,
-    /// How many directories above the greatest depth readings gave.
+    /// The number of directories above the greatest depth that readings gave.
     given: usize,
 }
 
-/// A seed, and how its walks go, in the drawn way and by a crew.
+/// A seed, and its walks in the drawn way and by a crew.
 type Played = (
     usize,
     Result<Course, AllocError>,
     Result<Course, AllocError>,
 );
 
-/// Whether both walks of a seed may go so.
 fn may_go(drawn: &Drawn, (_, in_way, by_crew): &Played) -> bool {
     match (in_way, by_crew) {
         (Ok(in_way), Ok(by_crew)) => drawn.lets(in_way) && drawn.lets(by_crew),
@@ -166,7 +158,7 @@ fn may_go(drawn: &Drawn, (_, in_way, by_crew): &Played) -> bool {
     }
 }
 
-/// The first of these seeds where a walk breaks a rule.
+/// Returns the first of these seeds where a walk breaks a rule.
 fn first_wrong<R: Host>(rt: &R, from: usize, count: usize) -> Option<Played> {
     for seed in from..from.saturating_add(count) {
         let drawn = Drawn::new(seed);
@@ -178,7 +170,7 @@ fn first_wrong<R: Host>(rt: &R, from: usize, count: usize) -> Option<Played> {
     None
 }
 
-/// The number that a word of the environment is, if it is one.
+/// Returns the default if the word isn't a number.
 fn number(word: Result<String, env::VarError>, default: usize) -> usize {
     match word {
         Ok(word) => word.as_str().parse::<usize>().unwrap_or(default),

@@ -2,7 +2,7 @@
 use std::os::unix::fs::symlink;
 use std::{env, fs, io, process};
 
-/// One step of filling a folder. Paths begin at the folder.
+/// A step that fills a folder. Paths begin at the folder.
 #[derive(Clone, Copy)]
 pub enum Step {
     Dir(&'static str),
@@ -10,11 +10,11 @@ pub enum Step {
     File(usize, &'static str),
     /// A link: its text, and its path.
     Link(&'static str, &'static str),
-    /// A link whose text is the whole path of what it leads to.
+    /// A link whose text is the whole path of its target.
     LinkTo(&'static str, &'static str),
 }
 
-/// The path of something in a folder.
+/// Returns the path of `below` in a folder.
 pub fn path_in(rt: &HostRuntime, folder: &str, below: &str) -> io::Result<String> {
     Ok(format!(in rt.alloc(); "{folder}{below}")?)
 }
@@ -44,12 +44,12 @@ fn take_all(rt: &HostRuntime, folder: &str, steps: &[Step]) -> io::Result<()> {
     Ok(())
 }
 
-/// Removes a folder with all that it holds.
+/// Removes a folder with everything in it.
 pub fn remove(rt: &HostRuntime, folder: &str) -> io::Result<()> {
     fs::remove_dir_all(rt, folder)
 }
 
-/// The path of a folder of this process for the test of this name.
+/// The path has the number of this process.
 fn path_of(rt: &HostRuntime, name: &str) -> io::Result<String> {
     let all = env::temp_dir(rt)?;
     let all = all.as_path().as_str();

@@ -7,7 +7,7 @@ use test_fixtures::builders::{Builder, builder};
 use test_fixtures::ways::{Setting, all_of, with_all};
 use walk_text::print::print_answer;
 
-/// Whether the lines of all answers could be written.
+/// Returns whether all lines could be written.
 fn writes(answers: &[Answer], lines: &mut Vec<u8>) -> bool {
     let mut is_whole = true;
     for answer in answers {
@@ -16,7 +16,7 @@ fn writes(answers: &[Answer], lines: &mut Vec<u8>) -> bool {
     is_whole
 }
 
-/// The lines of answers, with `/t` where a path begins with this folder.
+/// Returns the lines of answers, with `/t` where a path begins with this folder.
 pub fn lines(alloc: Global, answers: &[Answer], folder: &str) -> Result<String, AllocError> {
     let mut lines = Vec::new(alloc);
     if !writes(answers, &mut lines) {
@@ -27,8 +27,8 @@ pub fn lines(alloc: Global, answers: &[Answer], folder: &str) -> Result<String, 
         .replace(alloc, folder, "/t")
 }
 
-/// All answers of a walk with these settings. A test names a file system alone, since walks over the disk have long
-/// types.
+/// Returns all answers of a walk with these settings. A test names a file system alone, since walks over the disk have
+/// long types.
 pub fn answers<S: FileSystem>(
     alloc: Global,
     fs: S,
@@ -39,7 +39,7 @@ pub fn answers<S: FileSystem>(
     all_of(alloc, walk.into_iter())
 }
 
-/// The lines of such a walk, with `/t` for a folder.
+/// Returns the lines of such a walk, with `/t` where a path begins with the folder.
 pub fn found<S: FileSystem>(
     alloc: Global,
     fs: S,

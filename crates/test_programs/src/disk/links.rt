@@ -42,7 +42,7 @@ fn a_link_to_a_directory_above_is_a_loop(rt: HostRuntime) {
     assert!(rt; shows(&rt, "loop", STEPS, true, wanted));
 }
 
-/// Whether walks that don't follow links yield these from names in a folder.
+/// The rows are names in the folder and answers. The walks don't follow links.
 fn show(rt: &HostRuntime, folder: &str, rows: &[(&str, &str)]) -> bool {
     for (below, wanted) in rows {
         if !shows_from(rt, folder, below, false, wanted) {
@@ -77,13 +77,13 @@ fn a_root_that_is_a_followed_link_to_a_directory(rt: HostRuntime) -> Result<(), 
     Ok(())
 }
 
-/// What a walk by name yields that follows links to the depth of 6, with `/t` for the folder.
+/// Goes down to the depth of 6.
 fn followed(rt: &HostRuntime, root: &str, folder: &str) -> io::Result<String> {
     const SETTINGS: &[Setting] = &[Setting::Sort, Setting::Follow, Setting::Max(6)];
     Ok(found(rt.alloc(), RealFs::new(*rt), root, SETTINGS, folder)?)
 }
 
-/// A directory, in which a link leads to the folder by its whole path.
+/// A directory with a link whose text is the whole path of the folder.
 const BACK: &[Step] = &[Step::Dir("/a"), Step::LinkTo("", "/a/l")];
 
 #[test]
@@ -95,7 +95,7 @@ fn a_link_by_a_whole_path_is_a_loop_below_a_whole_path(rt: HostRuntime) -> Resul
     Ok(())
 }
 
-/// What such a walk yields from the folder as the current directory of the process.
+/// The folder becomes the current directory of the process.
 fn followed_here(rt: &HostRuntime, folder: &str) -> io::Result<String> {
     env::set_current_dir(rt, folder)?;
     followed(rt, ".", folder)
@@ -120,7 +120,7 @@ const TO_EACH_OTHER: &[Step] = &[
     Step::Link("../a", "/b/m"),
 ];
 
-/// The lines that end there, by their texts: errors of one list come as the disk lists them.
+/// The lines of a walk, in the order of their texts. The disk sets the order of the errors of a list.
 const ENDED: &str = "! 3 /t/a/l/l loop /t/a\n! 3 /t/a/l/m loop /t/a\n\
                      ! 3 /t/a/m/l loop /t/a\n! 3 /t/a/m/m loop /t/a\n\
                      ! 3 /t/b/l/l loop /t/b\n! 3 /t/b/l/m loop /t/b\n\
@@ -128,7 +128,7 @@ const ENDED: &str = "! 3 /t/a/l/l loop /t/a\n! 3 /t/a/l/m loop /t/a\n\
                      0 d /t\n1 d /t/a\n1 d /t/b\n\
                      2 D /t/a/l\n2 D /t/a/m\n2 D /t/b/l\n2 D /t/b/m\n";
 
-/// The same lines in the order of their texts.
+/// Orders the lines by their texts.
 fn in_order(alloc: Global, lines: &str) -> Result<String, AllocError> {
     let mut all = Vec::new(alloc);
     for line in lines.lines() {

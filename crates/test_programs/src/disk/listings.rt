@@ -1,4 +1,4 @@
-//! Walks over a disk whose answers are written down.
+//! Walks over a disk whose answers are in a table.
 use crate::disk::lines::{answers, lines};
 use crate::disk::told::{Call, Calls, Readings, Told, ToldDisk};
 use jwalk::file_system::RealFs;
@@ -8,16 +8,14 @@ use std::rc::Rc;
 use test_fixtures::answers::{Answer, are_lines};
 use test_fixtures::ways::Setting;
 
-/// A call that fails, at a path.
 type Failing = (Call, &'static str);
 
-/// All answers of a walk over a disk from its directory, in the order of the listing.
+/// Yields in the order of the listing.
 fn found_on(alloc: Global, disk: ToldDisk, follow: bool) -> Result<Vec<Answer>, AllocError> {
     let settings: &[Setting] = if follow { &[Setting::Follow] } else { &[] };
     answers(alloc, RealFs::new(disk), "/t", settings)
 }
 
-/// The same over the disk of these answers.
 fn found_of(alloc: Global, told: Told, follow: bool) -> Result<Vec<Answer>, AllocError> {
     found_on(
         alloc,
@@ -26,7 +24,6 @@ fn found_of(alloc: Global, told: Told, follow: bool) -> Result<Vec<Answer>, Allo
     )
 }
 
-/// Whether this is what a walk yields.
 fn shows(alloc: Global, told: Told, follow: bool, wanted: &str) -> bool {
     let Ok(found) = found_of(alloc, told, follow) else {
         return false;
@@ -37,7 +34,6 @@ fn shows(alloc: Global, told: Told, follow: bool, wanted: &str) -> bool {
     }
 }
 
-/// Whether this is what a walk yields over a directory that reads so.
 fn is_read(alloc: Global, readings: Readings, wanted: &str) -> bool {
     let told = Told {
         readings,
@@ -82,7 +78,7 @@ fn memory_runs_out_while_names_are_read(rt: HostRuntime) {
     );
 }
 
-/// A directory of a file, a link, a directory and a hidden file, where calls fail.
+/// The directory has a file, a link, a directory and a hidden file.
 fn failing(failing: &'static [Failing], kind: ErrorKind) -> Told {
     Told {
         readings: Readings::FourNames,
@@ -100,10 +96,9 @@ fn names_whose_types_fail_hidden_or_not(rt: HostRuntime) {
     assert!(rt; shows(rt.alloc(), told, false, wanted));
 }
 
-/// Calls that fail, and what a walk then yields that follows links.
+/// Calls that fail, and the answers of a walk that follows links.
 type Row = (&'static [Failing], &'static str);
 
-/// Whether all rows are so, where the calls fail in this way.
 fn are_so(alloc: Global, rows: &[Row], kind: ErrorKind) -> bool {
     for (calls, wanted) in rows {
         if !shows(alloc, failing(*calls, kind), true, *wanted) {
@@ -165,8 +160,8 @@ fn a_directory_that_may_not_be_read_is_answered(rt: HostRuntime) -> Result<(), A
     Ok(())
 }
 
-/// Whether a walk over a disk that doesn't fail yields four entries and makes that many calls. They are for directories
-/// that are opened, for what is at paths, for what they lead to, and for the texts of links.
+/// The walk must yield four entries. The calls open a directory, look at a path, look at a path's target, and read the
+/// text of a link.
 fn makes_calls(
     alloc: Global,
     follow: bool,

@@ -12,7 +12,7 @@ use test_fixtures::answers::Answer;
 use test_fixtures::builders::builder;
 use test_fixtures::ways::all_of;
 
-/// A directory, a file, a link to it, and a file that is to have two names.
+/// A directory, a file, a link to it, and a file that will have two names.
 const KINDS: &[Step] = &[
     Step::Dir("/d"),
     Step::File(5_000, "/f"),
@@ -20,22 +20,21 @@ const KINDS: &[Step] = &[
     Step::Link("f", "/l"),
 ];
 
-/// What the filled folder holds, by name.
+/// The folder and everything in it, by name.
 const NAMES: &[&str] = &["", "/d", "/f", "/h1", "/h2", "/l", "/s", "/t"];
 
-/// A large file of which nothing is written.
+/// Nothing is written to the file.
 fn make_sparse(rt: &HostRuntime, path: &str) -> io::Result<()> {
     File::create(rt, path)?.set_len(1 << 20)
 }
 
-/// The time that many seconds and nanoseconds after 1970 began.
 fn since_1970(seconds: u64, nanoseconds: u32) -> Option<SystemTime> {
     UNIX_EPOCH
         .checked_add(Duration::from_secs(seconds))?
         .checked_add(Duration::from_nanos(u64::from(nanoseconds)))
 }
 
-/// A file with set times and permissions.
+/// Sets the times and the permissions.
 fn make_timed(rt: &HostRuntime, path: &str) -> io::Result<()> {
     let file = File::create(rt, path)?;
     file.set_permissions(Permissions::from_mode(0o640))?;
@@ -49,7 +48,6 @@ fn make_timed(rt: &HostRuntime, path: &str) -> io::Result<()> {
     file.set_times(times.set_modified(modified).set_accessed(accessed))
 }
 
-/// Makes a folder for the test of this name, of files of all kinds.
 fn make_kinds(rt: &HostRuntime, name: &str) -> io::Result<String> {
     let folder = make(rt, name, KINDS)?;
     let at = folder.as_str();
@@ -63,7 +61,7 @@ fn make_kinds(rt: &HostRuntime, name: &str) -> io::Result<String> {
     Ok(folder)
 }
 
-/// All that a walk by name yields that keeps metadata or not.
+/// The walk is by name.
 fn answers<S: FileSystem>(
     alloc: Global,
     fs: S,
@@ -74,12 +72,10 @@ fn answers<S: FileSystem>(
     all_of(alloc, walk.into_iter())
 }
 
-/// The same from a folder on the disk.
 fn found(rt: &HostRuntime, folder: &str, keep: bool) -> io::Result<Vec<Answer>> {
     Ok(answers(rt.alloc(), RealFs::new(*rt), folder, keep)?)
 }
 
-/// The metadata of an answer, if it keeps any.
 fn seen(answer: &Answer) -> Option<&Metadata> {
     match answer {
         Ok(entry) => entry.metadata_seen(),
@@ -87,7 +83,7 @@ fn seen(answer: &Answer) -> Option<&Metadata> {
     }
 }
 
-/// The metadata that the standard library reads of everything in the folder.
+/// Reads the metadata of everything in the folder.
 fn by_std(rt: &HostRuntime, folder: &str) -> io::Result<Vec<fs::Metadata>> {
     let mut all = Vec::new(rt.alloc());
     for name in NAMES {
@@ -109,7 +105,7 @@ fn is_moment(seen: Moment, seconds: i64, nanoseconds: i64) -> bool {
     seen.seconds == seconds && i64::from(seen.nanoseconds) == nanoseconds
 }
 
-/// Whether this is when it was created, or the file system doesn't know that.
+/// Also holds if neither has the time, as of a file system that doesn't know it.
 fn is_created(seen: Option<Moment>, by_std: &fs::Metadata) -> bool {
     let Ok(created) = by_std.created() else {
         return seen.is_none();
@@ -123,7 +119,6 @@ fn is_created(seen: Option<Moment>, by_std: &fs::Metadata) -> bool {
     }
 }
 
-/// Whether these times are those that the standard library read.
 fn are_times(seen: &Details, by_std: &fs::Metadata) -> bool {
     is_moment(seen.modified, by_std.mtime(), by_std.mtime_nsec())
         && is_moment(seen.accessed, by_std.atime(), by_std.atime_nsec())
@@ -131,7 +126,6 @@ fn are_times(seen: &Details, by_std: &fs::Metadata) -> bool {
         && is_created(seen.created, by_std)
 }
 
-/// Whether each field is what the standard library read.
 fn is_same(seen: &Metadata, by_std: &fs::Metadata) -> bool {
     let Some(details) = seen.details() else {
         return false;
@@ -148,7 +142,7 @@ fn is_same(seen: &Metadata, by_std: &fs::Metadata) -> bool {
         && are_times(&details, by_std)
 }
 
-/// Whether each answer keeps what the standard library read, and none is missing.
+/// No answer may be missing.
 fn are_same(found: &[Answer], by_std: &[fs::Metadata]) -> bool {
     for (answer, by_std) in found.iter().zip(by_std) {
         if !matches!(seen(answer), Some(seen) if is_same(seen, by_std)) {
@@ -158,7 +152,7 @@ fn are_same(found: &[Answer], by_std: &[fs::Metadata]) -> bool {
     found.len() == by_std.len()
 }
 
-/// Whether a walk keeps the metadata that the standard library reads right before it.
+/// The standard library reads the metadata right before the walk does.
 fn keeps_the_same(rt: &HostRuntime, folder: &str) -> io::Result<bool> {
     let by_std = by_std(rt, folder)?;
     Ok(are_same(found(rt, folder, true)?.as_slice(), by_std.as_slice()))
@@ -173,7 +167,6 @@ fn metadata_of_all_kinds_is_what_the_standard_library_reads(rt: HostRuntime) -> 
     Ok(())
 }
 
-/// The metadata of the entry of this name.
 fn seen_of<'a>(found: &'a [Answer], name: &str) -> Option<&'a Metadata> {
     for answer in found {
         if let Ok(entry) = answer
@@ -185,7 +178,7 @@ fn seen_of<'a>(found: &'a [Answer], name: &str) -> Option<&'a Metadata> {
     None
 }
 
-/// Whether two names are those of one file, and another is not.
+/// Also checks that another file has another identity.
 fn are_one_file(found: &[Answer]) -> Option<bool> {
     let first = seen_of(found, "h1")?.details()?;
     let second = seen_of(found, "h2")?.details()?;
@@ -195,13 +188,11 @@ fn are_one_file(found: &[Answer]) -> Option<bool> {
     Some(is_one && is_another && first.links == 2 && other.links == 1)
 }
 
-/// Whether the sparse file takes less room than its length.
 fn is_sparse(found: &[Answer]) -> Option<bool> {
     let sparse = seen_of(found, "s")?;
     Some(sparse.len() == 1 << 20 && sparse.details()?.blocks < (1 << 20) / 512)
 }
 
-/// Whether a file has the times and the permissions that it was given.
 fn is_as_set(found: &[Answer]) -> Option<bool> {
     let set = seen_of(found, "t")?.details()?;
     Some(
@@ -223,7 +214,6 @@ fn hard_links_a_sparse_file_and_set_times_are_seen(rt: HostRuntime) -> Result<()
     Ok(())
 }
 
-/// Whether these are entries that keep no metadata.
 fn keep_none(found: &[Answer]) -> bool {
     for answer in found {
         if !matches!(answer, Ok(entry) if entry.metadata_seen().is_none()) {

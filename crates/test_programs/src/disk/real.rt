@@ -8,10 +8,10 @@ use test_fixtures::ways::Setting;
 /// The settings of a walk by name.
 pub const BY_NAME: &[Setting] = &[Setting::Sort];
 
-/// The same, where links are followed.
+/// The settings of a walk by name that follows links.
 const FOLLOWED: &[Setting] = &[Setting::Sort, Setting::Follow];
 
-/// What a walk by name from something in a folder yields.
+/// Returns the lines of a walk by name from `below` in a folder.
 pub fn found_from(rt: &HostRuntime, folder: &str, below: &str, follow: bool) -> io::Result<String> {
     let root = path_in(rt, folder, below)?;
     let settings = if follow { FOLLOWED } else { BY_NAME };
@@ -24,7 +24,7 @@ pub fn found_from(rt: &HostRuntime, folder: &str, below: &str, follow: bool) -> 
     )?)
 }
 
-/// Whether this is what a walk by name from something in a folder yields.
+/// Returns whether a walk by name from `below` in a folder has these lines.
 pub fn shows_from(rt: &HostRuntime, folder: &str, below: &str, follow: bool, wanted: &str) -> bool {
     match found_from(rt, folder, below, follow) {
         Ok(found) => found.as_str() == wanted,
@@ -32,7 +32,7 @@ pub fn shows_from(rt: &HostRuntime, folder: &str, below: &str, follow: bool, wan
     }
 }
 
-/// Whether this is what a walk by name yields from a folder for the test of this name, which these steps fill.
+/// Returns whether a walk by name has these lines over a folder that is made for the test and filled by these steps.
 pub fn shows(rt: &HostRuntime, name: &str, steps: &[Step], follow: bool, wanted: &str) -> bool {
     let Ok(folder) = make(rt, name, steps) else {
         return false;

@@ -12,7 +12,7 @@ use test_fixtures::answers::{Answer, are_lines};
 use test_fixtures::builders::builder;
 use test_fixtures::ways::with_all;
 
-/// All answers of a walk, where a directory is removed once the first is there.
+/// Removes the directory after the first answer.
 fn around_removal<S: FileSystem>(
     rt: &HostRuntime,
     walk: &mut DirEntryIter<((), ()), S, NoProcess>,
@@ -25,7 +25,7 @@ fn around_removal<S: FileSystem>(
     Ok(found)
 }
 
-/// The answers of a walk by name over this disk, where a directory is removed once the root is yielded.
+/// Removes the directory after the first answer.
 fn answers_around_removal<S: FileSystem>(
     rt: &HostRuntime,
     disk: S,
@@ -36,7 +36,7 @@ fn answers_around_removal<S: FileSystem>(
     around_removal(rt, &mut walk.into_iter(), removed)
 }
 
-/// Whether the error of the removed directory comes where it would have been read.
+/// The error must come where the directory would have been read.
 fn shows_removal(rt: &HostRuntime, folder: &str) -> io::Result<bool> {
     let removed = path_in(rt, folder, "/b")?;
     let found = answers_around_removal(rt, RealFs::new(*rt), folder, removed.as_str())?;
@@ -64,8 +64,8 @@ fn a_directory_that_is_removed_under_way(rt: HostRuntime) -> Result<(), Fail> {
     Ok(())
 }
 
-/// Whether the error of a directory without permissions comes where it would be read, if that is denied to this
-/// process: nothing is, to the superuser.
+/// The error of a directory without permissions must come where the directory would be read. The superuser may read it
+/// all the same.
 fn shows_closed(rt: &HostRuntime, folder: &str) -> io::Result<bool> {
     let closed = path_in(rt, folder, "/a")?;
     fs::set_permissions(rt, closed.as_str(), fs::Permissions::from_mode(0))?;

@@ -1,4 +1,4 @@
-//! Walks over folders of size on the disk.
+//! Walks over large folders on the disk.
 use crate::disk::folder::{make, path_in, remove};
 use crate::disk::lines::answers;
 use crate::disk::real::{BY_NAME, shows_from};
@@ -7,7 +7,7 @@ use std::test::Fail;
 use std::{fs, io};
 use test_fixtures::answers::Answer;
 
-/// Makes a file of the wide directory, and adds the line of its entry. Names are in the order of their numbers.
+/// Makes a file of the wide directory, and adds the line of its entry. The names have the order of the numbers.
 fn make_file(rt: &HostRuntime, folder: &str, number: usize, lines: &mut String) -> io::Result<()> {
     let name = format!(in rt.alloc(); "/{number} of the files of one wide directory")?;
     fs::write(
@@ -19,8 +19,7 @@ fn make_file(rt: &HostRuntime, folder: &str, number: usize, lines: &mut String) 
     Ok(())
 }
 
-/// Whether a walk by name yields thousands of files that are made in the wide directory. Their names are longer
-/// together than what one reading of it gives.
+/// All names together are longer than one reading of a directory.
 fn finds_all_files(rt: &HostRuntime, folder: &str) -> io::Result<bool> {
     let mut lines = String::from_str(rt.alloc(), "0 d /t\n")?;
     for number in 10_000..15_000 {
@@ -38,10 +37,9 @@ fn thousands_of_files_in_one_directory(rt: HostRuntime) -> Result<(), Fail> {
     Ok(())
 }
 
-/// How many directories are in one another.
+/// The number of nested directories.
 const DEPTH: usize = 1_000;
 
-/// Makes directories in one another, with names of one letter.
 fn make_directories(rt: &HostRuntime, folder: &str) -> io::Result<()> {
     let mut path = String::from_str(rt.alloc(), folder)?;
     for _ in 0..DEPTH {
@@ -51,7 +49,7 @@ fn make_directories(rt: &HostRuntime, folder: &str) -> io::Result<()> {
     Ok(())
 }
 
-/// Whether an answer is a directory at this depth that could be read.
+/// The directory must have been read.
 fn is_at(answer: &Answer, depth: usize) -> bool {
     match answer {
         Ok(entry) => {
@@ -62,7 +60,7 @@ fn is_at(answer: &Answer, depth: usize) -> bool {
     }
 }
 
-/// Whether a walk from the folder yields it and all directories in one another, each one deeper than the one before.
+/// Each directory must be one deeper than the one before.
 fn goes_down(rt: &HostRuntime, folder: &str) -> io::Result<bool> {
     make_directories(rt, folder)?;
     let found = answers(rt.alloc(), RealFs::new(*rt), folder, BY_NAME)?;

@@ -1,4 +1,4 @@
-//! A disk whose answers are written down.
+//! A disk whose answers are in a table.
 ghost use Rattle.std.specs.Io.{ReadsAtMost};
 
 use std::alloc::Allocator;
@@ -9,7 +9,7 @@ use std::path::PathBuf;
 use std::rc::Rc;
 use std::rt::Files;
 
-/// What one reading of a directory gives.
+/// One part of the reading of a directory.
 #[derive(Clone, Copy)]
 enum Part {
     /// Names, each ended by a NUL.
@@ -17,13 +17,14 @@ enum Part {
     Fails(ErrorKind),
 }
 
-/// What the readings of a directory give, one after the other.
+/// The readings of a directory, in order.
 #[derive(Clone, Copy)]
 pub enum Readings {
     Nothing,
     /// `a`, `l`, `s` and `.h`.
     FourNames,
-    /// The directory itself and the one above it, `b`, a name that is no text, and `c`; then another one, and `d`.
+    /// The directory itself and the one above it, `b`, a name that isn't text, and `c`; then another such name, and
+    /// `d`.
     NamesThatAreNoTexts,
     /// `b` and `a`; then `c`; then an error.
     FaultAfterThreeNames,
@@ -33,32 +34,32 @@ pub enum Readings {
     NoMemoryAfterTwoNames,
 }
 
-/// A call that is made of a disk.
+/// A call to a disk.
 #[derive(Clone, Copy, PartialEq, Eq)]
 pub enum Call {
-    /// A directory is opened. Its path ends in a slash.
+    /// Opens a directory, by a path that ends in a slash.
     Open,
-    /// What is at a path is looked at.
+    /// Looks at a path.
     Look,
-    /// What a path leads to is looked at.
+    /// Looks at the target of a path.
     Follow,
-    /// The text of a link is read.
+    /// Reads the text of a link.
     Text,
 }
 
-/// What is written down of a disk. It has the directory `/t`, in which the directory `/t/s` is empty and the link
-/// `/t/l` leads to an empty directory elsewhere. All else is a file.
+/// The table of a disk. The disk has the directory `/t`, in which the directory `/t/s` is empty and the link `/t/l`
+/// leads to an empty directory elsewhere. Everything else is a file.
 #[derive(Clone, Copy)]
 pub struct Told {
-    /// What is read of `/t`.
+    /// The readings of `/t`.
     pub readings: Readings,
     /// The calls that fail, each at a path.
     pub failing: &'static [(Call, &'static str)],
-    /// How they fail.
+    /// The error of the calls that fail.
     pub kind: ErrorKind,
 }
 
-/// How often each call was made.
+/// The number of calls of each sort.
 #[derive(Drop)]
 pub struct Calls {
     opens: Cell<usize>,
@@ -67,7 +68,7 @@ pub struct Calls {
     texts: Cell<usize>,
 }
 
-/// A disk whose answers are written down. Its calls are counted where others see it.
+/// A disk whose answers are in a table, with counts of its calls that others see.
 #[derive(Drop)]
 pub struct ToldDisk {
     told: Told,
@@ -112,7 +113,6 @@ impl Readings {
     }
 }
 
-/// Copies names to the start of a buffer.
 fn fill(mut names: &[u8], buf: &mut [u8]) -> io::Result<usize>
     ensures { ReadsAtMost result buf.new }
 {
@@ -156,7 +156,8 @@ impl Calls {
         counter.set(counter.get().wrapping_add(1));
     }
 
-    /// How often a directory was opened, what is at a path looked at, what a path leads to, and the text of a link.
+    /// Returns the number of calls that open a directory, look at a path, look at the target of a path, and read the
+    /// text of a link.
     pub fn counts(&self) -> (usize, usize, usize, usize) {
         (
             self.opens.get(),
@@ -176,7 +177,7 @@ impl ToldDisk {
         ToldDisk { told, calls }
     }
 
-    /// Counts a call, which may fail.
+    /// Counts the call first.
     fn called(&self, call: Call, path: &str) -> io::Result<()> {
         self.calls.add(call);
         for (failing, at) in self.told.failing {
@@ -187,7 +188,7 @@ impl ToldDisk {
         Ok(())
     }
 
-    /// Whether an open is interrupted that was just counted.
+    /// The first two opens are. The open has been counted by then.
     fn is_open_interrupted(&self) -> bool {
         matches!(self.told.readings, Readings::Interrupted) && self.calls.opens.get() <= 2
     }

@@ -25,7 +25,7 @@ const GROUPED: &[Step] = &[
     Step::File(6, "/b.txt"),
 ];
 
-/// What walks by name yield over them.
+/// The lines of a walk by name over these files.
 const BY_NAME: &str = "0 d /t\n1 f /t/a.txt\n1 f /t/b.txt\n1 f /t/c.txt\n\
                        1 d /t/group 1\n2 f /t/group 1/d.txt\n1 d /t/group 2\n2 f /t/group 2/e.txt\n";
 
@@ -34,10 +34,10 @@ fn a_folder_of_groups_by_name(rt: HostRuntime) {
     assert!(rt; shows(&rt, "groups", GROUPED, false, BY_NAME));
 }
 
-/// The words for reading one directory at a time, one or eight together, and by a crew.
+/// The words to read one directory at a time, one or eight together, and by a crew.
 const READ_BY: &[&[&str]] = &[&[], &["--batch", "1"], &["--batch", "8"], &["--crew", "2"]];
 
-/// Whether a run by name over a folder of this disk prints these lines, with some words in front.
+/// The words of `front` come first. The run is by name.
 fn prints<S: FileSystem + Send + Sync + 'static>(
     rt: &impl Host,
     disk: S,
@@ -64,7 +64,7 @@ fn the_same_lines_of_a_folder_one_at_a_time_in_batches_and_by_a_crew(
     Ok(())
 }
 
-/// What a walk yields by name whose directories are read several at a time, with `/t` for the folder.
+/// Reads several directories at a time, by name.
 fn found_in_batches<R: Threads + AllocGlobal + Sync, S: FileSystem + Send + Sync>(
     rt: &R,
     walk: WalkDirGeneric<((), ()), S, NoProcess>,
@@ -85,7 +85,7 @@ fn a_folder_of_groups_in_batches(rt: HostRuntime) -> Result<(), Fail> {
     Ok(())
 }
 
-/// Whether a file in a folder has this length, as what the path leads to and as what is there.
+/// Both the path and its target must be a file of this length.
 fn has_length(rt: &HostRuntime, folder: &str, below: &str, len: u64) -> Result<bool, Fault> {
     let fs = RealFs::new(*rt);
     let path = path_in(rt, folder, below)?;
@@ -118,15 +118,15 @@ fn lengths_of_files(rt: HostRuntime) -> Result<(), Fail> {
     Ok(())
 }
 
-/// Directories in one another, where the process begins in the one around them.
+/// Nested directories. The process begins in the folder.
 const NESTED: &[Step] = &[Step::Dir("/r"), Step::Dir("/r/s")];
 
-/// What a walk to the depth 1 yields from a path that begins at the current directory of the process.
+/// Walks to the depth of 1, from a path that begins at the current directory of the process.
 fn found_here(rt: &HostRuntime, root: &str) -> io::Result<String> {
     Ok(found(rt.alloc(), RealFs::new(*rt), root, &[Setting::Max(1)], "/t")?)
 }
 
-/// What walks yield from the folder around, each from one directory further down.
+/// Walks from the folder three times, as the current directory moves further down.
 fn found_further_down(rt: &HostRuntime, folder: &str) -> io::Result<String> {
     let mut all = String::new(rt.alloc());
     for (below, root) in [("", "."), ("/r", ".."), ("/r/s", "../..")] {

@@ -7,7 +7,6 @@ use test_fixtures::host::Host;
 use test_fixtures::watched::{Failing, Watched};
 use walk_text::failure::Failure;
 
-/// Lines of that many directories beside one another.
 fn dir_lines(alloc: Global, count: u64) -> Result<String, AllocError> {
     let mut lines = String::from_str(alloc, "d /r\n")?;
     for number in 0..count {
@@ -16,13 +15,13 @@ fn dir_lines(alloc: Global, count: u64) -> Result<String, AllocError> {
     Ok(lines)
 }
 
-/// Whether the disk was not called since a write failed, long before it was walked to its end.
+/// The disk must not be called after the failed write, which must come long before the end of the walk.
 fn is_left(out: &Output<'_>, disk: &Watched, before: usize) -> bool {
     out.calls() == asked(disk) && out.calls().wrapping_sub(before) < 3000
 }
 
-/// Whether nothing is written once a write has failed; and the disk isn't called then, and isn't walked to its end,
-/// unless workers read ahead.
+/// Returns whether nothing is written after a failed write. Unless workers read ahead, the disk must not be called
+/// afterwards, nor be walked to its end.
 fn stops(rt: &impl Host, words: &[&str], disk: &Arc<Watched>, ahead: bool) -> bool {
     let before = asked(disk);
     let mut out = Output::taking(rt.alloc(), 2, Some(&**disk));

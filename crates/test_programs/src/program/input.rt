@@ -2,19 +2,19 @@
 use std::io;
 use std::io::{ErrorKind, Read};
 
-/// A text that is read in pieces, and then its end or an error. It counts how often it is read.
+/// A text that is read in pieces, followed by its end or an error. It counts how often it is read.
 #[derive(Drop)]
 pub struct Input<'t> {
     left: &'t [u8],
-    /// How many bytes come together, at most.
+    /// The greatest number of bytes that are read at a time.
     piece: usize,
-    /// The error behind the text, if there is one.
+    /// The error that follows the text.
     error: Option<ErrorKind>,
     reads: usize,
 }
 
 impl<'t> Input<'t> {
-    /// Returns a text, of which at most that many bytes come together.
+    /// Returns a text that is read in pieces of at most `piece` bytes.
     pub fn in_pieces(text: &'t str, piece: usize) -> Self {
         Input {
             left: text.as_bytes(),
@@ -24,7 +24,7 @@ impl<'t> Input<'t> {
         }
     }
 
-    /// Returns a text.
+    /// Returns a text that is read as a whole.
     pub fn of(text: &'t str) -> Self {
         Input::in_pieces(text, usize::MAX)
     }
@@ -39,7 +39,7 @@ impl<'t> Input<'t> {
         }
     }
 
-    /// Returns whether it was read.
+    /// Returns whether the input was read.
     pub fn is_read(&self) -> bool {
         self.reads > 0
     }

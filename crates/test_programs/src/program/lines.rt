@@ -9,7 +9,7 @@ use std::io::ErrorKind;
 use test_fixtures::host::Host;
 use test_fixtures::listed_directory::{FAULTY, Item, ListedDirectory};
 
-/// A link, a socket, a directory that can't be read and an item that has no name.
+/// A link, a socket, a directory that can't be read and an item without a name.
 const ODD: ListedDirectory<'static> = ListedDirectory {
     path: "/odd",
     file_type: FileType::Dir,
@@ -22,7 +22,7 @@ const ODD: ListedDirectory<'static> = ListedDirectory {
     ],
 };
 
-/// A link to what is neither a directory nor a file.
+/// A link to something that is neither a directory nor a file.
 const SPECIAL: ListedDirectory<'static> = ListedDirectory {
     path: "/special",
     file_type: FileType::Dir,
@@ -30,7 +30,7 @@ const SPECIAL: ListedDirectory<'static> = ListedDirectory {
     items: &[Item::Typed("pipe", FileType::Symlink)],
 };
 
-/// A file system of directories: these three, `/wide`, where memory runs out, and others that can't be read.
+/// A file system of directories: these three, `/wide`, for which memory runs out, and others that can't be read.
 #[derive(Drop)]
 struct Odd;
 
@@ -79,10 +79,9 @@ impl FileSystem for Odd {
     }
 }
 
-/// The words of a call over that file system, and the outcome.
 type Row = (&'static [&'static str], Want<'static>);
 
-/// The number of the first row whose outcome is another, or whose call reads the input.
+/// A row is also wrong if its call reads the input. Rows are counted from 0.
 fn first_wrong(rt: &impl Host, rows: &[Row]) -> Option<usize> {
     for (number, (words, want)) in rows.iter().enumerate() {
         if !comes_unread(rt, Odd, &[], words, want) {
@@ -152,7 +151,6 @@ fn errors_come_last_and_whatever_their_depth(rt: HostRuntime) {
     assert_eq!(rt; first_wrong(&rt, ROWS), None);
 }
 
-/// An error of this kind, without a path.
 fn of_kind(kind: ErrorKind) -> Error {
     Error::from_io(7, io::Error::from(kind))
 }

@@ -5,7 +5,7 @@ use std::alloc::{AllocError, Global};
 /// A link to a directory above it.
 const LOOP: &str = "d /r\nd /r/a\nd /r/a/b\nd /r/a/b/c\nl /r/a\t/r/a/b/c/a-link\n";
 
-/// The same with a relative target.
+/// The same link, with a relative text.
 const RELATIVE: &str = "d /r\nd /r/a\nd /r/a/b\nd /r/a/b/c\nl ../..\t/r/a/b/c/a-link\n";
 
 /// A link to the directory beside it.
@@ -118,7 +118,8 @@ fn links_to_files_and_to_nothing(rt: HostRuntime) {
     all_come_over_tree(&rt, ROWS);
 }
 
-/// Adds the lines of the paths below a directory that go once through a link, twice and so on, up to the one that fails.
+/// Adds the lines of the paths below a directory that go through one link, two links and so on, up to the path that
+/// fails.
 fn push_lines(
     alloc: Global,
     out: &mut String,
@@ -136,7 +137,6 @@ fn push_lines(
     out.push_str(format!(in alloc; "! 42 {path}{name} Other\n")?.as_str())
 }
 
-/// The lines of a walk round two directories with links to each other.
 fn lines_of_links(alloc: Global) -> Result<String, AllocError> {
     let mut out = String::from_str(alloc, "0 d /r\n")?;
     push_lines(alloc, &mut out, "/r/a", ("/l", "/m"))?;

@@ -4,7 +4,7 @@ use std::io;
 use std::io::{ErrorKind, Write};
 use test_fixtures::watched::Watched;
 
-/// Returns how often a disk was called, by whatever call.
+/// Returns how often a disk was called, whatever the call.
 pub fn asked(disk: &Watched) -> usize {
     let calls = disk.calls();
     calls
@@ -13,12 +13,12 @@ pub fn asked(disk: &Watched) -> usize {
         .wrapping_add(calls.follows)
 }
 
-/// Takes some writes, and fails from then on. It keeps what is flushed, and counts its failures.
+/// An output that takes some writes, and fails from then on. It keeps flushed bytes, and counts its failures.
 #[derive(Drop)]
 pub struct Output<'d> {
-    /// How many more writes it takes.
+    /// The number of writes that it still takes.
     takes: usize,
-    /// What was written since the last flush.
+    /// The bytes that were written since the last flush.
     written: Vec<u8>,
     flushed: Vec<u8>,
     failures: usize,
@@ -40,12 +40,12 @@ impl<'d> Output<'d> {
         }
     }
 
-    /// Returns an output that takes whatever is written.
+    /// Returns an output that takes all writes.
     pub fn new(alloc: Global) -> Self {
         Output::taking(alloc, usize::MAX, None)
     }
 
-    /// Returns whether this was flushed, and no more was written.
+    /// Returns whether this text was flushed, and nothing was written after it.
     pub fn is(&self, text: &str) -> bool {
         self.written.is_empty() && self.flushed.as_slice() == text.as_bytes()
     }

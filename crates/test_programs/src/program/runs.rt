@@ -12,11 +12,11 @@ use walk_run::run::run;
 use walk_text::failure::Failure;
 use walk_text::tree::build_tree;
 
-/// A tree of three directories, one file hidden.
+/// A tree of three directories. One file is hidden.
 pub const TREE_A: &str =
     "d /t\nf 1 /t/c.txt\nf 2 /t/a.txt\nd /t/group 2\nf 3 /t/group 2/.hidden_file.txt\nf 4 /t/group 2/e.txt\nd /t/group 1\nf 5 /t/group 1/d.txt\nf 6 /t/b.txt\n";
 
-/// What is written on standard output and on standard error, and the status.
+/// The standard output, the standard error and the status.
 pub type Want<'a> = (&'a str, &'a str, u8);
 
 pub const BAD_WORDS: Want<'static> = ("", "walk: bad words\n", 2);
@@ -24,8 +24,8 @@ pub const BAD_WORDS: Want<'static> = ("", "walk: bad words\n", 2);
 /// The words of a call, the lines of a tree, and the outcome.
 pub type Row<'a> = (&'a [&'a str], &'a str, Want<'a>);
 
-/// Runs the words in front and then the others over this disk. Returns the status, and what is written on standard
-/// error; none if memory runs out before.
+/// The words of `front` come first. Returns the status and the standard error, or `None` if memory runs out before the
+/// run.
 fn ran<S: FileSystem + Send + Sync + 'static>(
     rt: &impl Host,
     disk: S,
@@ -40,7 +40,7 @@ fn ran<S: FileSystem + Send + Sync + 'static>(
     Some((status, err))
 }
 
-/// Whether this is the outcome over this disk of some words and then others.
+/// Returns whether the run over this disk has this outcome. The words of `front` come first.
 pub fn comes<S: FileSystem + Send + Sync + 'static>(
     rt: &impl Host,
     disk: S,
@@ -58,7 +58,7 @@ pub fn comes<S: FileSystem + Send + Sync + 'static>(
     }
 }
 
-/// Whether a call over this disk that writes there ends with this status and reports nothing.
+/// Returns whether the run over this disk has this status, and nothing on standard error.
 pub fn ends(
     rt: &impl Host,
     disk: Arc<Watched>,
@@ -71,7 +71,7 @@ pub fn ends(
     matches!(ran, Some((found, err)) if found == status && err.is_empty())
 }
 
-/// Whether this is the outcome over this disk of some words and then others, and the input isn't read.
+/// Returns whether the run over this disk has this outcome and doesn't read the input. The words of `front` come first.
 pub fn comes_unread<S: FileSystem + Send + Sync + 'static>(
     rt: &impl Host,
     disk: S,
@@ -87,20 +87,20 @@ fn shared(alloc: Global, disk: Watched) -> Result<Arc<Watched>, AllocError> {
     Ok(Arc::new(alloc, disk)?)
 }
 
-/// The tree of these lines, as a disk that counts its calls and fails so.
+/// Returns the tree of these lines, as a disk that counts its calls and fails in this way.
 pub fn watched_over(alloc: Global, lines: &str, failing: Failing) -> Result<Arc<Watched>, Failure> {
     let tree = build_tree(alloc, lines.as_bytes())?;
     Ok(shared(alloc, Watched::new(tree, failing))?)
 }
 
-/// The words in front of a call's own, and whether the tree of a row's lines is the disk. Else the lines are the input,
-/// and the disk is empty.
+/// The words in front of a call's own, and whether the disk is the tree of a row's lines. If it isn't, the lines are
+/// the input, and the disk is empty.
 type Way = (&'static [&'static str], bool);
 
-/// Nothing in front, and the lines on the input.
+/// No words in front, and the lines as the input.
 const INPUT: &[Way] = &[(&[], false)];
 
-/// One directory at a time, batches of several widths, and crews: on the disk, and on the input's tree.
+/// One directory at a time, batches of several widths, and crews, over the disk and over the input's tree.
 const WAYS: &[Way] = &[
     (&[], true),
     (&["--tree"], false),
@@ -122,7 +122,7 @@ const WAYS: &[Way] = &[
     (&["--tree", "--crew", "0"], false),
 ];
 
-/// Whether a row has its outcome in one of the ways. If its tree is the disk, the input isn't read.
+/// If the disk is the row's tree, the input must not be read.
 fn comes_by(rt: &impl Host, (front, is_on_disk): &Way, (words, lines, want): &Row<'_>) -> bool {
     let (on_disk, on_input) = if *is_on_disk {
         (*lines, "")
@@ -138,7 +138,7 @@ fn comes_by(rt: &impl Host, (front, is_on_disk): &Way, (words, lines, want): &Ro
     }
 }
 
-/// The number of the first row whose outcome is another in one of these ways.
+/// Returns the number of the first row that is wrong in one of the ways.
 fn first_wrong(rt: &impl Host, ways: &[Way], rows: &[Row<'_>]) -> Option<usize> {
     for (number, row) in rows.iter().enumerate() {
         for way in ways {
@@ -150,13 +150,13 @@ fn first_wrong(rt: &impl Host, ways: &[Way], rows: &[Row<'_>]) -> Option<usize> 
     None
 }
 
-/// Each row has the outcome of its words, where the lines are the input and the disk is empty.
+/// Asserts that each row has its outcome, with its lines as the input and an empty disk.
 pub fn all_come(rt: &(impl Abort + Host), rows: &[Row<'_>]) {
     assert_eq!(rt; first_wrong(rt, INPUT, rows), None);
 }
 
-/// Each row has its outcome over the tree of its lines, whatever its directories are read by. It is called with
-/// `--tree` in front of its words and the lines on the input, and without it over a disk that is the same tree.
+/// Asserts that each row has its outcome over the tree of its lines, in each way to read the directories. The call has
+/// `--tree` in front of its words and the lines as its input, and then neither, over a disk that is the same tree.
 pub fn all_come_over_tree(rt: &(impl Abort + Host), rows: &[Row<'_>]) {
     assert_eq!(rt; first_wrong(rt, WAYS, rows), None);
 }

@@ -4,13 +4,13 @@ use test_fixtures::host::Host;
 use test_fixtures::watched::{Calls, Failing};
 use walk_text::failure::Failure;
 
-/// One directory at a time, a batch, and a crew, in front of a call's own words.
+/// The words in front of a call's own: one directory at a time, a batch, and a crew.
 const FRONTS: &[&[&str]] = &[&[], &["--batch", "2"], &["--crew", "2"]];
 
 /// The line of the totals of tree A.
 const TOTALS: Want<'static> = ("files 5 dirs 3 links 0 others 0 errors 0 bytes 18\n", "", 0);
 
-/// How often a disk that is tree A is called for its totals, if these are right.
+/// Returns `Ok(None)` if the totals are wrong.
 fn calls_for_totals(rt: &impl Host, front: &[&str]) -> Result<Option<Calls>, Failure> {
     let disk = watched_over(rt.alloc(), TREE_A, Failing::Never)?;
     let is_right = comes_unread(rt, disk.clone()?, front, &["--usage", "/t"], &TOTALS);
@@ -30,7 +30,7 @@ fn no_file_is_asked_for_its_length(rt: HostRuntime) {
     }
 }
 
-/// Whether the totals of tree A are right, where the disk has no memory to be asked for that path.
+/// The disk runs out of memory when it is asked for the path.
 fn counts_unasked(rt: &impl Host, front: &[&str], path: &'static str) -> Result<bool, Failure> {
     let disk = watched_over(rt.alloc(), TREE_A, Failing::MetadataForMemory(path))?;
     Ok(comes_unread(rt, disk, front, &["--usage", "/t"], &TOTALS))

@@ -65,7 +65,7 @@ fn the_output_is_flushed_at_the_end(rt: HostRuntime) -> Result<(), Failure> {
     Ok(())
 }
 
-/// Adds the line of a directory to an input, and that of its entry to an output, and those of that many files in it.
+/// Adds the lines of a directory and its files to an input, and the lines of their entries to an output.
 fn push_files(input: &mut String, out: &mut String, count: u64) -> Result<(), AllocError> {
     let alloc = *input.allocator();
     input.push_str("d /r\n")?;

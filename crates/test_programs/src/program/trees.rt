@@ -1,4 +1,4 @@
-//! What is in a tree, line by line.
+//! The lines of a tree.
 use crate::program::runs::{Row, TREE_A, all_come_over_tree};
 use std::alloc::AllocError;
 
@@ -128,8 +128,8 @@ fn a_denied_directory_is_answered_with_its_error(rt: HostRuntime) {
     all_come_over_tree(&rt, ROWS);
 }
 
-/// Adds the line of a directory to an input, and that of its entry to an output, and those of that many directories
-/// with one file in it.
+/// Adds the lines of a directory and of `count` directories in it, each of one file, to an input, and the lines of
+/// their entries to an output.
 fn push_dirs(input: &mut String, out: &mut String, count: u64) -> Result<(), AllocError> {
     let alloc = *input.allocator();
     input.push_str("d /r\n")?;

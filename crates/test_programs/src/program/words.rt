@@ -1,4 +1,4 @@
-//! What words ask for, and which are bad.
+//! The meaning of words, and bad words.
 use crate::program::runs::{BAD_WORDS, Row, TREE_A, all_come, all_come_over_tree};
 
 #[test]

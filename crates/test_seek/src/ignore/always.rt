@@ -1,4 +1,4 @@
-//! What walks leave that honour ignore files, in each way and over a crew.
+//! Walks that honour ignore files, in each way and over a crew.
 use crate::ignore::left::text_of;
 use crate::ignore::planted::{Planted, Rules};
 use jwalk::file_system::{FileSystem, MemoryFs};
@@ -14,7 +14,7 @@ use test_fixtures::answers::Answer;
 use test_fixtures::host::Host;
 use test_fixtures::ways::{Asked, Setting, WAYS, Way, all_of};
 
-/// Returns a crew of two workers, for one walk at a time.
+/// The crew serves one walk at a time.
 pub(crate) fn crew_of_two<R: Host>(rt: &R) -> Result<Arc<Crew<R>>, AllocError> {
     Ok(Arc::new(rt.alloc(), Crew::new(rt.clone()?, 1, 2))?)
 }
@@ -22,8 +22,8 @@ pub(crate) fn crew_of_two<R: Host>(rt: &R) -> Result<Arc<Crew<R>>, AllocError> {
 /// The settings of a walk by name that is shown hidden names.
 pub(crate) const BY_NAME: &[Setting] = &[Setting::Sort, Setting::Hidden];
 
-/// The rules of a tree that a crew's workers share, as a callback. It has a type of its own, since the types of rules are
-/// long, and proofs of functions over any runtime compare them.
+/// The rules of a tree that a crew's workers share, as a callback. It has a type of its own, since the types of rules
+/// are long, and proofs of functions over any runtime compare them.
 #[derive(Drop)]
 pub(crate) struct SharedRules(IgnoreFiles<Arc<MemoryTexts>>);
 
@@ -43,7 +43,7 @@ impl ProcessReadDir<Rules, Global> for SharedRules {
     }
 }
 
-/// Returns all that a walk by name from `/r` yields, for which a crew reads.
+/// The walk is by name from `/r`.
 fn all_by_crew<
     R: Host,
     C: ClientState + Send + 'static,
@@ -73,7 +73,7 @@ where
     all_of(alloc, walk.process_read_dir(process).into_iter())
 }
 
-/// A tree with files of rules, which a crew's workers share.
+/// A tree with files of rules that a crew's workers share.
 #[derive(Drop)]
 pub(crate) struct Shared {
     pub(crate) fs: Arc<MemoryFs>,
@@ -85,7 +85,7 @@ pub(crate) struct Shared {
 }
 
 impl Shared {
-    /// Returns the tree, of which a walk that follows no links keeps hidden names.
+    /// Hidden names stay, and links aren't followed.
     pub(crate) fn new(alloc: Global, planted: Planted) -> Result<Self, AllocError> {
         Ok(Shared {
             fs: Arc::new(alloc, planted.fs)?,
@@ -95,13 +95,12 @@ impl Shared {
         })
     }
 
-    /// Returns the rules.
     fn rules(&self) -> Result<SharedRules, AllocError> {
         let rules = IgnoreFiles::new(self.texts.clone()?);
         Ok(SharedRules(rules.keep_hidden(self.keeps_hidden)))
     }
 
-    /// Returns all that a walk from `/r` yields, read in a way.
+    /// Walks by name from `/r`.
     pub(crate) fn found<R: Threads + AllocGlobal + Sync>(
         &self,
         rt: &R,
@@ -116,7 +115,7 @@ impl Shared {
         asked.found(rt, self.rules()?, way)
     }
 
-    /// Returns all that a walk from `/r` yields, for which a crew reads.
+    /// Walks by name from `/r`.
     pub(crate) fn found_by_crew<R: Host>(
         &self,
         alloc: Global,
@@ -125,7 +124,7 @@ impl Shared {
         all_by_crew(alloc, self.fs.clone()?, self.follows, self.rules()?, pool)
     }
 
-    /// Returns whether walks from `/r` leave this, in each way and over a crew of two.
+    /// Walks from `/r` in each way and over a crew of two.
     pub(crate) fn leaves_always<R: Host>(&self, rt: &R, wanted: &str) -> Result<bool, AllocError> {
         let alloc = rt.alloc();
         let found = self.found_by_crew(alloc, crew_of_two(rt)?)?;

@@ -10,7 +10,7 @@ use test_fixtures::host::Host;
 use test_fixtures::ways::Way;
 use test_fixtures::width::Width;
 
-/// Returns whether a walk over a crew leaves what git keeps of a tree, and the same as a serial walk.
+/// The walk over the crew must also yield the same as a serial walk.
 fn is_as_git<R: Host>(rt: &R, pool: &Arc<Crew<R>>, row: &TreeRow) -> Result<bool, BuildError> {
     let alloc = rt.alloc();
     let (tree, kept) = row;
@@ -20,7 +20,7 @@ fn is_as_git<R: Host>(rt: &R, pool: &Arc<Crew<R>>, row: &TreeRow) -> Result<bool
     Ok(by_crew == serial && by_crew.as_str().trim_end_matches('\n') == *kept)
 }
 
-/// Returns the place of the first tree of which a walk over a crew leaves something else.
+/// Returns the place of the first row that is wrong.
 fn first_wrong<R: Host>(rt: &R, pool: &Arc<Crew<R>>, rows: &[TreeRow]) -> Option<usize> {
     rows.iter()
         .position(|row| !matches!(is_as_git(rt, pool, row), Ok(true)))

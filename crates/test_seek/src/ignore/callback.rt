@@ -1,11 +1,11 @@
-//! Which rules are in force where, and what a walk yields of their files.
+//! The rules that are in force at each place, and the walk's answers for their files.
 use crate::ignore::left::{left, left_from};
 use crate::ignore::planted::{Planted, repository, tree_of};
 use jwalk::file_system::BuildError;
 use jwalk_ignore::ignore_files::IgnoreFiles;
 use std::alloc::Global;
 
-/// Returns whether this is left of a repository of these lines.
+/// The lines are those of a repository.
 fn leaves(alloc: Global, lines: &str, wanted: &str) -> bool {
     let Ok(planted) = repository(alloc, lines) else {
         return false;
@@ -69,7 +69,6 @@ fn a_nested_repository_ends_the_outer_rules(rt: HostRuntime) {
     );
 }
 
-/// Returns what is left of a tree, by these rules.
 fn left_of(alloc: Global, lines: &str, anywhere: bool) -> Result<String, BuildError> {
     let planted = tree_of(alloc, lines)?;
     let rules = IgnoreFiles::new(&planted.texts)
@@ -97,7 +96,7 @@ fn outside_repositories(rt: HostRuntime) {
     assert!(rt; matches!(left_of(alloc, tree, true), Ok(left) if left.as_str() == both));
 }
 
-/// Returns what is left of a repository without hidden names.
+/// Hidden names are dropped.
 fn left_shown(alloc: Global, lines: &str) -> Result<String, BuildError> {
     let planted = repository(alloc, lines)?;
     left_from(alloc, &planted, IgnoreFiles::new(&planted.texts), "/r")
@@ -109,7 +108,7 @@ fn hidden_rules_are_read(rt: HostRuntime) {
     assert!(rt; matches!(left_shown(rt.alloc(), tree), Ok(left) if left.as_str() == "b\n"));
 }
 
-/// Returns what is left below a root in a repository.
+/// The tree becomes a repository.
 fn left_below(alloc: Global, planted: &mut Planted, root: &str) -> Result<String, BuildError> {
     planted.texts.add("/r/.git", b"")?;
     let rules = IgnoreFiles::new(&planted.texts).keep_hidden(true);
@@ -119,7 +118,6 @@ fn left_below(alloc: Global, planted: &mut Planted, root: &str) -> Result<String
 /// A tree with rules above and in a directory.
 const ABOVE: &str = ".gitignore=a|s/|s/b|\n.ignore=c|\na\ns/\ns/a\ns/b\ns/c\ns/t/\ns/t/b\ns/t/d";
 
-/// Returns what is left below a directory of that tree.
 fn left_above(alloc: Global, root: &str) -> Result<String, BuildError> {
     let mut planted = repository(alloc, ABOVE)?;
     left_below(alloc, &mut planted, root)

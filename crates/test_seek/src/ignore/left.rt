@@ -1,4 +1,4 @@
-//! What walks leave that honour ignore files, as texts.
+//! The answers of walks that honour ignore files, as texts.
 use crate::ignore::planted::{Planted, Rules};
 use jwalk::WalkDirGeneric;
 use jwalk::file_system::{BuildError, FileSystem};
@@ -12,12 +12,12 @@ use std::fmt::Debug;
 use test_fixtures::answers::Answer;
 use test_fixtures::ways::all_of;
 
-/// Adds a path below `/r` to a text.
+/// Drops `/r/` from the path.
 fn push_path(text: &mut String, path: &str) -> Result<(), AllocError> {
     text.push_str(path.strip_prefix("/r/").unwrap_or(path))
 }
 
-/// Adds an item of a walk to a text: the path of an entry, or an error's with its depth behind a mark.
+/// An entry has its path, an error a mark, its depth and its path.
 fn push_item(text: &mut String, answer: &Answer<Rules>) -> Result<(), AllocError> {
     match answer {
         Ok(entry) => push_path(text, entry.path()?.as_str())?,
@@ -30,7 +30,7 @@ fn push_item(text: &mut String, answer: &Answer<Rules>) -> Result<(), AllocError
     text.push_str("\n")
 }
 
-/// Returns what answers are behind the root, each on a line.
+/// Leaves out the root. Each item is on a line.
 pub(crate) fn text_of(alloc: Global, answers: &[Answer<Rules>]) -> Result<String, AllocError> {
     let mut text = String::new(alloc);
     for answer in answers {
@@ -42,7 +42,7 @@ pub(crate) fn text_of(alloc: Global, answers: &[Answer<Rules>]) -> Result<String
     Ok(text)
 }
 
-/// Returns all that a walk by name yields that has these rules and follows links or not, whatever states it has besides.
+/// The walk may have any states besides those of the rules.
 fn found_by_name<
     B: Clone + Default + Debug + Drop,
     E: Default + Debug + Drop,
@@ -61,7 +61,7 @@ fn found_by_name<
     all_of(alloc, with_ignore_files(walk, rules).into_iter())
 }
 
-/// Returns what a walk by name from a root yields behind the root, each item on a line. It follows links or not.
+/// Leaves out the root. Each item is on a line.
 fn left_by(
     alloc: Global,
     planted: &Planted,
@@ -74,7 +74,7 @@ fn left_by(
     Ok(text_of(alloc, &found)?)
 }
 
-/// Returns what a walk by name from a root yields behind the root, each item on a line.
+/// Leaves out the root. Each item is on a line.
 pub(crate) fn left_from(
     alloc: Global,
     planted: &Planted,
@@ -84,13 +84,13 @@ pub(crate) fn left_from(
     left_by(alloc, planted, rules, root, false)
 }
 
-/// Returns what is left of a tree by a walk that follows links, hidden names too.
+/// Keeps hidden names.
 pub(crate) fn left_following(alloc: Global, planted: &Planted) -> Result<String, BuildError> {
     let rules = IgnoreFiles::new(&planted.texts).keep_hidden(true);
     left_by(alloc, planted, rules, "/r", true)
 }
 
-/// Returns what is left of a tree, hidden names too.
+/// Keeps hidden names.
 pub(crate) fn left(alloc: Global, planted: &Planted) -> Result<String, BuildError> {
     let rules = IgnoreFiles::new(&planted.texts).keep_hidden(true);
     left_from(alloc, planted, rules, "/r")

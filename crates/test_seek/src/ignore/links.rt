@@ -7,10 +7,9 @@ use test_fixtures::answers::Answer;
 use test_fixtures::host::Host;
 use test_fixtures::ways::WAYS;
 
-/// How many links there are.
 const LINKS: usize = 300;
 
-/// A repository with links, of whose rules the one is for names that begin with `l1`, and the other for directories.
+/// One rule is for names that begin with `l1`, the other for directories whose names begin with `l2`.
 fn linked(alloc: Global) -> Result<Planted, BuildError> {
     let mut planted = repository(alloc, ".gitignore=l1*|l2*/|\nl2d/\nl2d/a\ns/\ns/l1\ns/a")?;
     for number in 0..LINKS {
@@ -20,28 +19,25 @@ fn linked(alloc: Global) -> Result<Planted, BuildError> {
     Ok(planted)
 }
 
-/// How many answers are what.
+/// The numbers of answers.
 #[derive(Clone, Copy, PartialEq, Eq)]
 struct Numbers {
     /// All of them.
     all: usize,
     /// Links that are yielded as links.
     links: usize,
-    /// Errors for a link that leads back to the root.
+    /// Errors of links that lead back to the root.
     loops: usize,
 }
 
-/// Returns whether an answer is an error for a link that leads back to the root.
 fn is_loop(answer: &Answer<Rules>) -> bool {
     matches!(answer, Err(error) if error.loop_ancestor() == Some("/r"))
 }
 
-/// Returns whether an answer is a link.
 fn is_link(answer: &Answer<Rules>) -> bool {
     matches!(answer, Ok(entry) if entry.file_type.is_symlink())
 }
 
-/// Returns how many answers are what.
 fn numbers_of(found: &[Answer<Rules>]) -> Numbers {
     Numbers {
         all: found.len(),
@@ -50,7 +46,7 @@ fn numbers_of(found: &[Answer<Rules>]) -> Numbers {
     }
 }
 
-/// Returns whether these are the numbers of a walk that follows links or not, in each way and over a crew of two.
+/// Walks in each way and over a crew of two.
 fn has<R: Host>(rt: &R, follows: bool, wanted: Numbers) -> Result<bool, BuildError> {
     let alloc = rt.alloc();
     let mut shared = Shared::new(alloc, linked(alloc)?)?;
@@ -63,8 +59,8 @@ fn has<R: Host>(rt: &R, follows: bool, wanted: Numbers) -> Result<bool, BuildErr
     Ok(is_so)
 }
 
-// Of the names `l0` to `l299`, 111 begin with `l1`. A link is no directory, so the other rule leaves it. Beside the links
-// there are the root, its `.gitignore`, `s` and `s/a`.
+// Of the names `l0` to `l299`, 111 begin with `l1`. A link isn't a directory, so the other rule keeps it. Beside the
+// links there are the root, its `.gitignore`, `s` and `s/a`.
 #[test]
 fn links_to_their_directory_are_dropped_by_name(rt: HostRuntime) {
     let wanted = Numbers {

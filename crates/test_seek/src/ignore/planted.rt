@@ -14,7 +14,7 @@ pub(crate) struct Planted {
     pub(crate) texts: MemoryTexts,
 }
 
-/// Returns the bytes of a file of rules, whose lines end with `|` in a tree's text.
+/// A `|` ends each line of rules in a tree's text.
 fn rules_of(alloc: Global, text: &str) -> Result<String, AllocError> {
     let mut rules = String::new(alloc);
     for part in text.split('|') {
@@ -26,7 +26,7 @@ fn rules_of(alloc: Global, text: &str) -> Result<String, AllocError> {
     Ok(rules)
 }
 
-/// Adds what a line of a tree's text says: a directory ends with a slash, a file of rules has `=` behind its name.
+/// The line of a directory ends with a slash. That of a file of rules has `=` after the name.
 fn plant(alloc: Global, planted: &mut Planted, line: &str) -> Result<(), BuildError> {
     let mut path = String::from_str(alloc, "/r/")?;
     match line.split_once('=') {
@@ -51,7 +51,7 @@ fn plant(alloc: Global, planted: &mut Planted, line: &str) -> Result<(), BuildEr
     }
 }
 
-/// Returns the tree of these lines, below `/r`.
+/// The tree is below `/r`.
 pub(crate) fn tree_of(alloc: Global, lines: &str) -> Result<Planted, BuildError> {
     let mut planted = Planted {
         fs: MemoryFs::new(alloc),
@@ -64,7 +64,6 @@ pub(crate) fn tree_of(alloc: Global, lines: &str) -> Result<Planted, BuildError>
     Ok(planted)
 }
 
-/// Returns the same tree, as a repository.
 pub(crate) fn repository(alloc: Global, lines: &str) -> Result<Planted, BuildError> {
     let mut planted = tree_of(alloc, lines)?;
     planted.fs.add_dir("/r/.git")?;

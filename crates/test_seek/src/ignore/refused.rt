@@ -24,7 +24,6 @@ struct Row {
     lines: &'static [&'static str],
 }
 
-/// The whole tree.
 const WHOLE: Row = Row {
     root: "/r",
     denied: None,
@@ -37,7 +36,7 @@ const WHOLE: Row = Row {
     ],
 };
 
-/// The whole tree; what is below a directory, with rules from above; and the tree without the rules of a file.
+/// The whole tree, the tree below a directory with rules from above, and the tree without the rules of a file.
 const ROWS: &[Row] = &[
     WHOLE,
     Row {
@@ -63,7 +62,7 @@ const ROWS: &[Row] = &[
 const TREE: &str = ".git/\n.git/info/exclude=x|\n.ignore=b|\n.gitignore=*.o|\na.o\nb\nc\ns/\n\
                     s/.gitignore=d|!k.o|\ns/d\ns/e\ns/j.o\ns/k.o\nx";
 
-/// The tree, for a walk from the root of a row.
+/// The texts have `.git`, as the walk may begin further down.
 fn planted_for(alloc: Global, row: &Row) -> Result<Planted, BuildError> {
     let mut planted = tree_of(alloc, TREE)?;
     planted.texts.add("/r/.git", b"")?;
@@ -73,7 +72,7 @@ fn planted_for(alloc: Global, row: &Row) -> Result<Planted, BuildError> {
     Ok(planted)
 }
 
-/// A walk yet to begin that has rules.
+/// A walk that has not begun and has rules.
 type Walk<'f, A> = WalkDirGeneric<
     ((Chain<A>, ()), ()),
     &'f MemoryFs,
@@ -81,18 +80,18 @@ type Walk<'f, A> = WalkDirGeneric<
     A,
 >;
 
-/// A walk of a row over its tree: how many directories are read together, and how its answers are taken.
+/// The walk of a row over its tree, with how many directories are read together and how its answers are taken.
 #[derive(Clone, Copy)]
 struct Play<'f> {
     planted: &'f Planted,
     row: &'f Row,
     width: Width,
     taken: Taken,
-    /// How often the rules ran out of memory.
+    /// The number of times that the rules ran out of memory.
     within: &'f AtomicUsize,
 }
 
-/// Returns a walk by name that is shown hidden names, whatever its callback.
+/// The walk is shown hidden names.
 fn by_name<C: ClientState, S: FileSystem, P: ProcessReadDir<C, A>, A: Allocator + Copy>(
     fs: S,
     root: String<A>,
@@ -107,7 +106,7 @@ fn by_name<C: ClientState, S: FileSystem, P: ProcessReadDir<C, A>, A: Allocator 
 }
 
 impl<'f> Play<'f> {
-    /// The walk, if there is memory for its root.
+    /// Returns `None` if there is no memory for the root.
     fn builder<A: Allocator + Copy>(&self, memory: A) -> Option<Walk<'f, A>> {
         let root = String::from_str(memory, self.row.root).ok()?;
         let rules = Counting::new(IgnoreFiles::new(&self.planted.texts), self.within);
@@ -115,7 +114,7 @@ impl<'f> Play<'f> {
     }
 }
 
-/// What is asked for all at once may come whole after a refusal, as more is asked for then.
+/// A walk whose answers are all asked for at once may come whole after a refusal, as more is asked for then.
 impl Repeated for Play<'_> {
     fn comes(&self, alloc: Global, memory: &Refusing<Global>) -> Came {
         match self.builder(memory) {
@@ -129,7 +128,7 @@ impl Repeated for Play<'_> {
     }
 }
 
-/// Whether the walk of a row comes out right in each way, if that many requests are refused.
+/// Walks in each way.
 fn is_right(alloc: Global, row: &Row, many: usize) -> bool {
     let Ok(planted) = planted_for(alloc, row) else {
         return false;
@@ -164,8 +163,8 @@ fn all_requests_of_a_walk_with_rules_from_each_on(rt: HostRuntime) {
     }
 }
 
-/// How many requests of the rules were refused, one at a time, after that many answers of the whole walk. None, if one
-/// of them was reported after some other number: the lists are read for the first and for the third answer.
+/// Returns how many requests of the rules were refused, one at a time, after no answer and after two answers. Returns
+/// `None` if one was reported elsewhere, as the lists are read for the first and for the third answer.
 fn refused_within(alloc: Global, play: Play<'_>) -> Option<(usize, usize)> {
     let memory = Refusing::new(alloc);
     let (mut at_first, mut at_third): (usize, usize) = (0, 0);
@@ -186,7 +185,7 @@ fn refused_within(alloc: Global, play: Play<'_>) -> Option<(usize, usize)> {
     None
 }
 
-/// How many requests of the rules are refused in the whole walk, one directory at a time.
+/// The walk reads one directory at a time.
 fn refused_of_rules(alloc: Global) -> Option<(usize, usize)> {
     let planted = planted_for(alloc, &WHOLE).ok()?;
     let within = AtomicUsize::new(0);

@@ -1,7 +1,7 @@
-//! Ignore files and paths, with what git 2.39 says of them. `bench/ignore.py` makes such rows.
+//! Ignore files and paths, with the decisions of git 2.39. `bench/ignore.py` makes such rows.
 use jwalk_ignore::decision::Decision;
 
-/// An ignore file, a path, whether that is a directory, and what git says of it.
+/// An ignore file, a path, whether the path is that of a directory, and git's decision.
 pub(crate) type Row = (&'static [u8], &'static [u8], bool, Decision);
 
 /// Comments, escapes, examples of git's documentation, and odd forms.

@@ -5,7 +5,6 @@ use jwalk_ignore::pattern::Pattern;
 use jwalk_ignore::rules::Rules;
 use std::alloc::Global;
 
-/// Returns what the rules of a file say of a path.
 fn decided(alloc: Global, file: &[u8], path: &[u8], is_dir: bool) -> Option<Decision> {
     match Rules::parse(alloc, file) {
         Ok(rules) => Some(rules.decision(path, is_dir)),
@@ -13,7 +12,7 @@ fn decided(alloc: Global, file: &[u8], path: &[u8], is_dir: bool) -> Option<Deci
     }
 }
 
-/// Returns the place of the first row of which the rules say something else.
+/// Returns the place of the first row that is wrong.
 fn first_wrong(alloc: Global, rows: &[Row]) -> Option<usize> {
     for (place, (file, path, is_dir, wanted)) in rows.iter().enumerate() {
         if decided(alloc, file, path, *is_dir) != Some(*wanted) {
@@ -28,7 +27,7 @@ fn files_say_what_git_says(rt: HostRuntime) {
     assert_eq!(rt; first_wrong(rt.alloc(), ROWS), None);
 }
 
-/// Returns what the pattern of a line says of a directory, if it has one that matches.
+/// Returns `None` if the line has no pattern, or one that doesn't match.
 fn said(alloc: Global, text: &[u8], path: &[u8]) -> Option<Decision> {
     match Pattern::read(alloc, text) {
         Ok(Some(pattern)) if pattern.matches(path, true) => Some(pattern.decision()),
@@ -46,7 +45,6 @@ fn one_line_has_a_pattern(rt: HostRuntime) {
     assert!(rt; matches!(Pattern::read(alloc, b"[a"), Ok(None)));
 }
 
-/// Returns a text that repeats a piece, and then ends.
 fn repeated(alloc: Global, piece: &[u8], times: usize, end: &[u8]) -> Option<Vec<u8>> {
     let mut text = Vec::new(alloc);
     for _ in 0..times {
@@ -56,7 +54,7 @@ fn repeated(alloc: Global, piece: &[u8], times: usize, end: &[u8]) -> Option<Vec
     Some(text)
 }
 
-/// Returns what is said of a deep path by one line, which repeats a piece before it ends.
+/// The line repeats a piece before it ends.
 fn said_of_deep(alloc: Global, piece: &[u8], times: usize, end: &[u8]) -> Option<Decision> {
     let line = repeated(alloc, piece, times, end)?;
     let path = repeated(

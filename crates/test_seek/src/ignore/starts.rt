@@ -6,13 +6,13 @@ use jwalk_ignore::ignore_files::IgnoreFiles;
 use std::alloc::Global;
 use std::io::ErrorKind;
 
-/// Returns whether a walk of a tree from a root leaves this, hidden names too.
+/// Hidden names stay.
 fn leaves(alloc: Global, planted: &Planted, root: &str, wanted: &str) -> bool {
     let rules = IgnoreFiles::new(&planted.texts).keep_hidden(true);
     matches!(left_from(alloc, planted, rules, root), Ok(left) if left.as_str() == wanted)
 }
 
-/// Returns a tree with a repository in another, of which the outer one has rules in `.ignore` and in `.gitignore`.
+/// A tree with a repository in another. The outer one has rules in `.ignore` and in `.gitignore`.
 fn with_repository(alloc: Global) -> Result<Planted, BuildError> {
     let tree = ".git/\n.gitignore=y|\n.ignore=x|\np/\np/.git/\np/x\np/s/\np/s/x\np/s/y\nx";
     let mut planted = tree_of(alloc, tree)?;
@@ -39,7 +39,7 @@ fn ignore_files_above_a_repository_are_in_force(rt: HostRuntime) -> Result<(), B
     Ok(())
 }
 
-/// What is at a path and no regular file: a link, a directory, and a pipe.
+/// Types that aren't regular files.
 const NO_FILES: &[FileType] = &[FileType::Symlink, FileType::Dir, FileType::Other];
 
 #[test]
@@ -79,7 +79,7 @@ fn an_exclude_that_is_no_file_is_not_read(rt: HostRuntime) -> Result<(), BuildEr
     Ok(())
 }
 
-/// What `.git` leads to, and whether that makes a repository. A link is one that leads nowhere.
+/// The target of `.git`, and whether it makes a repository. A link is one that leads nowhere.
 const GITS: &[(FileType, bool)] = &[
     (FileType::Dir, true),
     (FileType::File, true),

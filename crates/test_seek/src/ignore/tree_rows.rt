@@ -1,6 +1,6 @@
-//! Small trees with ignore files, and what git 2.39 keeps of them. `bench/ignore_trees.py` writes the rows.
+//! Small trees with ignore files, and the part of each that git 2.39 keeps. `bench/ignore_trees.py` writes the rows.
 pub(crate) mod first;
 pub(crate) mod second;
 
-/// The lines of a tree, and of what is kept of it.
+/// The lines of a tree, and of its part that is kept.
 pub(crate) type TreeRow = (&'static str, &'static str);

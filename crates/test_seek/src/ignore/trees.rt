@@ -1,10 +1,9 @@
-//! Trees of one repository, beside what git keeps of them.
+//! Trees of one repository, compared with git's answers.
 use crate::ignore::left::left;
 use crate::ignore::planted::repository;
 use crate::ignore::tree_rows::{TreeRow, first, second};
 use std::alloc::Global;
 
-/// Returns whether a walk leaves what git keeps of a tree.
 fn is_as_git(alloc: Global, row: &TreeRow) -> bool {
     let (tree, kept) = row;
     let Ok(planted) = repository(alloc, tree) else {
@@ -16,7 +15,7 @@ fn is_as_git(alloc: Global, row: &TreeRow) -> bool {
     }
 }
 
-/// Returns the place of the first tree of which a walk leaves something else.
+/// Returns the place of the first row that is wrong.
 fn first_wrong(alloc: Global, rows: &[TreeRow]) -> Option<usize> {
     rows.iter().position(|row| !is_as_git(alloc, row))
 }

@@ -5,8 +5,7 @@ use jwalk::file_system::BuildError;
 use std::io::ErrorKind;
 use test_fixtures::host::Host;
 
-/// Returns whether this is left of a repository of these lines, of which a file of rules can't be read, whatever reads
-/// it.
+/// The tree is a repository. The file of rules at `denied` can't be read. Walks in each way and over a crew.
 fn leaves_unread<R: Host>(
     rt: &R,
     lines: &str,

@@ -7,13 +7,12 @@ use jwalk_ignore::real_texts::RealTexts;
 use std::alloc::{AllocError, Global};
 use std::io;
 
-/// A call's words without its root, and the names that it prints below that.
+/// The words of a call without its root, and the names that it prints below the root.
 type Row = (&'static [&'static str], &'static [&'static str]);
 
 /// The words for one thread and for three.
 pub(crate) const THREADS: &[&str] = &["-j1", "-j3"];
 
-/// Returns the words of a call with this root.
 pub(crate) fn with_root<'w>(
     alloc: Global,
     words: &[&'w str],
@@ -24,7 +23,6 @@ pub(crate) fn with_root<'w>(
     Ok(all)
 }
 
-/// Returns the lines of these names below a folder.
 pub(crate) fn lines_of(alloc: Global, folder: &str, names: &[&str]) -> Result<String, AllocError> {
     let mut lines = String::new(alloc);
     for name in names {

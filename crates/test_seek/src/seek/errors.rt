@@ -1,4 +1,4 @@
-//! Errors on the way.
+//! Errors of walks.
 use crate::seek::output::Output;
 use crate::seek::runs::{Row, RulesFile, all_come, called};
 use std::alloc::{AllocError, Global};
@@ -113,7 +113,7 @@ fn a_link_that_leads_nowhere(rt: HostRuntime) {
     all_come(&rt, ROWS);
 }
 
-/// The lines of a directory with that many links, each of which leads to the next, and the last to the first.
+/// Each link of the directory leads to the next one, and the last to the first.
 fn ring(alloc: Global, count: u64) -> Result<String, AllocError> {
     let mut lines = String::from_str(alloc, "d /r\n")?;
     for number in 0..count {
@@ -123,7 +123,6 @@ fn ring(alloc: Global, count: u64) -> Result<String, AllocError> {
     Ok(lines)
 }
 
-/// How many lines a text has.
 fn line_count(text: &[u8]) -> usize {
     text.iter().filter(|byte| **byte == b'\n').count()
 }

@@ -5,7 +5,7 @@ use std::os::unix::fs::{PermissionsExt, symlink};
 use std::time::{Duration, SystemTime};
 use std::{env, fs, io, process};
 
-/// One step of filling a folder. Paths begin at the folder.
+/// A step that fills a folder. Paths begin at the folder.
 #[derive(Clone, Copy)]
 pub(crate) enum Step {
     Dir(&'static str),
@@ -13,18 +13,16 @@ pub(crate) enum Step {
     File(&'static str, &'static str),
     /// A link: its text, and its path.
     Link(&'static str, &'static str),
-    /// When a file was modified: seconds since 1970 and nanoseconds behind them, and its path.
+    /// The time of modification of a file, as seconds since 1970 and nanoseconds, and its path.
     Modified(u64, u32, &'static str),
     /// The permissions of a file, and its path.
     Mode(u32, &'static str),
 }
 
-/// The path of something in a folder.
 fn path_in(rt: &HostRuntime, folder: &str, below: &str) -> io::Result<String> {
     Ok(format!(in rt.alloc(); "{folder}/{below}")?)
 }
 
-/// Sets when a file was modified.
 fn set_modified(rt: &HostRuntime, path: &str, since_1970: Duration) -> io::Result<()> {
     let file = File::open(rt, path)?;
     match SystemTime::UNIX_EPOCH.checked_add(since_1970) {
@@ -51,12 +49,12 @@ fn take(rt: &HostRuntime, folder: &str, step: Step) -> io::Result<()> {
     }
 }
 
-/// Removes a folder with all that it holds.
+/// Removes also everything in the folder.
 pub(crate) fn remove(rt: &HostRuntime, folder: &str) -> io::Result<()> {
     fs::remove_dir_all(rt, folder)
 }
 
-/// The path of a folder of this process for the test of this name.
+/// The path has the number of this process.
 fn path_of(rt: &HostRuntime, name: &str) -> io::Result<String> {
     let all = env::temp_dir(rt)?;
     let all = all.as_path().as_str();
@@ -64,7 +62,7 @@ fn path_of(rt: &HostRuntime, name: &str) -> io::Result<String> {
     Ok(format!(in rt.alloc(); "{all}/seek_tests_{name}_{id}")?)
 }
 
-/// Makes a folder for the test of this name, and fills it.
+/// The folder is that of the test of this name, and empty at first.
 pub(crate) fn make(rt: &HostRuntime, name: &str, steps: &[Step]) -> io::Result<String> {
     let folder = path_of(rt, name)?;
     let _ = remove(rt, folder.as_str());

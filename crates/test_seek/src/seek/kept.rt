@@ -1,4 +1,4 @@
-//! What is found by what a listing keeps: times and modes.
+//! Finds by the metadata that a listing keeps: times and modes.
 use crate::seek::disk::{THREADS, lines_of, with_root};
 use crate::seek::folder::{Step, make, remove};
 use crate::seek::output::Output;
@@ -8,7 +8,7 @@ use jwalk_ignore::real_texts::RealTexts;
 use seek_words::kinds::Kinds;
 use std::io;
 
-/// Files of known times, two of them a nanosecond apart, and others that are new.
+/// Files of known times, of which two are a nanosecond apart, and new files.
 const STEPS: &[Step] = &[
     Step::Dir("d"),
     Step::File("", "may"),
@@ -23,10 +23,10 @@ const STEPS: &[Step] = &[
     Step::Link("old", "l"),
 ];
 
-/// A call's words without its root, and the names that it prints below that.
+/// The words of a call without its root, and the names that it prints below the root.
 type Found = (&'static [&'static str], &'static [&'static str]);
 
-/// What `fd` finds in the folder of these steps.
+/// The finds of `fd` in the folder of these steps.
 const FOUND: &[Found] = &[
     (
         &["--changed-within", "2024-05-01"],
@@ -78,7 +78,7 @@ fn times_and_modes_on_the_disk(rt: HostRuntime) -> io::Result<()> {
     remove(&rt, folder.as_str())
 }
 
-/// A file, and what `find -newer` finds below its folder.
+/// A file, and the finds of `find -newer` below its folder.
 const NEWER: &[(&str, &[&str])] = &[
     ("may", &["d", "l", "later", "new", "run"]),
     ("later", &["d", "l", "new", "run"]),
@@ -118,7 +118,7 @@ fn a_character_device_on_the_disk(rt: HostRuntime) -> io::Result<()> {
     Ok(())
 }
 
-/// Types alone, of which none is named.
+/// No type.
 const NONE: Kinds = Kinds {
     file: false,
     dir: false,
@@ -131,7 +131,6 @@ const NONE: Kinds = Kinds {
     other: false,
 };
 
-/// Returns metadata with a mode.
 fn with_mode(file_type: FileType, mode: u32) -> Metadata {
     const NEVER: Moment = Moment {
         seconds: 0,
@@ -154,8 +153,8 @@ fn with_mode(file_type: FileType, mode: u32) -> Metadata {
     })
 }
 
-/// Modes as `inode(7)` has them, of a pipe, a socket, a block device, a character device, a regular file, and one that its
-/// owner may execute.
+/// Modes in the form of `inode(7)`: of a pipe, a socket, a block device, a character device, a regular file, and one
+/// that its owner may execute.
 const MODES: [u32; 6] = [0o010644, 0o140755, 0o060660, 0o020666, 0o100644, 0o100744];
 
 #[test]

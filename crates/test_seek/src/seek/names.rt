@@ -3,7 +3,7 @@ use crate::seek::runs::{Row, all_come};
 
 const ODD: &str = "d /r\nf 1 /r/with space\nf 1 /r/-dash\nf 1 /r/tab\there\nf 1 /r/ü.Jpg\n";
 
-/// Calls, and what they print.
+/// Calls, and their outputs.
 const ROWS: &[Row<'static>] = &[
     (
         &[".", "/r"],

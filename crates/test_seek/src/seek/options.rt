@@ -1,7 +1,7 @@
 //! Each option.
 use crate::seek::runs::{Row, RulesFile, TREE, all_come, prints, prints_by};
 
-/// All that is below `/t` and isn't hidden.
+/// Everything below `/t` that isn't hidden.
 const SHOWN: &str =
     "/t/a.txt\n/t/B.TXT\n/t/sub\n/t/sub/c.rs\n/t/sub/notes.tar.gz\n/t/sub/deep\n/t/sub/deep/a.rs\n/t/link\n/t/down\n";
 

@@ -1,19 +1,18 @@
-//! What a run writes to.
+//! The output of a run.
 use std::alloc::Global;
 use std::io;
 use std::io::{ErrorKind, Write};
 
-/// Takes some writes, and fails from then on. It keeps what it takes, and counts its failures.
+/// An output that takes some writes, and fails from then on. It keeps the bytes that it takes, and counts its failures.
 #[derive(Drop)]
 pub(crate) struct Output {
-    /// How many more writes it takes.
+    /// The number of writes that it still takes.
     takes: usize,
     written: Vec<u8>,
     failures: usize,
 }
 
 impl Output {
-    /// Returns an output that takes that many writes.
     pub(crate) fn taking(alloc: Global, takes: usize) -> Self {
         Output {
             takes,
@@ -22,17 +21,15 @@ impl Output {
         }
     }
 
-    /// Returns an output that takes whatever is written.
+    /// The output takes all writes.
     pub(crate) fn new(alloc: Global) -> Self {
         Output::taking(alloc, usize::MAX)
     }
 
-    /// Returns what was written.
     pub(crate) fn written(&self) -> &[u8] {
         self.written.as_slice()
     }
 
-    /// Returns how often a write failed.
     pub(crate) fn failures(&self) -> usize {
         self.failures
     }

@@ -28,7 +28,6 @@ impl Clock for Ticking {
     }
 }
 
-/// The lines of a directory of that many files.
 fn files(alloc: Global, count: u64) -> Result<String, AllocError> {
     let mut lines = String::from_str(alloc, "d /r\n")?;
     for number in 0..count {
@@ -37,8 +36,7 @@ fn files(alloc: Global, count: u64) -> Result<String, AllocError> {
     Ok(lines)
 }
 
-/// How many bytes a call writes on standard error, with its status and how often a write failed, where the output takes
-/// that many writes.
+/// Returns the length of the standard error, the status, and how often a write failed.
 fn ends(rt: &impl Host, lines: &str, threads: &str, takes: usize) -> (usize, u8, usize) {
     let mut out = Output::taking(rt.alloc(), takes);
     let mut err = Output::new(rt.alloc());
@@ -89,7 +87,7 @@ fn a_long_output_is_written_whole(rt: HostRuntime) -> Result<(), AllocError> {
     Ok(())
 }
 
-/// Whether a call prints this over a tree of names with control characters, on a terminal or not.
+/// The names of the tree have control characters.
 fn prints_names(rt: &impl Host, words: &[&str], on_terminal: bool, want: &str) -> bool {
     let lines = "d /t\nd /t/\u{1b}[31m\nf 1 /t/\u{1b}[31m/a\u{9b}b\nf 1 /t/\u{7f}é\t\n";
     comes_over_tree(rt, (lines, &[]), "-j1", words, on_terminal, &(want, "", 0))

@@ -10,20 +10,20 @@ use std::time::Clock;
 use test_fixtures::host::Host;
 use walk_text::tree::build_tree;
 
-/// A tree with names of several kinds, one of them hidden, and two links.
+/// A tree with names of several kinds, of which one is hidden, and two links.
 pub(crate) const TREE: &str =
     "d /t\nf 1 /t/a.txt\nf 1 /t/B.TXT\nf 1 /t/.hidden\nd /t/sub\nf 1 /t/sub/c.rs\nf 1 /t/sub/notes.tar.gz\nd /t/sub/deep\nf 1 /t/sub/deep/a.rs\nl a.txt\t/t/link\nl sub\t/t/down\n";
 
 /// A file of rules: its path, and its text.
 pub(crate) type RulesFile<'a> = (&'a str, &'a str);
 
-/// What is written on standard output and on standard error, and the status.
+/// The standard output, the standard error and the status.
 pub(crate) type Want<'a> = (&'a str, &'a str, u8);
 
-/// The words of a call behind the program's name, the lines of a tree, its files of rules, and the outcome.
+/// The words of a call after the program's name, the lines of a tree, its files of rules, and the outcome.
 pub(crate) type Row<'a> = (&'a [&'a str], &'a str, &'a [RulesFile<'a>], Want<'a>);
 
-/// Returns the words of a call: the program's name, and these.
+/// The program's name comes first, and `front` second.
 fn words_of(alloc: Global, front: &str, words: &[&str]) -> Result<Vec<String>, AllocError> {
     let mut all = Vec::new(alloc);
     all.push(String::from_str(alloc, "seek")?)?;
@@ -34,7 +34,6 @@ fn words_of(alloc: Global, front: &str, words: &[&str]) -> Result<Vec<String>, A
     Ok(all)
 }
 
-/// Returns these files, as texts.
 fn texts_of(alloc: Global, files: &[RulesFile<'_>]) -> Result<MemoryTexts, AllocError> {
     let mut texts = MemoryTexts::new(alloc);
     for (path, text) in files {
@@ -43,8 +42,7 @@ fn texts_of(alloc: Global, files: &[RulesFile<'_>]) -> Result<MemoryTexts, Alloc
     Ok(texts)
 }
 
-/// Runs a call over a disk, by a clock, whose output is a terminal or not, and returns the status. 255 if memory runs out
-/// before.
+/// Returns the status of a call over a disk, by a clock, or 255 if memory runs out before it.
 pub(crate) fn called_by<S: FileSystem + Send + Sync + 'static, X: Texts + Send + Sync + 'static>(
     rt: &impl Host,
     clock: &impl Clock,
@@ -72,7 +70,7 @@ pub(crate) fn called_by<S: FileSystem + Send + Sync + 'static, X: Texts + Send +
     }
 }
 
-/// The same by the runtime's clock.
+/// Returns the status of a call over a disk, or 255 if memory runs out before it.
 pub(crate) fn called_on<S: FileSystem + Send + Sync + 'static, X: Texts + Send + Sync + 'static>(
     rt: &impl Host,
     disk: S,
@@ -86,8 +84,7 @@ pub(crate) fn called_on<S: FileSystem + Send + Sync + 'static, X: Texts + Send +
     called_by(rt, rt, disk, texts, threads, words, on_terminal, out, err)
 }
 
-/// Runs a call over the tree of these lines and files of rules, whose output is a terminal or not, and returns the
-/// status. 255 if memory runs out before.
+/// Returns the status of a call over a tree, or 255 if memory runs out before it.
 pub(crate) fn called(
     rt: &impl Host,
     (lines, files): (&str, &[RulesFile<'_>]),
@@ -106,12 +103,11 @@ pub(crate) fn called(
     }
 }
 
-/// Returns whether this is the outcome.
 fn is(out: &Output, err: &Output, status: u8, want: &Want<'_>) -> bool {
     out.written() == want.0.as_bytes() && err.written() == want.1.as_bytes() && status == want.2
 }
 
-/// Returns whether a call over a disk has this outcome.
+/// The option `threads` precedes the words.
 pub(crate) fn comes<S: FileSystem + Send + Sync + 'static, X: Texts + Send + Sync + 'static>(
     rt: &impl Host,
     disk: S,
@@ -126,7 +122,7 @@ pub(crate) fn comes<S: FileSystem + Send + Sync + 'static, X: Texts + Send + Syn
     is(&out, &err, status, want)
 }
 
-/// Returns whether a call over a tree, whose output is a terminal or not, has this outcome.
+/// The option `threads` precedes the words.
 pub(crate) fn comes_over_tree(
     rt: &impl Host,
     tree: (&str, &[RulesFile<'_>]),
@@ -141,27 +137,26 @@ pub(crate) fn comes_over_tree(
     is(&out, &err, status, want)
 }
 
-/// Returns whether a row has its outcome with this many threads.
 fn comes_by(rt: &impl Host, threads: &str, (words, lines, files, want): &Row<'_>) -> bool {
     comes_over_tree(rt, (lines, files), threads, words, false, want)
 }
 
-/// The number of the first row whose outcome is another.
+/// Returns the number of the first row that is wrong.
 fn first_wrong(rt: &impl Host, rows: &[Row<'_>]) -> Option<usize> {
     rows.iter().position(|row| !comes_by(rt, "-j1", row) || !comes_by(rt, "-j3", row))
 }
 
-/// Each row has its outcome, with one thread and with three.
+/// Asserts that each row has its outcome, with one thread and with three.
 pub(crate) fn all_come(rt: &(impl Abort + Host), rows: &[Row<'_>]) {
     assert_eq!(rt; first_wrong(rt, rows), None);
 }
 
-/// A call over `TREE` without rules prints this, with status 0 and nothing on standard error.
+/// Asserts that a call over `TREE` without rules prints this, with status 0 and nothing on standard error.
 pub(crate) fn prints(rt: &(impl Abort + Host), words: &[&str], out: &str) {
     all_come(rt, &[(words, TREE, &[], (out, "", 0))]);
 }
 
-/// A call over `TREE` with this word for the threads prints this, and has this status.
+/// Asserts that a call over `TREE` prints this, and has this status. The option `threads` precedes the words.
 pub(crate) fn prints_by(
     rt: &(impl Abort + Host),
     threads: &str,

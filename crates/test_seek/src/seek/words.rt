@@ -3,14 +3,13 @@ use crate::seek::output::Output;
 use crate::seek::runs::{TREE, called};
 use test_fixtures::host::Host;
 
-/// Whether bytes have a text in them.
 fn contains(bytes: &[u8], text: &str) -> bool {
     bytes
         .windows(text.len().max(1))
         .any(|part| part == text.as_bytes())
 }
 
-/// Returns whether a call prints nothing, ends with this status, and has a word in its text on standard error.
+/// Nothing may be printed on standard output.
 fn tells(rt: &impl Host, words: &[&str], told: &str, status: u8) -> bool {
     let mut out = Output::new(rt.alloc());
     let mut err = Output::new(rt.alloc());
@@ -58,7 +57,7 @@ fn a_pattern_with_a_slash(rt: HostRuntime) {
     assert!(rt; tells(&rt, &["-g", "a/*", "/t"], "'a/*'", 2));
 }
 
-/// Returns whether a call ends with status 0, prints a text with this in it, and nothing on standard error.
+/// The status must be 0, and nothing may be printed on standard error.
 fn shows(rt: &impl Host, words: &[&str], shown: &str) -> bool {
     let mut out = Output::new(rt.alloc());
     let mut err = Output::new(rt.alloc());

@@ -1,4 +1,4 @@
-//! Walks whose callback uses the states beside directories and entries.
+//! Walks whose callback uses the states of directories and entries.
 use example_proofs::marked::walk_marked;
 use jwalk::file_system::{BuildError, FileSystem};
 use jwalk::read_dir::ByFn;
@@ -9,10 +9,10 @@ use test_fixtures::answers::Answer;
 use test_fixtures::trees::{GROUPED, tree};
 use test_fixtures::ways::{Asked, Setting, WAYS, Way};
 
-/// States that count lists on the way down, and that mark entries.
+/// The state of a directory counts lists on the way down, that of an entry is its mark.
 type Marks = (usize, bool);
 
-/// The paths of answers that are entries, each with whether it is marked.
+/// The text has the path and the mark of each entry.
 fn marks_of(alloc: Global, found: &[Answer<Marks>]) -> Result<String, AllocError> {
     let mut text = String::new(alloc);
     for answer in found {
@@ -25,11 +25,9 @@ fn marks_of(alloc: Global, found: &[Answer<Marks>]) -> Result<String, AllocError
     Ok(text)
 }
 
-/// The marks of the grouped tree.
 const MARKS: &str = "/t true;/t/a.txt true;/t/b.txt false;/t/c.txt false;/t/group 1 false;\
                      /t/group 1/d.txt true;/t/group 2 false;/t/group 2/e.txt true;";
 
-/// Whether these are the marks of a walk: the state of each entry is whether it is marked.
 fn has_marks(alloc: Global, wanted: &str) -> Result<bool, BuildError> {
     let root = String::from_str(alloc, "/t")?;
     let found = walk_marked(alloc, tree(alloc, GROUPED)?, root)?;
@@ -41,7 +39,7 @@ fn the_first_entry_of_each_list_is_marked(rt: HostRuntime) {
     assert!(rt; matches!(has_marks(rt.alloc(), MARKS), Ok(true)));
 }
 
-/// Puts entries in order by name, and errors behind them.
+/// Errors come behind the entries, which are in order by name.
 fn put_in_order(list: &mut Vec<Answer<Marks>>) -> Result<(), AllocError> {
     list.sort_by(|a, b| match (a, b) {
         (Ok(a), Ok(b)) => a.file_name.cmp(&b.file_name),
@@ -51,8 +49,8 @@ fn put_in_order(list: &mut Vec<Answer<Marks>>) -> Result<(), AllocError> {
     })
 }
 
-/// The callback: it orders each list, drops hidden names and errors, leaves unread what is below depth 2, counts lists
-/// on the way down, and marks the first entry.
+/// Orders each list, drops hidden names and errors, leaves the directories below depth 2 unread, counts lists on the
+/// way down, and marks the first entry.
 fn mark(
     _depth: Option<usize>,
     _path: &str,
@@ -78,8 +76,7 @@ fn mark(
     Ok(())
 }
 
-/// Whether these are the marks of a walk from a root with that callback, with hidden names or not, where it is read in
-/// this way.
+/// Hidden names may be asked for or not, as the callback drops them.
 fn marks_by<R: Threads + AllocGlobal + Sync, S: FileSystem + Send + Sync>(
     rt: &R,
     fs: &S,
@@ -103,7 +100,7 @@ fn marks_by<R: Threads + AllocGlobal + Sync, S: FileSystem + Send + Sync>(
 
 #[test]
 fn the_first_entry_of_each_list_is_marked_whatever_reads_the_directories(rt: HostRuntime) {
-    // From `/` on, the groups are at depth 2, and so are not read.
+    // From `/`, the groups are at depth 2 and thus aren't read.
     const ROWS: &[(&str, &str)] = &[
         ("/t", MARKS),
         (

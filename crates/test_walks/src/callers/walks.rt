@@ -1,4 +1,4 @@
-//! A walk over a file system of one's own.
+//! A walk over a caller's own file system.
 use example_proofs::counted::Counted;
 use example_proofs::whole::walk_whole;
 use jwalk::file_system::BuildError;
@@ -6,7 +6,6 @@ use std::alloc::Global;
 use test_fixtures::builders::builder;
 use test_fixtures::trees::{GROUPED, tree};
 
-/// How many answers a walk over the grouped tree has, and how many listings were asked for.
 fn answers_and_listings(alloc: Global) -> Result<(usize, usize), BuildError> {
     let fs = Counted::new(tree(alloc, GROUPED)?);
     let answers = walk_whole(alloc, builder(alloc, &fs, "/t")?)?.len();

@@ -1,4 +1,4 @@
-//! Walks under way, whose directories are read one after another or by threads, without what is in their answers.
+//! Walks under way, whose directories are read one after another or by threads, reduced to the kinds of their answers.
 use jwalk::DirEntryIter;
 use jwalk::file_system::FileSystem;
 use jwalk::read_dir::NoProcess;
@@ -15,16 +15,16 @@ pub struct Begun<'a, S: FileSystem, R> {
     on_threads: bool,
 }
 
-/// What comes next of a walk.
+/// The next answer of a walk.
 #[derive(Clone, Copy)]
 pub enum Coming {
     /// An entry.
     Entry,
     /// Memory ran out.
     Memory,
-    /// Any other error.
+    /// An error other than memory that ran out.
     OtherError,
-    /// Nothing, as the walk is over.
+    /// No answer, as the walk is over.
     Nothing,
 }
 
@@ -38,7 +38,7 @@ fn sort(answer: &Option<Answer>) -> Coming {
 }
 
 impl<'a, S: FileSystem + Send + Sync, R: Threads + Sync> Begun<'a, S, R> {
-    /// A walk that is begun.
+    /// Begins a walk.
     pub fn new(
         rt: &'a R,
         alloc: Global,
@@ -55,7 +55,7 @@ impl<'a, S: FileSystem + Send + Sync, R: Threads + Sync> Begun<'a, S, R> {
         }
     }
 
-    /// What comes next, and how many readings are made then and not handed on.
+    /// Returns the next answer, and how many readings are made by then and not handed on.
     pub fn next(&mut self) -> (Coming, usize) {
         let answer = if self.on_threads {
             self.walk.next_on(self.rt)
@@ -65,7 +65,7 @@ impl<'a, S: FileSystem + Send + Sync, R: Threads + Sync> Begun<'a, S, R> {
         (sort(&answer), self.walk.ahead())
     }
 
-    /// Appends that many answers more.
+    /// Appends up to `n` answers.
     pub fn fill(&mut self, n: usize, found: &mut Vec<Answer>) -> Result<usize, AllocError> {
         if self.on_threads {
             self.walk.fill_on(self.rt, n, found)
@@ -74,7 +74,7 @@ impl<'a, S: FileSystem + Send + Sync, R: Threads + Sync> Begun<'a, S, R> {
         }
     }
 
-    /// Whether nothing comes any more, and nothing is left of the walk.
+    /// Returns whether there is no further answer, and nothing is left of the walk.
     pub fn is_over(&mut self) -> bool {
         matches!(self.next(), (Coming::Nothing, _)) && matches!(self.next(), (Coming::Nothing, 0))
     }

@@ -1,4 +1,4 @@
-//! How often a file system is called.
+//! The number of calls to a file system.
 use crate::rows::row::{Over, Row, all_hold};
 use test_fixtures::trees::{GROUPED, Step};
 use test_fixtures::watched::Calls;

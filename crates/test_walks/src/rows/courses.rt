@@ -9,28 +9,27 @@ use test_fixtures::trees::{Step, tree};
 use test_fixtures::watched::{Failing, Watched};
 use test_fixtures::ways::{Asked, Setting};
 
-/// What walks begin with: the steps that build their tree, where that fails, and their root.
+/// The steps that build the tree of a walk, where the tree fails, and the root.
 pub type Start = (&'static [Step], Failing, &'static str);
 
-/// What is seen of a walk.
+/// What a test sees of a walk.
 pub enum Seen {
-    /// After each entry, how many readings were made and not handed on, and how many listings were made. Then it is
-    /// over.
+    /// After each entry, how many readings are made and not handed on, and how many listings were made. Then the walk
+    /// is over.
     Counts(&'static [(usize, usize)]),
-    /// That many entries, and then memory runs out.
+    /// The number of entries before memory runs out.
     Refused(usize),
-    /// Of each call for answers: for how many, how many it appends, and all that are there then.
+    /// The calls for answers: how many each asks for, how many it appends, and all the answers by then.
     Parts(&'static [(usize, usize, &'static str)]),
 }
 
-/// How a walk goes on.
+/// The options of a walk, and its course.
 pub struct Course {
     pub settings: &'static [Setting],
     pub seen: Seen,
 }
 
-/// Whether each answer is an entry, and that is how many readings are ahead then, and listings made. At the end no
-/// other listing was made.
+/// Each answer must be an entry. The end must list nothing.
 fn goes_on<S: FileSystem + Send + Sync, R: Threads + Sync>(
     walk: &mut Begun<'_, S, R>,
     fs: &Watched,
@@ -45,7 +44,7 @@ fn goes_on<S: FileSystem + Send + Sync, R: Threads + Sync>(
     walk.is_over() && counts.last().map(|(_, lists)| *lists) == Some(fs.lists())
 }
 
-/// Whether memory runs out for a walk after that many entries, and nothing is left of it then.
+/// Nothing may be left of the walk after the error.
 fn ends_with_memory<S: FileSystem + Send + Sync, R: Threads + Sync>(
     walk: &mut Begun<'_, S, R>,
     before: usize,
@@ -58,7 +57,6 @@ fn ends_with_memory<S: FileSystem + Send + Sync, R: Threads + Sync>(
     matches!(walk.next(), (Coming::Memory, 0)) && walk.is_over()
 }
 
-/// Whether each call for answers appends that many, and these are there then.
 fn comes_in_parts<S: FileSystem + Send + Sync, R: Threads + Sync>(
     alloc: Global,
     walk: &mut Begun<'_, S, R>,
@@ -74,7 +72,6 @@ fn comes_in_parts<S: FileSystem + Send + Sync, R: Threads + Sync>(
     true
 }
 
-/// Whether a walk takes this course, on threads or not.
 fn takes<R: Threads + AllocGlobal + Sync>(
     rt: &R,
     start: &Start,
@@ -102,7 +99,7 @@ fn takes<R: Threads + AllocGlobal + Sync>(
         }
 }
 
-/// Each walk takes its course, on threads or not.
+/// Asserts that each walk takes its course, on threads or not.
 pub fn all_take<R: Abort + Threads + AllocGlobal + Sync>(
     rt: &R,
     start: &Start,

@@ -159,7 +159,7 @@ fn roots_that_are_links_followed_or_not(rt: HostRuntime) {
     all_hold(&rt, ROWS);
 }
 
-/// Whether there are that many answers and the last is an error of this depth, whose path has this length.
+/// The last answer must be an error of this depth, whose path has this length.
 fn ends(found: &[Answer], count: usize, depth: usize, length: usize) -> bool {
     let is_last = match found.last() {
         Some(Err(error)) => {
@@ -170,7 +170,6 @@ fn ends(found: &[Answer], count: usize, depth: usize, length: usize) -> bool {
     is_last && found.len() == count
 }
 
-/// Whether the walk that follows links in two directories to each other ends so, read in this way.
 fn is_ended<R: Threads + AllocGlobal + Sync>(rt: &R, way: Way) -> bool {
     let Ok(tree) = tree(rt.alloc(), TO_EACH_OTHER) else {
         return false;

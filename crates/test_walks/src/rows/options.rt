@@ -90,7 +90,7 @@ fn a_denied_directory(rt: HostRuntime) {
             answers: "0 d /t; 1 f /t/a.txt; 1 f /t/b.txt; 1 f /t/c.txt; 1 d /t/group 1; \
                       2 f /t/group 1/d.txt; 1 d /t/group 2 ! 1 /t/group 2 PermissionDenied",
         },
-        // At the greatest depth it isn't read.
+        // The directory isn't read at the greatest depth.
         Row {
             over: Over::Tree(DENIED),
             root: "/t",
@@ -98,7 +98,7 @@ fn a_denied_directory(rt: HostRuntime) {
             answers: "0 d /t; 1 f /t/a.txt; 1 f /t/b.txt; 1 f /t/c.txt; 1 d /t/group 1; \
                       1 d /t/group 2",
         },
-        // Above the least depth its error is left out with it.
+        // Above the least depth, the error is left out with its directory.
         Row {
             over: Over::Tree(DENIED),
             root: "/t",
@@ -128,7 +128,7 @@ fn errors_after_entries_and_whatever_their_depth(rt: HostRuntime) {
     all_hold(&rt, ROWS);
 }
 
-/// A long listing of names that begin alike, with two of one name and two errors.
+/// A long listing of names that begin alike. Two have the same name, and two are errors.
 const CHAPTERS: ListedDirectory<'static> = ListedDirectory {
     path: "/d",
     file_type: FileType::Dir,

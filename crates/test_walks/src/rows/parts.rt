@@ -5,17 +5,16 @@ use test_fixtures::watched::Failing;
 use test_fixtures::ways::Setting;
 use test_fixtures::width::Width;
 
-/// The first answers of a walk by name over the groups of files.
 const SOME: &str = "0 d /t; 1 f /t/a.txt; 1 f /t/b.txt";
 
-/// All of them.
 const ALL: &str = "0 d /t; 1 f /t/a.txt; 1 f /t/b.txt; 1 f /t/c.txt; 1 d /t/group 1; \
                    2 f /t/group 1/d.txt; 1 d /t/group 2; 2 f /t/group 2/e.txt";
 
-/// Three calls for answers.
+/// The calls for answers.
 const THREE: Seen = Seen::Parts(&[(3, 3, SOME), (100, 5, ALL), (100, 0, ALL)]);
 
-// A `fill` that stops early, in turn (the wrong body `fill_stops_early`) or by threads, gives fewer than were asked for.
+// A `fill` that stops early, one directory after another (the wrong body `fill_stops_early`) or by threads, appends
+// fewer answers than were asked for.
 #[test]
 fn answers_in_three_parts_in_turn_and_by_threads(rt: HostRuntime) {
     const COURSES: &[Course] = &[

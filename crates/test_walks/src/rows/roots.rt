@@ -1,4 +1,4 @@
-//! Readings of directories and of all below them, without the answers of a walk.
+//! Readings of directories and of everything below them, without a walk's answers.
 use jwalk::file_system::FileSystem;
 use jwalk::read_dir::{Job, NoProcess, Options, ReadDir};
 use jwalk::read_dir_iter::ReadDirIter;
@@ -8,7 +8,6 @@ use std::thread::Threads;
 use test_fixtures::trees::{FORKED, tree};
 use test_fixtures::width::Width;
 
-/// Readings, made one after another or by threads.
 #[derive(Drop)]
 struct Reads<'a, S: FileSystem, R> {
     rt: &'a R,
@@ -16,7 +15,6 @@ struct Reads<'a, S: FileSystem, R> {
     on_threads: bool,
 }
 
-/// The widths at which directories are read.
 const WIDTHS: &[Width] = &[
     Width::Serial,
     Width::Batches(1),
@@ -24,12 +22,11 @@ const WIDTHS: &[Width] = &[
     Width::Batches(8),
 ];
 
-/// What reads the directories of a file system.
 fn job<S: FileSystem>(alloc: Global, fs: &S) -> Job<((), ()), &S, NoProcess> {
     Job::new(alloc, fs, NoProcess, Options::new())
 }
 
-/// Whether what comes is a reading or an error, if anything comes.
+/// Returns `Some(true)` for a reading and `Some(false)` for an error.
 fn is_read(read: &Option<Result<ReadDir<((), ())>, Error>>) -> Option<bool> {
     match read {
         Some(read) => Some(read.is_ok()),
@@ -37,7 +34,6 @@ fn is_read(read: &Option<Result<ReadDir<((), ())>, Error>>) -> Option<bool> {
     }
 }
 
-/// Whether this is a reading of three items.
 fn is_three(read: &Option<Result<ReadDir<((), ())>, Error>>) -> bool {
     match read {
         Some(Ok(read)) => read.results_list().len() == 3,
@@ -46,7 +42,7 @@ fn is_three(read: &Option<Result<ReadDir<((), ())>, Error>>) -> bool {
 }
 
 impl<'a, S: FileSystem + Send + Sync, R: Threads + Sync> Reads<'a, S, R> {
-    /// The readings of the root and of all below it.
+    /// Reads the root and everything below it.
     fn new(rt: &'a R, alloc: Global, fs: &'a S, width: Width, on_threads: bool) -> Option<Self> {
         let job = job(alloc, fs);
         let roots = job.root_list("/r", ()).ok()?.read_children_specs().ok()?;
@@ -58,7 +54,7 @@ impl<'a, S: FileSystem + Send + Sync, R: Threads + Sync> Reads<'a, S, R> {
         })
     }
 
-    /// Whether what comes next is a reading or an error, if anything comes.
+    /// Returns `Some(true)` for a reading and `Some(false)` for an error.
     fn next(&mut self) -> Option<bool> {
         is_read(&if self.on_threads {
             self.reads.next_on(self.rt)
@@ -67,7 +63,7 @@ impl<'a, S: FileSystem + Send + Sync, R: Threads + Sync> Reads<'a, S, R> {
         })
     }
 
-    /// Whether the reading of an entry's directory comes, and has three items.
+    /// Asks for the reading of the entry's directory.
     fn has_three_in(&mut self, entry: &DirEntry<((), ())>) -> bool {
         entry.read_children.is_some()
             && is_three(&if self.on_threads {
@@ -78,7 +74,6 @@ impl<'a, S: FileSystem + Send + Sync, R: Threads + Sync> Reads<'a, S, R> {
     }
 }
 
-/// Seven readings, and then none.
 const SEVEN: &[Option<bool>] = &[
     Some(true),
     Some(true),
@@ -91,7 +86,7 @@ const SEVEN: &[Option<bool>] = &[
     None,
 ];
 
-/// Whether seven readings come, by threads or not, and then none.
+/// No reading may follow them.
 fn gives_seven<R: Threads + AllocGlobal + Sync, S: FileSystem + Send + Sync>(
     rt: &R,
     fs: &S,
@@ -109,13 +104,12 @@ fn gives_seven<R: Threads + AllocGlobal + Sync, S: FileSystem + Send + Sync>(
     true
 }
 
-/// The root's entry.
 fn root<S: FileSystem>(alloc: Global, fs: &S) -> Option<DirEntry<((), ())>> {
     let list = job(alloc, fs).root_list("/r", ()).ok()?;
     list.into_results_list().pop()?.ok()
 }
 
-/// Whether the root's entry asks for the reading of the root, by threads or not.
+/// The reading that the entry asks for must be the root's.
 fn asks_for_its_own<R: Threads + AllocGlobal + Sync, S: FileSystem + Send + Sync>(
     rt: &R,
     fs: &S,

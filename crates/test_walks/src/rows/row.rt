@@ -8,13 +8,13 @@ use test_fixtures::trees::{Step, tree};
 use test_fixtures::watched::{Calls, Failing, Watched};
 use test_fixtures::ways::{Asked, Setting, WAYS, Way};
 
-/// What a walk reads from.
+/// The file system of a walk.
 pub enum Over {
     /// The tree that these steps build.
     Tree(&'static [Step]),
-    /// That tree, where it fails.
+    /// The tree, which fails.
     Failing(&'static [Step], Failing),
-    /// That tree, and how often the walk calls it.
+    /// The tree, and how often the walk calls it.
     Asking(&'static [Step], Calls),
     /// A directory whose items are given.
     Listed(ListedDirectory<'static>),
@@ -22,13 +22,13 @@ pub enum Over {
 
 /// A walk with its answers.
 pub struct Row {
-    /// What it reads from.
+    /// The file system that the walk reads.
     pub over: Over,
-    /// Where it begins.
+    /// The root.
     pub root: &'static str,
-    /// The options that are set, one after another.
+    /// The options, set one after another.
     pub settings: &'static [Setting],
-    /// The lines of its answers, separated by `; `.
+    /// The lines of the walk's answers, separated by `; `.
     pub answers: &'static str,
 }
 
@@ -47,7 +47,6 @@ impl Row {
         asked.shows(rt, NoProcess, way, self.answers)
     }
 
-    /// Whether these are the walk's answers, read in this way.
     fn holds<R: Threads + AllocGlobal + Sync>(&self, rt: &R, way: Way) -> bool {
         let (steps, failing, calls) = match &self.over {
             Over::Tree(steps) => (*steps, Failing::Never, None),
@@ -63,7 +62,7 @@ impl Row {
     }
 }
 
-/// Each walk yields what its row says, in whatever way it is read.
+/// Asserts that each walk yields the answers of its row, in each way to read.
 pub fn all_hold<R: Abort + Threads + AllocGlobal + Sync>(rt: &R, rows: &[Row]) {
     for row in rows {
         for way in WAYS {

@@ -48,7 +48,7 @@ fn a_directory_before_all_that_it_holds(rt: HostRuntime) {
     all_hold(&rt, ROWS);
 }
 
-/// A directory of 33 directories: a batch of 32 of them is read by two threads.
+/// A directory of 33 directories, of which a batch of 32 is read by two threads.
 const SIBLINGS: &[Step] = &[
     Step::Dir("/w"),
     Step::Dir("/w/a"),
@@ -175,7 +175,7 @@ fn roots_that_have_no_file_name(rt: HostRuntime) {
     all_hold(&rt, ROWS);
 }
 
-/// What a link to a directory leads to.
+/// The root is a link to a directory.
 const LINKED: ListedDirectory<'static> = ListedDirectory {
     path: "/r/a-link",
     file_type: FileType::Symlink,
@@ -183,7 +183,7 @@ const LINKED: ListedDirectory<'static> = ListedDirectory {
     items: &[Item::Typed("zzz", FileType::File)],
 };
 
-/// A link that leads to nothing.
+/// The root is a link that leads nowhere.
 const BROKEN: ListedDirectory<'static> = ListedDirectory {
     path: "/x",
     file_type: FileType::Symlink,

@@ -1,4 +1,4 @@
-//! How many directories are read together, and when.
+//! The number of directories that are read together, and the moment of it.
 use crate::rows::courses::{Course, Seen, all_take};
 use jwalk::Parallelism;
 use jwalk::file_system::{BuildError, FileSystem};
@@ -44,7 +44,7 @@ fn directories_of_directories(rt: HostRuntime) {
     all_take(&rt, &(FORKED, Failing::Never, "/r"), COURSES);
 }
 
-/// A directory with twenty empty directories.
+/// A directory of twenty empty directories.
 const TWENTY: &[Step] = &[
     Step::Dir("/d"),
     Step::Dir("/d/10"),
@@ -69,8 +69,8 @@ const TWENTY: &[Step] = &[
     Step::Dir("/d/29"),
 ];
 
-// The root alone is read for its own answer, and eight of the directories in it for the next one. Below a least depth
-// one call enters the root and the first directory in it.
+// For its own answer the root is read alone, and for the next one eight of its directories are. Below a least depth,
+// one call enters the root and its first directory.
 #[test]
 fn what_one_answer_reads_ahead(rt: HostRuntime) {
     const COURSES: &[Course] = &[
@@ -160,7 +160,7 @@ fn groups_of_files(rt: HostRuntime) {
                 (0, 3),
             ]),
         },
-        // A greatest depth below 2 makes the walk serial, unless it comes first.
+        // A greatest depth below 2 makes the walk serial, unless it is set first.
         Course {
             settings: &[Setting::Sort, Setting::By(THREE), Setting::Max(1)],
             seen: Seen::Counts(&[(0, 1), (0, 1), (0, 1), (0, 1), (0, 1), (0, 1)]),
@@ -173,7 +173,6 @@ fn groups_of_files(rt: HostRuntime) {
     all_take(&rt, &(GROUPED, Failing::Never, "/t"), COURSES);
 }
 
-/// How many readings are ahead of a walk once it has yielded the first of the groups.
 fn ahead_at_first_group<S: FileSystem>(
     alloc: Global,
     walk: Builder<S>,
@@ -184,8 +183,8 @@ fn ahead_at_first_group<S: FileSystem>(
     Ok(walk.ahead())
 }
 
-/// The same for two walks, one read by a clone of a value and one by the value. The first is given it before its
-/// greatest depth is set to 1, and the second after.
+/// The first walk has a clone of a width, set before its greatest depth of 1. The second has the width itself, set
+/// after it.
 fn ahead_by_clones(alloc: Global) -> Result<(usize, usize), BuildError> {
     let three: Parallelism = Parallelism::RayonNewPool(3);
     let before = over_tree(alloc, GROUPED, "/t")?.parallelism(three.clone()?);

@@ -19,6 +19,6 @@ invariant-loop-answers g l =
       style : style_of l.printer.lines ≡ style_of l.fn.printer.lines;
     }
 
--- at most how many answers are to come
+-- the greatest number of answers to come
 abbrev pub decreases-loop-answers : goal.decreases-loop-answers
 decreases-loop-answers g l = size (g.I.Iterator.remaining l.answers)

@@ -3,7 +3,7 @@ use Rattle.std.specs.List.{list_all}
 use Rattle.seek_found.specs.PatternTest.{takes_of}
 use Rattle.seek_found.proofs.pattern_test.all_pass.Given as goal
 
--- the text passed each test so far, and these take what they took
+-- the text passed each test so far, and these take the same as before
 abbrev pub invariant-loop-at : goal.invariant-loop-at
 invariant-loop-at l = record {
   same : map takes_of l.tests ≡ map takes_of l.fn.tests;

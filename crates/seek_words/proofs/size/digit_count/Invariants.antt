@@ -2,7 +2,7 @@ use Rattle.std.proofs.Common.{length, ◌-◌, ◌≡◌, ◌+◌, drop}
 use Rattle.seek_words.specs.Size.{digit_count}
 use Rattle.seek_words.proofs.size.digit_count.Given as goal
 
--- the digits so far, and those behind them
+-- the digits so far, and those after them
 abbrev pub invariant-loop-count : goal.invariant-loop-count
 invariant-loop-count l = l.count + digit_count (drop l.count l.text) ≡ digit_count l.text
 

@@ -2,6 +2,6 @@ use Rattle.std.proofs.Common.{◌≡◌, Some, take}
 use Rattle.seek_words.specs.Size.{in_64_bits, number_of}
 use Rattle.seek_words.proofs.size.number_of.Given as goal
 
--- the number that the digits so far write
+-- the number of the digits so far
 abbrev pub invariant-loop-digit : goal.invariant-loop-digit
 invariant-loop-digit l = in_64_bits (number_of (take l.digit-index l.digits)) ≡ Some l.number

@@ -1,5 +1,5 @@
 use Rattle.test_parts.proofs.board_walk.whole_family.Given as goal
 
--- of a family nothing more is given
+-- nothing is assumed of the family
 abbrev pub ghost-read_all : goal.ghost-read_all
 ghost-read_all a = tt

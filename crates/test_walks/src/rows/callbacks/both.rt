@@ -11,7 +11,6 @@ use std::alloc::AllocError;
 use test_fixtures::answers::Answer;
 use test_fixtures::trees::GROUPED;
 
-/// A list that a callback is given.
 type Items = Vec<Answer>;
 
 /// Drops a name from a list, and then cuts the list after two items.
@@ -36,7 +35,7 @@ pub fn drops_then_cuts(
     called(&both, depth, path, state, list)
 }
 
-/// Cuts a list first.
+/// Cuts a list after two items, and then drops a name from it.
 pub fn cuts_then_drops(
     depth: Option<usize>,
     path: &str,

@@ -1,4 +1,4 @@
-//! A call of a callback, of which a caller knows what is known of every callback.
+//! The call of a callback whose caller knows no more of it than of every callback.
 ghost use Rattle.std.specs.Prelude.{◌<◌, ◌^◌, OnOk, map};
 ghost use Rattle.jwalk.specs.jwalk_model.Entry.{AtDepth};
 ghost use Rattle.jwalk.specs.jwalk_model.ReadDir.{list_depth};

@@ -13,27 +13,27 @@ use test_fixtures::answers::Answer;
 use test_fixtures::moving::move_directory;
 use test_fixtures::trees::{GROUPED, Step};
 
-/// What a closure does with each list.
+/// A closure's change to each list.
 #[derive(Clone, Copy)]
 pub enum Change {
-    /// It takes the directories away from the groups.
+    /// Takes the directories away from the groups.
     ClearGroups,
-    /// It drops the groups.
+    /// Drops the groups.
     DropGroups,
-    /// It moves the directory of a group to a file.
+    /// Moves the directory of a group to a file.
     MoveGroup,
-    /// It keeps the root alone.
+    /// Keeps the root alone.
     KeepRoot,
-    /// It turns the list round.
+    /// Reverses the list.
     Turn,
-    /// It adds an error to the list of a root in `/`. Memory runs out for any other list.
+    /// Adds an error to the list of a root in `/`. Runs out of memory for any other list.
     NoteRoot,
-    /// Memory runs out for the list of the root, or for those of directories at a depth.
+    /// Runs out of memory for the list of the root, or for the lists of directories at a depth.
     RefuseAt(Option<usize>),
 }
 
 impl Change {
-    /// Changes the list of the root, or of the directory of this depth and path.
+    /// The depth and the path are those of the list's directory. The root's list has no depth.
     fn make(
         self,
         depth: Option<usize>,
@@ -70,7 +70,7 @@ pub fn by_closure(
     requires depths { AtDepth (list_depth depth) (map item list.old.items) }
     ensures { OnOk result (AtDepth (list_depth depth) (map item list.new.items)) }
 {
-    // The types of the closure's arguments are written.
+    // The closure has the types of its arguments written out.
     let changes = ByFn::new(|depth: Option<usize>, path: &str, _state: &mut (), list: &mut Vec<
         Answer,
     >| change.make(depth, path, list));
@@ -81,7 +81,6 @@ fn is_group(entry: &DirEntry<((), ())>) -> bool {
     entry.file_name.as_str().starts_with("group")
 }
 
-/// Takes the directories away from the groups of a list.
 fn clear_groups(list: &mut Vec<Answer>) {
     for found in list.iter_mut() {
         if let Ok(entry) = found

@@ -13,7 +13,7 @@ use test_fixtures::answers::Answer;
 use test_fixtures::texts::texts;
 use test_fixtures::trees::{GROUPED, Step};
 
-/// Takes its directories away from the entries of three names.
+/// Takes the directories away from the entries of three names.
 pub fn skip_three(
     depth: Option<usize>,
     path: &str,
@@ -28,7 +28,7 @@ pub fn skip_three(
     called(&SkipNames::new(names), depth, path, state, list)
 }
 
-/// Keeps the files at depth 1 but for one.
+/// Keeps the files at depth 1 except one.
 pub fn keep_files(
     depth: Option<usize>,
     path: &str,
@@ -70,7 +70,7 @@ fn directories_skipped_by_name(rt: HostRuntime) {
             root: "/t",
             answers: "0 d /t; 1 f /t/a.txt; 1 f /t/b.txt; 1 f /t/c.txt; 1 d /t/group 1; 1 d /t/group 2",
         },
-        // The root is entered whatever its name.
+        // The root is entered, whatever its name is.
         Row {
             callback: Callback::SkipThree,
             steps: GROUPED,
@@ -92,7 +92,7 @@ fn entries_kept_by_a_test(rt: HostRuntime) {
     all_hold(&rt, ROWS);
 }
 
-/// A directory and a file of the name that is left out if it is a directory's, each beside another.
+/// A directory and a file of the name that is left out for a directory, each beside another.
 const TARGETS: &[Step] = &[
     Step::Dir("/r"),
     Step::Dir("/r/target"),

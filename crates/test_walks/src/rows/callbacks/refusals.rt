@@ -31,7 +31,7 @@ fn a_callback_that_is_refused_memory(rt: HostRuntime) {
     all_hold(&rt, ROWS);
 }
 
-/// Whether a walk whose callback runs out of memory for the root's list is not begun.
+/// Memory runs out for the root's list.
 fn is_not_begun(alloc: Global) -> Result<bool, BuildError> {
     let refused = Callback::Changes(Change::RefuseAt(None));
     let walk = over_tree(alloc, GROUPED, "/t")?.process_read_dir(refused);

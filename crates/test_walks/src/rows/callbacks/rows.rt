@@ -10,24 +10,24 @@ use test_fixtures::answers::Answer;
 use test_fixtures::trees::{Step, tree};
 use test_fixtures::ways::{Asked, Setting, WAYS, Way};
 
-/// What a callback does with each list.
+/// A callback's change to each list.
 #[derive(Clone, Copy)]
 pub enum Callback {
-    /// A closure changes it.
+    /// A closure's change.
     Changes(Change),
     /// Directories of three names can't be entered.
     SkipThree,
-    /// The files at depth 1 but for one are kept.
+    /// Only the files at depth 1 are kept, except one.
     KeepFiles,
     /// Directories of the name `target` are left out.
     LeaveOutTarget,
-    /// A name is dropped from each list, and then each is cut after two items.
+    /// A name is dropped from each list, and then each list is cut after two items.
     DropsThenCuts,
-    /// Each list is cut first.
+    /// Each list is cut after two items, and then a name is dropped from it.
     CutsThenDrops,
 }
 
-// One type for all of them, since each type of a walk costs time.
+// All callbacks have one type, since each type of a walk costs time.
 impl ProcessReadDir<((), ()), Global> for Callback {
     ghost IsLawful = { λ _. Unit {0} };
 
@@ -60,7 +60,6 @@ pub struct Row {
 }
 
 impl Row {
-    /// Whether these are the walk's answers, read in this way.
     fn holds<R: Threads + AllocGlobal + Sync>(&self, rt: &R, way: Way) -> bool {
         let Ok(fs) = tree(rt.alloc(), self.steps) else {
             return false;
@@ -74,7 +73,7 @@ impl Row {
     }
 }
 
-/// Each walk yields what its row says, in whatever way it is read.
+/// Asserts that each walk yields the answers of its row, in each way to read.
 pub fn all_hold<R: Abort + Threads + AllocGlobal + Sync>(rt: &R, rows: &[Row]) {
     for row in rows {
         for way in WAYS {
