@@ -5,7 +5,7 @@ use Rattle.std.specs.Io.KnownBytes.{Appends, append_known}
 use Rattle.std.proofs.lemmas.Grind.{flat_map-append}
 use Rattle.jwalk_model.specs.Entry.{Item}
 use Rattle.seek_words.specs.Sought.{Sought}
-use Rattle.seek_words.specs.declared.paths.Style.{Style}
+use Rattle.seek_words.specs.Lines.{Form}
 use Rattle.seek_found.specs.Found.{found_line, found_lines, is_clean, PrintsClean}
 use Rattle.seek_found.proofs.FoundFacts.{appends_then, appends_none, and_and}
 
@@ -22,26 +22,26 @@ first_written None new gathered text none written = tt
 first_written (Some ws) None gathered text none written = written
 first_written (Some ws) (Some us) gathered text none written = written ∙ ap (λ l. l ++ text) (ap (λ l. ws ++ l) none ∙ append-nil ws)
 
-module _ {R E : Type 0} (sought : Sought) (style : Style) where
+module _ {R E : Type 0} (sought : Sought) (form : Form) where
   -- two lists are clean if both are
   pub all_seam : (xs ys : List (Item R E)) → list_all is_clean (xs ++ ys) ≡ (list_all is_clean xs && list_all is_clean ys)
   all_seam [] ys = refl
   all_seam (x ∷ xs) ys = ap (λ b. is_clean x && b) (all_seam xs ys) ∙ sym (and_and (is_clean x) (list_all is_clean xs) (list_all is_clean ys))
 
   -- no answers
-  pub clean_none : (old : Option (List ℕ)) → PrintsClean {R = R} {E = E} [] sought style old old
+  pub clean_none : (old : Option (List ℕ)) → PrintsClean {R = R} {E = E} [] sought form old old
   clean_none old = record { lines = appends_none old; clean = refl }
 
   -- answers after others
-  pub clean_then : (xs ys : List (Item R E)) (a b c : Option (List ℕ)) → PrintsClean xs sought style a b → PrintsClean ys sought style b c → PrintsClean (xs ++ ys) sought style a c
+  pub clean_then : (xs ys : List (Item R E)) (a b c : Option (List ℕ)) → PrintsClean xs sought form a b → PrintsClean ys sought form b c → PrintsClean (xs ++ ys) sought form a c
   clean_then xs ys a b c first second = record {
-    lines = rw (flat_map-append (found_line sought style) xs ys) (appends_then a b c (found_lines sought style xs) (found_lines sought style ys) first.lines second.lines);
+    lines = rw (flat_map-append (found_line sought form) xs ys) (appends_then a b c (found_lines sought form xs) (found_lines sought form ys) first.lines second.lines);
     clean = all_seam xs ys ∙ ap₂ (λ p q. p && q) first.clean second.clean;
   }
 
 -- the same answers
-pub printed_as : {R E : Type 0} {xs ys : List (Item R E)} {sought : Sought} {style : Style} {old new : Option (List ℕ)} → xs ≡ ys → PrintsClean xs sought style old new → PrintsClean ys sought style old new
-printed_as {xs} {ys} {sought} {style} {old} {new} is printed = record {
-  lines = subst (λ l. Appends old new (found_lines sought style l)) is printed.lines;
+pub printed_as : {R E : Type 0} {xs ys : List (Item R E)} {sought : Sought} {form : Form} {old new : Option (List ℕ)} → xs ≡ ys → PrintsClean xs sought form old new → PrintsClean ys sought form old new
+printed_as {xs} {ys} {sought} {form} {old} {new} is printed = record {
+  lines = subst (λ l. Appends old new (found_lines sought form l)) is printed.lines;
   clean = ap (list_all is_clean) (sym is) ∙ printed.clean;
 }

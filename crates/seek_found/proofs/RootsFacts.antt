@@ -10,7 +10,7 @@ use Rattle.jwalk_job.specs.declared.error.Error.{Error}
 use Rattle.jwalk_job.specs.Entry.{item}
 use Rattle.jwalk_job.specs.Given.{Given, counted_item, counted_list}
 use Rattle.seek_words.specs.Sought.{Sought}
-use Rattle.seek_words.specs.declared.paths.Style.{Style}
+use Rattle.seek_words.specs.Lines.{Form}
 use Rattle.seek_found.specs.Found.{found_line, found_lines, is_clean}
 use Rattle.seek_found.specs.Limit.{left_after, up_to}
 use Rattle.seek_found.specs.Roots.{AreBelow, Below, PrintsSuch}
@@ -19,9 +19,9 @@ use Rattle.seek_found.proofs.FoundFacts.{appends_none, appends_then}
 use Rattle.seek_found.proofs.LimitFacts.{left_as_before, left_then, up_to_more, up_to_none}
 use Rattle.seek_found.proofs.WholeFacts.{all_clean, same_after, same_lines, same_up_to}
 
-module _ {sought : Sought} {style : Style} {left left' : Option ℕ} {old new : Option (List ℕ)} {clean : Bool} where
+module _ {sought : Sought} {form : Form} {left left' : Option ℕ} {old new : Option (List ℕ)} {clean : Bool} where
   -- answers with further facts
-  pub printed_such : {are be : List (Item Worth Worth) → Type 0} → ((xs : List (Item Worth Worth)) → are xs → be xs) → PrintsSuch are sought style left left' old new clean → PrintsSuch be sought style left left' old new clean
+  pub printed_such : {are be : List (Item Worth Worth) → Type 0} → ((xs : List (Item Worth Worth)) → are xs → be xs) → PrintsSuch are sought form left left' old new clean → PrintsSuch be sought form left left' old new clean
   printed_such more printed = record {
     answers = printed.answers;
     such = more printed.answers printed.such;
@@ -32,32 +32,32 @@ module _ {sought : Sought} {style : Style} {left left' : Option ℕ} {old new : 
   }
 
   -- the same, with other facts of what is looked for
-  pub such_printed_by : {are : List (Item Worth Worth) → Type 0} {sought' : Sought} {style' : Style} {left'' : Option ℕ} → sought ≡ sought' → style ≡ style' → left ≡ left'' → PrintsSuch are sought style left left' old new clean → PrintsSuch are sought' style' left'' left' old new clean
-  such_printed_by {are} {sought'} {style'} sought_is style_is left_is printed =
-      subst (λ (l : Option ℕ). PrintsSuch are sought' style' l left' old new clean) left_is
-      (subst (λ (s : Style). PrintsSuch are sought' s left left' old new clean) style_is (subst (λ (s : Sought). PrintsSuch are s style left left' old new clean) sought_is printed))
+  pub such_printed_by : {are : List (Item Worth Worth) → Type 0} {sought' : Sought} {form' : Form} {left'' : Option ℕ} → sought ≡ sought' → form ≡ form' → left ≡ left'' → PrintsSuch are sought form left left' old new clean → PrintsSuch are sought' form' left'' left' old new clean
+  such_printed_by {are} {sought'} {form'} sought_is form_is left_is printed =
+      subst (λ (l : Option ℕ). PrintsSuch are sought' form' l left' old new clean) left_is
+      (subst (λ (s : Form). PrintsSuch are sought' s left left' old new clean) form_is (subst (λ (s : Sought). PrintsSuch are s form left left' old new clean) sought_is printed))
 
 -- the text that is printed for answers is printed for what they count as
-pub counted_printed : {C A R E : Type 0} (given : Given R E) (are : List (Item Worth Worth) → Type 0) (sought : Sought) (style : Style) (left left' : Option ℕ) (old new : Option (List ℕ)) (clean : Bool) (xs : List (Result (DirEntry C A R E) (Error A)))
-    → are (counted_list given xs) → up_to sought left (map item xs) ≡ map item xs → left' ≡ left_after sought left (map item xs) → Appends old new (found_lines sought style (map item xs)) → clean ≡ list_all is_clean (map item xs) → PrintsSuch are sought style left left' old new clean
-counted_printed given are sought style left left' old new clean xs such within limit lines all = record {
+pub counted_printed : {C A R E : Type 0} (given : Given R E) (are : List (Item Worth Worth) → Type 0) (sought : Sought) (form : Form) (left left' : Option ℕ) (old new : Option (List ℕ)) (clean : Bool) (xs : List (Result (DirEntry C A R E) (Error A)))
+    → are (counted_list given xs) → up_to sought left (map item xs) ≡ map item xs → left' ≡ left_after sought left (map item xs) → Appends old new (found_lines sought form (map item xs)) → clean ≡ list_all is_clean (map item xs) → PrintsSuch are sought form left left' old new clean
+counted_printed given are sought form left left' old new clean xs such within limit lines all = record {
   answers = counted_list given xs;
   such = such;
   within = same_up_to given sought left (map item xs) ∙ ap (map (counted_item given)) within;
   limit = limit ∙ sym (same_after given sought left (map item xs));
-  lines = subst (λ l. Appends old new l) (sym (same_lines given sought style (map item xs))) lines;
+  lines = subst (λ l. Appends old new l) (sym (same_lines given sought form (map item xs))) lines;
   all = all ∙ sym (all_clean given (map item xs));
 }
 
 -- gathered lines that are written at the end
-pub such_written_last : {are : List (Item Worth Worth) → Type 0} {sought : Sought} {style : Style} {left left' : Option ℕ} {clean : Bool} (old mid new : Option (List ℕ)) (none last : List ℕ) → none ≡ []
-    → PrintsSuch are sought style left left' (append_known old none) (append_known mid last) clean → Appends mid new last → PrintsSuch are sought style left left' old new clean
-such_written_last {sought} {style} old mid new none last empty printed rest = record {
+pub such_written_last : {are : List (Item Worth Worth) → Type 0} {sought : Sought} {form : Form} {left left' : Option ℕ} {clean : Bool} (old mid new : Option (List ℕ)) (none last : List ℕ) → none ≡ []
+    → PrintsSuch are sought form left left' (append_known old none) (append_known mid last) clean → Appends mid new last → PrintsSuch are sought form left left' old new clean
+such_written_last {sought} {form} old mid new none last empty printed rest = record {
   answers = printed.answers;
   such = printed.such;
   within = printed.within;
   limit = printed.limit;
-  lines = first_written old new none (found_lines sought style printed.answers) empty (rest_written (append_known old none) mid new last (found_lines sought style printed.answers) printed.lines rest);
+  lines = first_written old new none (found_lines sought form printed.answers) empty (rest_written (append_known old none) mid new last (found_lines sought form printed.answers) printed.lines rest);
   all = printed.all;
 }
 
@@ -88,8 +88,8 @@ module _ (below : Below) (may_stop : Type 0) where
   one_root root xs (inr (stops, own)) = inr (stops, inr own)
 
   -- nothing is printed for no roots
-  pub no_roots_printed : (sought : Sought) (style : Style) (left : Option ℕ) (old : Option (List ℕ)) → PrintsSuch (AreBelow below may_stop []) sought style left left old old true
-  no_roots_printed sought style left old = record {
+  pub no_roots_printed : (sought : Sought) (form : Form) (left : Option ℕ) (old : Option (List ℕ)) → PrintsSuch (AreBelow below may_stop []) sought form left left old old true
+  no_roots_printed sought form left old = record {
     answers = [];
     such = refl;
     within = up_to_none sought left;
@@ -99,23 +99,23 @@ module _ (below : Below) (may_stop : Type 0) where
   }
 
   -- the text that is printed for roots, if the search stops there
-  pub roots_stopped : {sought : Sought} {style : Style} {left left' : Option ℕ} {old new : Option (List ℕ)} {clean : Bool} (roots others : List (List ℕ)) → may_stop
-      → PrintsSuch (AreBelow below may_stop roots) sought style left left' old new clean → PrintsSuch (AreBelow below may_stop (roots ++ others)) sought style left left' old new clean
+  pub roots_stopped : {sought : Sought} {form : Form} {left left' : Option ℕ} {old new : Option (List ℕ)} {clean : Bool} (roots others : List (List ℕ)) → may_stop
+      → PrintsSuch (AreBelow below may_stop roots) sought form left left' old new clean → PrintsSuch (AreBelow below may_stop (roots ++ others)) sought form left left' old new clean
   roots_stopped roots others stops printed = printed_such (λ xs. stopped roots others xs stops) printed
 
   -- the text that is printed for roots, and then for other roots
-  pub roots_printed : {stops : Type 0} {sought sought' : Sought} {style style' : Style} (roots others : List (List ℕ)) (left mid left' : Option ℕ) (a b c : Option (List ℕ)) (clean more : Bool) → ¬ stops → sought' ≡ sought → style' ≡ style
-      → PrintsSuch (AreBelow below stops roots) sought style left mid a b clean → PrintsSuch (AreBelow below may_stop others) sought' style' mid left' b c more → PrintsSuch (AreBelow below may_stop (roots ++ others)) sought style left left' a c (clean && more)
-  roots_printed {stops} {sought} {style} roots others left mid left' a b c clean more on sought_is style_is before after =
-      let rest = such_printed_by sought_is style_is refl after in
+  pub roots_printed : {stops : Type 0} {sought sought' : Sought} {form form' : Form} (roots others : List (List ℕ)) (left mid left' : Option ℕ) (a b c : Option (List ℕ)) (clean more : Bool) → ¬ stops → sought' ≡ sought → form' ≡ form
+      → PrintsSuch (AreBelow below stops roots) sought form left mid a b clean → PrintsSuch (AreBelow below may_stop others) sought' form' mid left' b c more → PrintsSuch (AreBelow below may_stop (roots ++ others)) sought form left left' a c (clean && more)
+  roots_printed {stops} {sought} {form} roots others left mid left' a b c clean more on sought_is form_is before after =
+      let rest = such_printed_by sought_is form_is refl after in
       let seam = ap (λ l. up_to sought l rest.answers) (sym before.limit) in
       record {
         answers = before.answers ++ rest.answers;
         such = more_roots roots others before.answers rest.answers (all_there below stops roots before.answers on before.such) rest.such;
         within = up_to_more sought left before.answers rest.answers before.within ∙ ap (λ l. before.answers ++ l) (seam ∙ rest.within);
         limit = rest.limit ∙ ap (λ l. left_after sought l rest.answers) before.limit ∙ sym (left_then sought left before.answers rest.answers);
-        lines = rw (flat_map-append (found_line sought style) before.answers rest.answers) (appends_then a b c (found_lines sought style before.answers) (found_lines sought style rest.answers) before.lines rest.lines);
-        all = ap₂ (λ p q. p && q) before.all rest.all ∙ sym (all_seam sought style before.answers rest.answers);
+        lines = rw (flat_map-append (found_line sought form) before.answers rest.answers) (appends_then a b c (found_lines sought form before.answers) (found_lines sought form rest.answers) before.lines rest.lines);
+        all = ap₂ (λ p q. p && q) before.all rest.all ∙ sym (all_seam sought form before.answers rest.answers);
       }
 
 -- a search that may stop may also stop for a weaker cause

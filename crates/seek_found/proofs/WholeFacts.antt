@@ -10,21 +10,21 @@ use Rattle.jwalk_job.specs.declared.error.Error.{Error}
 use Rattle.jwalk_job.specs.Entry.{item}
 use Rattle.jwalk_job.specs.Given.{Given, counted_item}
 use Rattle.seek_words.specs.Sought.{Sought}
-use Rattle.seek_words.specs.declared.paths.Style.{Style}
+use Rattle.seek_words.specs.Lines.{Form}
 use Rattle.seek_found.specs.Limit.{is_hit, first_of, left_after, left_of, up_to}
 use Rattle.seek_found.specs.Found.{found_line, found_lines, is_clean, PrintsClean}
 
 module _ {R E : Type 0} (given : Given R E) where
-  same_line : (sought : Sought) (style : Style) (x : Item R E) → found_line sought style (counted_item given x) ≡ found_line sought style x
-  same_line sought style (Ok e) = refl
-  same_line sought style (Err f) = refl
+  same_line : (sought : Sought) (form : Form) (x : Item R E) → found_line sought form (counted_item given x) ≡ found_line sought form x
+  same_line sought form (Ok e) = refl
+  same_line sought form (Err f) = refl
 
   -- nor do lines
-  pub same_lines : (sought : Sought) (style : Style) (xs : List (Item R E)) → found_lines sought style (map (counted_item given) xs) ≡ found_lines sought style xs
-  same_lines sought style [] = refl
-  same_lines sought style (x ∷ xs) =
-      ap (λ l. l ++ found_lines sought style (map (counted_item given) xs)) (same_line sought style x)
-      ∙ ap (λ l. found_line sought style x ++ l) (same_lines sought style xs)
+  pub same_lines : (sought : Sought) (form : Form) (xs : List (Item R E)) → found_lines sought form (map (counted_item given) xs) ≡ found_lines sought form xs
+  same_lines sought form [] = refl
+  same_lines sought form (x ∷ xs) =
+      ap (λ l. l ++ found_lines sought form (map (counted_item given) xs)) (same_line sought form x)
+      ∙ ap (λ l. found_line sought form x ++ l) (same_lines sought form xs)
 
   same_hit : (sought : Sought) (x : Item R E) → is_hit sought (counted_item given x) ≡ is_hit sought x
   same_hit sought (Ok e) = refl
@@ -65,11 +65,11 @@ module _ {R E : Type 0} (given : Given R E) where
       ap (λ b. b && list_all is_clean (map (counted_item given) xs)) (same_clean x) ∙ ap (λ b. is_clean x && b) (all_clean xs)
 
   -- the text that is printed for answers is printed for the whole walk that they count as
-  pub printed_whole : (sought : Sought) (style : Style) (old new : Option (List ℕ)) (clean : Bool) (xs : List (Item R E)) (whole : List (Item Worth Worth))
-      → clean ≡ true → clean ≡ list_all is_clean xs → Appends old new (found_lines sought style xs) → map (counted_item given) xs ≡ whole
-      → PrintsClean whole sought style old new
-  printed_whole sought style old new clean xs whole is all lines told = record {
-    lines = subst (λ l. Appends old new l) (sym (same_lines sought style xs) ∙ ap (found_lines sought style) told) lines;
+  pub printed_whole : (sought : Sought) (form : Form) (old new : Option (List ℕ)) (clean : Bool) (xs : List (Item R E)) (whole : List (Item Worth Worth))
+      → clean ≡ true → clean ≡ list_all is_clean xs → Appends old new (found_lines sought form xs) → map (counted_item given) xs ≡ whole
+      → PrintsClean whole sought form old new
+  printed_whole sought form old new clean xs whole is all lines told = record {
+    lines = subst (λ l. Appends old new l) (sym (same_lines sought form xs) ∙ ap (found_lines sought form) told) lines;
     clean = ap (list_all is_clean) (sym told) ∙ all_clean xs ∙ sym all ∙ is;
   }
 

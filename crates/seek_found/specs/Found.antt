@@ -7,25 +7,25 @@ use Rattle.jwalk_job.specs.declared.dir_entry.DirEntry.{DirEntry}
 use Rattle.jwalk_job.specs.declared.error.Error.{Error}
 use Rattle.jwalk_job.specs.Entry.{item}
 use Rattle.jwalk_model.specs.Entry.{Entry, Item}
-use Rattle.seek_words.specs.Paths.{line_of}
+use Rattle.seek_words.specs.Lines.{form_line}
 use Rattle.seek_words.specs.Sought.{Sought, is_found}
-use Rattle.seek_words.specs.declared.paths.Style.{Style}
+use Rattle.seek_words.specs.Lines.{Form}
 use Rattle.seek_found.specs.Limit.{left_after, up_to}
 
 module _ {R E : Type 0} where
   -- the line of an entry, if it is looked for
-  abbrev pub entry_line : Sought → Style → Entry R E → List ℕ
-  entry_line sought style e =
-      if is_found sought e.depth e.file_type e.parent_path e.file_name e.seen then line_of style e.parent_path e.file_name else []
+  abbrev pub entry_line : Sought → Form → Entry R E → List ℕ
+  entry_line sought form e =
+      if is_found sought e.depth e.file_type e.parent_path e.file_name e.seen then form_line form e.parent_path e.file_name else []
 
   -- the text that is printed for an answer
-  abbrev pub found_line : Sought → Style → Item R E → List ℕ
-  found_line sought style (Ok e) = entry_line sought style e
-  found_line sought style (Err f) = []
+  abbrev pub found_line : Sought → Form → Item R E → List ℕ
+  found_line sought form (Ok e) = entry_line sought form e
+  found_line sought form (Err f) = []
 
   -- the text that is printed for answers, one after another
-  abbrev pub found_lines : Sought → Style → List (Item R E) → List ℕ
-  found_lines sought style = flat_map (found_line sought style)
+  abbrev pub found_lines : Sought → Form → List (Item R E) → List ℕ
+  found_lines sought form = flat_map (found_line sought form)
 
   -- whether an entry is a root that is neither a directory nor a link to one
   abbrev pub is_flat_root : Entry R E → Bool
@@ -37,18 +37,18 @@ module _ {R E : Type 0} where
   is_clean (Err f) = false
 
 -- The line of each of these answers that is looked for is printed, and all answers are clean.
-pub record PrintsClean {R E : Type 0} (answers : List (Item R E)) (sought : Sought) (style : Style) (old new : Option (List ℕ)) : Type 0 where
-  pub lines : Appends old new (found_lines sought style answers)
+pub record PrintsClean {R E : Type 0} (answers : List (Item R E)) (sought : Sought) (form : Form) (old new : Option (List ℕ)) : Type 0 where
+  pub lines : Appends old new (found_lines sought form answers)
   pub clean : list_all is_clean answers ≡ true
 
 module _ {S C A R E : Type 0} (steps : S → Option (Result (DirEntry C A R E) (Error A)) → S → Type 0) (answers : S) where
   -- The iterator was called until it ended or the limit was reached. The line of each answer that is looked for was
   -- printed, and the result says whether all answers are clean. `left` is how many more may be found before, and
   -- `left'` after it.
-  pub record PrintsFound (sought : Sought) (style : Style) (left left' : Option ℕ) (old new : Option (List ℕ)) (clean : Bool) : Type 0 where
+  pub record PrintsFound (sought : Sought) (form : Form) (left left' : Option ℕ) (old new : Option (List ℕ)) (clean : Bool) : Type 0 where
     pub answered : List (Result (DirEntry C A R E) (Error A))
     pub calls : Drains steps answers answered ⊎ ((left' ≡ Some 0) × ((end : S) × Yields steps answers answered end))
     pub within : up_to sought left (map item answered) ≡ map item answered
     pub limit : left' ≡ left_after sought left (map item answered)
-    pub lines : Appends old new (found_lines sought style (map item answered))
+    pub lines : Appends old new (found_lines sought form (map item answered))
     pub all : clean ≡ list_all is_clean (map item answered)

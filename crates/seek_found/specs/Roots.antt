@@ -5,7 +5,7 @@ use Rattle.std.specs.Io.KnownBytes.{Appends}
 use Rattle.jwalk_model.specs.Counted.{Worth}
 use Rattle.jwalk_model.specs.Entry.{Item}
 use Rattle.seek_words.specs.Sought.{Sought}
-use Rattle.seek_words.specs.declared.paths.Style.{Style}
+use Rattle.seek_words.specs.Lines.{Form}
 use Rattle.seek_found.specs.Found.{found_lines, is_clean}
 use Rattle.seek_found.specs.Limit.{left_after, up_to}
 
@@ -23,10 +23,10 @@ AreBelow below may_stop (root ∷ roots) answers =
 
 -- The line of each answer that is looked for was printed, and the result says whether all answers are clean. `are` says
 -- which answers are possible. `left` is how many more may be found before, and `left'` after it.
-pub record PrintsSuch (are : List (Item Worth Worth) → Type 0) (sought : Sought) (style : Style) (left left' : Option ℕ) (old new : Option (List ℕ)) (clean : Bool) : Type 0 where
+pub record PrintsSuch (are : List (Item Worth Worth) → Type 0) (sought : Sought) (form : Form) (left left' : Option ℕ) (old new : Option (List ℕ)) (clean : Bool) : Type 0 where
   pub answers : List (Item Worth Worth)
   pub such : are answers
   pub within : up_to sought left answers ≡ answers
   pub limit : left' ≡ left_after sought left answers
-  pub lines : Appends old new (found_lines sought style answers)
+  pub lines : Appends old new (found_lines sought form answers)
   pub all : clean ≡ list_all is_clean answers

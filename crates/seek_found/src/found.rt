@@ -3,7 +3,7 @@ ghost use Rattle.std.specs.Prelude.{◌≡◌, IfOk};
 ghost use Rattle.std.specs.Iterator.{IsFinite};
 ghost use Rattle.std.specs.Io.KnownBytes.{append_known};
 ghost use Rattle.seek_words.specs.Filter.{sought_of};
-ghost use Rattle.seek_words.specs.Lines.{style_of, gathered_of};
+ghost use Rattle.seek_words.specs.Lines.{form_of, gathered_of};
 ghost use Rattle.seek_found.specs.Found.{PrintsFound};
 
 use crate::printer::Printer;
@@ -16,12 +16,8 @@ use std::alloc::Allocator;
 use std::io::Write;
 use std::time::Clock;
 
-<<<<<<< HEAD
-/// Prints what passes of a walk's answers, up to the limit, and reports the errors. Returns whether there was none. Lines
-/// that are gathered are written at the first answer that comes 100 milliseconds after the oldest of them.
-=======
 /// Prints those of a walk's answers that pass, up to the limit, and reports the errors. Returns whether there was none.
->>>>>>> 3900bb4135bcdc9a2bc1de8334609b72e534a924
+/// Gathered lines are written at the first answer that comes 100 milliseconds after the oldest of them.
 ///
 /// # Errors
 ///
@@ -44,11 +40,11 @@ pub fn print_found<
     requires can { I.can_next answers.old }
     requires ends { IsFinite (I.remaining answers.old) }
     ensures printed { IfOk result (PrintsFound I.next_gives answers.old (sought_of T.takes printer.old.filter)
-        (style_of printer.old.lines) printer.old.left printer.new.left
+        (form_of printer.old.lines) printer.old.left printer.new.left
         (append_known (W.contents out.old) (gathered_of printer.old.lines))
         (append_known (W.contents out.new) (gathered_of printer.new.lines))) }
     ensures sought { sought_of T.takes printer.new.filter ≡ sought_of T.takes printer.old.filter }
-    ensures style { style_of printer.new.lines ≡ style_of printer.old.lines }
+    ensures form { form_of printer.new.lines ≡ form_of printer.old.lines }
 {
     let mut clean = true;
     while !printer.is_full() {

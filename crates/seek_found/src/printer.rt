@@ -3,7 +3,7 @@ ghost use Rattle.std.specs.Prelude.{◌≡◌, ◌≢◌, ◌∷◌, [], Ok, Som
 ghost use Rattle.std.specs.Io.KnownBytes.{Appends, append_known};
 ghost use Rattle.jwalk_job.specs.Entry.{entry, item};
 ghost use Rattle.seek_words.specs.Filter.{sought_of};
-ghost use Rattle.seek_words.specs.Lines.{style_of, gathered_of};
+ghost use Rattle.seek_words.specs.Lines.{form_of, gathered_of};
 ghost use Rattle.seek_found.specs.Found.{entry_line, found_line, is_clean};
 ghost use Rattle.seek_found.specs.Limit.{is_hit, left_after, one_less};
 
@@ -48,9 +48,9 @@ fn print_entry<T: NameTest, C: ClientState, A: Allocator + Copy, W: Write>(
     ensures hit { IfOk result (λ passes. passes ≡ is_hit (sought_of T.takes filter.old) (Ok (entry found.now))) }
     ensures printed { OnOk result (Appends (append_known (W.contents out.old) (gathered_of lines.old))
         (append_known (W.contents out.new) (gathered_of lines.new))
-        (entry_line (sought_of T.takes filter.old) (style_of lines.old) (entry found.now))) }
+        (entry_line (sought_of T.takes filter.old) (form_of lines.old) (entry found.now))) }
     ensures sought { sought_of T.takes filter.new ≡ sought_of T.takes filter.old }
-    ensures style { style_of lines.new ≡ style_of lines.old }
+    ensures form { form_of lines.new ≡ form_of lines.old }
 {
     let (folder, name) = (found.parent_path(), found.file_name());
     let seen = found.metadata_seen();
@@ -85,11 +85,11 @@ impl<'w, T: NameTest> Printer<'w, T> {
         ensures clean { IfOk result (λ clean. clean ≡ is_clean (item answer)) }
         ensures printed { OnOk result (Appends (append_known (W.contents out.old) (gathered_of self.old.lines))
             (append_known (W.contents out.new) (gathered_of self.new.lines))
-            (found_line (sought_of T.takes self.old.filter) (style_of self.old.lines) (item answer))) }
+            (found_line (sought_of T.takes self.old.filter) (form_of self.old.lines) (item answer))) }
         ensures left { OnOk result (self.new.left
             ≡ left_after (sought_of T.takes self.old.filter) self.old.left (item answer ∷ [])) }
         ensures sought { sought_of T.takes self.new.filter ≡ sought_of T.takes self.old.filter }
-        ensures style { style_of self.new.lines ≡ style_of self.old.lines }
+        ensures form { form_of self.new.lines ≡ form_of self.old.lines }
     {
         match &answer {
             Ok(found) => {

@@ -8,7 +8,7 @@ use Rattle.std.proofs.lemmas.List.{map-append}
 use Rattle.jwalk.specs.jwalk_model.Entry.{Item}
 use Rattle.seek_words.specs.Sought.{Sought}
 use Rattle.seek_words.specs.Wanted.{Wants}
-use Rattle.seek_words.specs.declared.paths.Style.{Style}
+use Rattle.seek_words.specs.Lines.{Form}
 use Rattle.seek_found.specs.Found.{found_lines, PrintsClean}
 use Rattle.seek_found.specs.Limit.{left_after}
 use Rattle.seek_found.specs.Roots.{AreBelow, Below, PrintsSuch}
@@ -26,25 +26,25 @@ sought_by {w} {w'} {t} {t'} {f} {f'} wanted takes front =
     ∙ ap₂ (λ (x : List ℕ → Bool → Bool) (y : Option (List ℕ)). let it : Sought = record { wanted = w'; takes = x; front = y } in it) takes front
 
 -- the text is printed by the same, with other facts of it
-pub printed_by : {R E : Type 0} {xs : List (Item R E)} {sought sought' : Sought} {style style' : Style} {old new : Option (List ℕ)} → sought ≡ sought' → style ≡ style' → PrintsClean xs sought style old new → PrintsClean xs sought' style' old new
-printed_by {xs} {sought} {sought'} {style} {style'} {old} {new} sought_is style_is printed =
-    subst (λ (s : Style). PrintsClean xs sought' s old new) style_is (subst (λ (s : Sought). PrintsClean xs s style old new) sought_is printed)
+pub printed_by : {R E : Type 0} {xs : List (Item R E)} {sought sought' : Sought} {form form' : Form} {old new : Option (List ℕ)} → sought ≡ sought' → form ≡ form' → PrintsClean xs sought form old new → PrintsClean xs sought' form' old new
+printed_by {xs} {sought} {sought'} {form} {form'} {old} {new} sought_is form_is printed =
+    subst (λ (s : Form). PrintsClean xs sought' s old new) form_is (subst (λ (s : Sought). PrintsClean xs s form old new) sought_is printed)
 
 -- gathered lines that are written at the end
-pub written_last : {R E : Type 0} {xs : List (Item R E)} {sought : Sought} {style : Style} (old mid new : Option (List ℕ)) (none last : List ℕ) → none ≡ []
-    → PrintsClean xs sought style (append_known old none) (append_known mid last) → Appends mid new last → PrintsClean xs sought style old new
-written_last {xs} {sought} {style} old mid new none last empty printed rest = record {
-  lines = first_written old new none (found_lines sought style xs) empty (rest_written (append_known old none) mid new last (found_lines sought style xs) printed.lines rest);
+pub written_last : {R E : Type 0} {xs : List (Item R E)} {sought : Sought} {form : Form} (old mid new : Option (List ℕ)) (none last : List ℕ) → none ≡ []
+    → PrintsClean xs sought form (append_known old none) (append_known mid last) → Appends mid new last → PrintsClean xs sought form old new
+written_last {xs} {sought} {form} old mid new none last empty printed rest = record {
+  lines = first_written old new none (found_lines sought form xs) empty (rest_written (append_known old none) mid new last (found_lines sought form xs) printed.lines rest);
   clean = printed.clean;
 }
 
 -- the text that is printed for roots, and then for other roots
 pub others_printed : {R E : Type 0} (f : List ℕ → List (Item R E)) (all first rest : List (Bor (List ℕ))) → all ≡ first ++ rest
-    → {sought sought' : Sought} {style style' : Style} {old mid new : Option (List ℕ)} → sought' ≡ sought → style' ≡ style
-    → PrintsClean (flat_map f (texts_of first)) sought style old mid → PrintsClean (flat_map f (texts_of rest)) sought' style' mid new → PrintsClean (flat_map f (texts_of all)) sought style old new
-others_printed f all first rest are {sought} {sought'} {style} {style'} {old} {mid} {new} sought_is style_is before more =
+    → {sought sought' : Sought} {form form' : Form} {old mid new : Option (List ℕ)} → sought' ≡ sought → form' ≡ form
+    → PrintsClean (flat_map f (texts_of first)) sought form old mid → PrintsClean (flat_map f (texts_of rest)) sought' form' mid new → PrintsClean (flat_map f (texts_of all)) sought form old new
+others_printed f all first rest are {sought} {sought'} {form} {form'} {old} {mid} {new} sought_is form_is before more =
     printed_as (sym (ap (λ l. flat_map f (texts_of l)) are ∙ ap (flat_map f) (map-append (λ it. it.now) first rest) ∙ flat_map-append f (texts_of first) (texts_of rest)))
-    (clean_then sought style (flat_map f (texts_of first)) (flat_map f (texts_of rest)) old mid new before (printed_by sought_is style_is more))
+    (clean_then sought form (flat_map f (texts_of first)) (flat_map f (texts_of rest)) old mid new before (printed_by sought_is form_is more))
 
 -- the texts of roots and then of others
 pub texts_then : (all first rest : List (Bor (List ℕ))) → all ≡ first ++ rest → texts_of first ++ texts_of rest ≡ texts_of all
@@ -72,16 +72,16 @@ no_element (x ∷ l) few = absurd (omega (arith, few))
 
 -- the text that is printed for one root
 pub one_printed : {R E : Type 0} (f : List ℕ → List (Item R E)) (all : List (Bor (List ℕ))) (root : Bor (List ℕ)) → all ≡ root ∷ []
-    → {sought : Sought} {style : Style} {old new : Option (List ℕ)} → PrintsClean (f root.now) sought style old new → PrintsClean (flat_map f (texts_of all)) sought style old new
+    → {sought : Sought} {form : Form} {old new : Option (List ℕ)} → PrintsClean (f root.now) sought form old new → PrintsClean (flat_map f (texts_of all)) sought form old new
 one_printed f all root is printed = printed_as (sym (ap (λ l. flat_map f (texts_of l)) is ∙ append-nil (f root.now))) printed
 
 -- and of none
-pub none_printed : {R E : Type 0} (f : List ℕ → List (Item R E)) (all : List (Bor (List ℕ))) → length all < 1 → (sought : Sought) (style : Style) (old : Option (List ℕ)) → PrintsClean (flat_map f (texts_of all)) sought style old old
-none_printed f all few sought style old = printed_as (sym (ap (λ l. flat_map f (texts_of l)) (no_element all few))) (clean_none sought style old)
+pub none_printed : {R E : Type 0} (f : List ℕ → List (Item R E)) (all : List (Bor (List ℕ))) → length all < 1 → (sought : Sought) (form : Form) (old : Option (List ℕ)) → PrintsClean (flat_map f (texts_of all)) sought form old old
+none_printed f all few sought form old = printed_as (sym (ap (λ l. flat_map f (texts_of l)) (no_element all few))) (clean_none sought form old)
 
-pub none_yielded : (below : Below) (may_stop : Type 0) (roots : List (Bor (List ℕ))) → length roots < 1 → (sought : Sought) (style : Style) (left : Option ℕ) (old : Option (List ℕ)) → PrintsSuch (AreBelow below may_stop (texts_of roots)) sought style left left old old true
-none_yielded below may_stop [] few sought style left old = no_roots_printed below may_stop sought style left old
-none_yielded below may_stop (root ∷ roots) few sought style left old = absurd (omega (arith, few))
+pub none_yielded : (below : Below) (may_stop : Type 0) (roots : List (Bor (List ℕ))) → length roots < 1 → (sought : Sought) (form : Form) (left : Option ℕ) (old : Option (List ℕ)) → PrintsSuch (AreBelow below may_stop (texts_of roots)) sought form left left old old true
+none_yielded below may_stop [] few sought form left old = no_roots_printed below may_stop sought form left old
+none_yielded below may_stop (root ∷ roots) few sought form left old = absurd (omega (arith, few))
 
 -- without a limit, there is none after answers
 pub still_none : {R E : Type 0} (sought : Sought) (xs : List (Item R E)) {left left' : Option ℕ} → left ≡ None → left' ≡ left_after sought left xs → left' ≡ None

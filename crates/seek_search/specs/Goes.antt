@@ -23,7 +23,7 @@ use Rattle.seek_found.specs.Limit.{is_hit}
 use Rattle.seek_found.specs.Roots.{AreBelow, Below, PrintsSuch}
 use Rattle.seek_search.specs.Options.{with_crew}
 use Rattle.jwalk_ignore.specs.Callback.Excluding.{excluded_of}
-use Rattle.seek_search.specs.Search.{excluded_asked, limit_asked, options_asked, roots_asked, settings_asked, sought_before, style_asked}
+use Rattle.seek_search.specs.Search.{excluded_asked, form_before, limit_asked, options_asked, roots_asked, settings_asked, sought_before}
 use Rattle.jwalk_ignore.specs.declared.callback.excluding.Excluding.{Excluding}
 use Rattle.seek_search.specs.declared.kept_links.KeptLinks.{KeptLinks}
 use Rattle.jwalk_ignore.specs.declared.callback.kept_rules.KeptRules.{KeptRules}
@@ -77,12 +77,14 @@ module _ {T C Z B X A D Q E G H F : Type 0} (plain : CallsOf T G (Arc (KeptLinks
   AreYielded disk texts asked may_stop = AreBelow (YieldedBelow plain honouring (record { disk = disk; follow = asked.follow }) texts asked) may_stop (roots_asked asked)
 
   -- The line of each answer that is looked for was printed, up to the limit, and the result says whether all answers
-  -- are clean. The absolute path is tested if that is asked for.
+  -- are clean. The absolute path is tested, and printed, if that is asked for.
   pub record PrintsYielded (disk : Z) (texts : X) (on_terminal : Bool) (asked : Asked) (takes : List ℕ → Bool → Bool) (old new : Option (List ℕ)) (clean : Bool) : Type 0 where
     pub front : Option (List ℕ)
     pub in_front : is_some front ≡ asked.full_path
+    pub shown : Option (List ℕ)
+    pub is_shown : is_some shown ≡ asked.absolute
     pub left : Option ℕ
-    pub printed : PrintsSuch (AreYielded disk texts asked (left ≡ Some 0)) (sought_before front asked takes) (style_asked on_terminal asked) (limit_asked asked) left old new clean
+    pub printed : PrintsSuch (AreYielded disk texts asked (left ≡ Some 0)) (sought_before front asked takes) (form_before shown on_terminal asked) (limit_asked asked) left old new clean
 
   -- One of the answers is looked for. The search may stop there.
   pub record FindsOne (disk : Z) (texts : X) (asked : Asked) (takes : List ℕ → Bool → Bool) : Type 0 where

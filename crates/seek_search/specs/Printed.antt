@@ -13,7 +13,7 @@ use Rattle.jwalk.specs.jwalk_job.Job.{IsSteady}
 use Rattle.jwalk.specs.WalkDir.{callback_of, file_system_of, job_for, root_of, state_of}
 use Rattle.jwalk.specs.declared.walk_dir.WalkDirGeneric.{WalkDirGeneric}
 use Rattle.seek_words.specs.Filter.{sought_of}
-use Rattle.seek_words.specs.Lines.{gathered_of, style_of}
+use Rattle.seek_words.specs.Lines.{gathered_of, form_of}
 use Rattle.seek_found.specs.Found.{PrintsClean}
 use Rattle.seek_found.specs.Roots.{PrintsSuch}
 use Rattle.seek_found.specs.SoughtTest.{takes_of}
@@ -24,7 +24,7 @@ use Rattle.seek_found.specs.declared.sought_test.SoughtTest.{SoughtTest}
 -- gathered by it.
 abbrev pub PrintsAll : {R E : Type 0} → List (Item R E) → Printer SoughtTest → Printer SoughtTest → Option (List ℕ) → Option (List ℕ) → Bool → Type 0
 PrintsAll answers old new before after clean =
-    old.left ≡ None → clean ≡ true → PrintsClean answers (sought_of takes_of old.filter) (style_of old.lines)
+    old.left ≡ None → clean ≡ true → PrintsClean answers (sought_of takes_of old.filter) (form_of old.lines)
     (append_known before (gathered_of old.lines)) (append_known after (gathered_of new.lines))
 
 -- This holds of all that a walk yields, whatever its ghosts are.
@@ -38,5 +38,5 @@ PrintsWalk {R = R} {E = E} files process clone defaults walk old new before afte
 -- whether all answers are clean. `are` says which answers are possible: all, unless the limit was reached.
 abbrev pub PrintsThose : (Type 0 → List (Item Worth Worth) → Type 0) → Printer SoughtTest → Printer SoughtTest → Option (List ℕ) → Option (List ℕ) → Bool → Type 0
 PrintsThose are old new before after =
-    PrintsSuch (are (new.left ≡ Some 0)) (sought_of takes_of old.filter) (style_of old.lines) old.left new.left
+    PrintsSuch (are (new.left ≡ Some 0)) (sought_of takes_of old.filter) (form_of old.lines) old.left new.left
     (append_known before (gathered_of old.lines)) (append_known after (gathered_of new.lines))

@@ -12,7 +12,7 @@ use Rattle.seek_found.specs.declared.sought.Sought.{Sought}
 use Rattle.seek_found.specs.Times.{AreTimes}
 use Rattle.seek_search.specs.Goes.{CallsOf, FindsOne, PrintsYielded}
 use Rattle.seek_search.specs.KeptLinks.{functions_kept}
-use Rattle.seek_search.specs.Search.{limit_asked, sought_asked, style_asked, yielded_by}
+use Rattle.seek_search.specs.Search.{form_asked, limit_asked, sought_asked, yielded_by}
 use Rattle.jwalk_ignore.specs.declared.callback.excluding.Excluding.{Excluding}
 use Rattle.seek_search.specs.declared.kept_links.KeptLinks.{KeptLinks}
 use Rattle.jwalk_ignore.specs.declared.callback.kept_rules.KeptRules.{KeptRules}
@@ -21,7 +21,7 @@ use Rattle.jwalk_ignore.specs.declared.callback.kept_rules.KeptRules.{KeptRules}
 -- all answers of the walks, and none of these is an error. A link that leads nowhere isn't an error, but an entry.
 abbrev pub PrintsAsked : Functions → Texts → Bool → Asked → Sought → Option (List ℕ) → Option (List ℕ) → Type 0
 PrintsAsked fs texts on_terminal asked sought =
-    PrintsClean (yielded_by (functions_kept asked.follow fs) texts asked) (sought_asked texts asked (takes_by sought)) (style_asked on_terminal asked)
+    PrintsClean (yielded_by (functions_kept asked.follow fs) texts asked) (sought_asked texts asked (takes_by sought)) (form_asked texts on_terminal asked)
 
 module _ {T C Z B X A D Q E G H F : Type 0} (plain : CallsOf T G (Arc (KeptLinks Z) B) Excluding A H F) (honouring : CallsOf T C (Arc (KeptLinks Z) B) (KeptRules X) A (Chain D × Q) E) where
   -- The words ask for a search, the names that are looked for are those of the patterns, and the times that are asked

@@ -12,6 +12,7 @@ use Rattle.jwalk_ignore.specs.Callback.Kept.{ignoring_walk, job_with}
 use Rattle.jwalk_ignore.specs.Rules.Texts.{Texts}
 use Rattle.jwalk_ignore.specs.declared.callback.settings.Settings.{Settings}
 use Rattle.seek_words.specs.Sought.{Sought}
+use Rattle.seek_words.specs.Lines.{Form}
 use Rattle.seek_words.specs.declared.paths.Style.{Style}
 use Rattle.seek_search.specs.Options.{options_for}
 use Rattle.seek_search.specs.declared.options.WalkOptions.{WalkOptions}
@@ -82,9 +83,9 @@ abbrev pub front_at : Result (List ℕ) ErrorKind → List ℕ
 front_at (Ok here) = join here []
 front_at (Err kind) = join [] []
 
--- the text in front of a relative path, if absolute paths are tested
-abbrev pub front_asked : Texts → Asked → Option (List ℕ)
-front_asked texts asked = if asked.full_path then Some (front_at (texts.absolute_of [])) else None
+-- the text in front of a relative path, if there is to be one
+abbrev pub front_if : Bool → Texts → Option (List ℕ)
+front_if wanted texts = if wanted then Some (front_at (texts.absolute_of [])) else None
 
 -- what is looked for, by the texts that pass and the text in front of a relative path
 abbrev pub sought_before : Option (List ℕ) → Asked → (List ℕ → Bool → Bool) → Sought
@@ -96,4 +97,12 @@ sought_before front asked takes = record {
 
 -- the same over texts that always answer the same
 abbrev pub sought_asked : Texts → Asked → (List ℕ → Bool → Bool) → Sought
-sought_asked texts asked = sought_before (front_asked texts asked) asked
+sought_asked texts asked = sought_before (front_if asked.full_path texts) asked
+
+-- the form of printed paths, with this text in front of a relative one
+abbrev pub form_before : Option (List ℕ) → Bool → Asked → Form
+form_before front on_terminal asked = record { style = style_asked on_terminal asked; front = front }
+
+-- the same over texts that always answer the same
+abbrev pub form_asked : Texts → Bool → Asked → Form
+form_asked texts on_terminal asked = form_before (front_if asked.absolute texts) on_terminal asked

@@ -5,7 +5,7 @@ ghost use Rattle.std.specs.Option.{option_map};
 ghost use Rattle.seek_words.specs.Asks.{texts_of};
 ghost use Rattle.seek_words.specs.AsksFor.{AskForText};
 ghost use Rattle.seek_words.specs.Filter.{sought_of};
-ghost use Rattle.seek_words.specs.Lines.{style_of};
+ghost use Rattle.seek_words.specs.Lines.{form_of};
 ghost use Rattle.seek_words.specs.Subject.{front_of};
 ghost use Rattle.seek_found.specs.Call.{AskForSearch, Ends};
 ghost use Rattle.seek_found.specs.Roots.{AreBelow};
@@ -14,7 +14,7 @@ ghost use Rattle.seek_found.specs.SoughtTest.{takes_of};
 ghost use Rattle.seek_search.specs.Goes.{FindsOne, PrintsYielded, YieldedBelow};
 ghost use Rattle.seek_search.specs.Printed.{PrintsAll, PrintsThose};
 ghost use Rattle.seek_search.specs.Run.{PrintsAsked, Searches};
-ghost use Rattle.seek_search.specs.Search.{front_asked, limit_asked, roots_asked, style_asked, yielded_below, yielded_by};
+ghost use Rattle.seek_search.specs.Search.{front_if, limit_asked, roots_asked, style_asked, yielded_below, yielded_by};
 
 use crate::kept_links::KeptLinks;
 use crate::search::{HonouringWalk, PlainWalk, Search};
@@ -74,16 +74,16 @@ fn shared<V: Drop>(alloc: Global, value: V) -> Result<Arc<V>, AllocError>
     Ok(Arc::new(alloc, value)?)
 }
 
-/// Returns `None` unless absolute paths are tested.
+/// Returns the absolute path of an entry, if it is wanted.
 fn path_of<X: Texts>(
     alloc: Global,
-    asked: &Asked<'_>,
+    wanted: bool,
     texts: &X,
 ) -> Result<Option<AbsolutePath>, AllocError>
-    ensures asked { IfOk result (λ path. is_some path ≡ asked.now.full_path) }
-    ensures front { X.IsFixed texts.now → IfOk result (λ path. option_map front_of path ≡ front_asked (X.functions texts.now) asked.now) }
+    ensures wanted { IfOk result (λ path. is_some path ≡ wanted) }
+    ensures front { X.IsFixed texts.now → IfOk result (λ path. option_map front_of path ≡ front_if wanted (X.functions texts.now)) }
 {
-    if !asked.full_path {
+    if !wanted {
         return Ok(None);
     }
     match texts.absolute(alloc, "") {
@@ -140,7 +140,7 @@ fn search_each<
         (flat_map (yielded_below (S.functions (arc_value search.now.disk)) (X.functions (arc_value search.now.texts)) search.now.asked.now)
         (texts_of roots.now)) printer.old printer.new (W.contents out.old) (W.contents out.new) clean) }
     ensures sought { sought_of takes_of printer.new.filter ≡ sought_of takes_of printer.old.filter }
-    ensures style { style_of printer.new.lines ≡ style_of printer.old.lines }
+    ensures form { form_of printer.new.lines ≡ form_of printer.old.lines }
 {
     match roots {
         [] => Ok(true),
@@ -226,9 +226,10 @@ fn search_asked<
     let filter = Filter {
         wanted,
         test: SoughtTest::new(alloc, sought)?,
-        path: path_of(alloc, asked, &texts)?,
+        path: path_of(alloc, asked.full_path, &texts)?,
     };
-    let lines = Lines::new(alloc, style_of(on_terminal, asked))?;
+    let absolute = path_of(alloc, asked.absolute, &texts)?;
+    let lines = Lines::new(alloc, style_of(on_terminal, asked), absolute)?;
     let left = limit_of(asked);
     let mut printer = Printer {
         filter,

@@ -2,7 +2,7 @@
 ghost use Rattle.std.specs.Prelude.{◌≡◌, false, IfOk};
 ghost use Rattle.std.specs.Arc.{arc_value};
 ghost use Rattle.seek_words.specs.Filter.{sought_of};
-ghost use Rattle.seek_words.specs.Lines.{style_of};
+ghost use Rattle.seek_words.specs.Lines.{form_of};
 ghost use Rattle.jwalk.specs.jwalk_model.Options.{with_skip_hidden};
 ghost use Rattle.jwalk.specs.WalkDir.{callback_of, described, file_system_of, options_of, root_of, state_of, with_callback, Sets};
 ghost use Rattle.jwalk_ignore.specs.Callback.Given.{no_rules_yet, rules_alone};
@@ -72,7 +72,7 @@ where
     ensures yielded { IfOk result (PrintsThose (Yielded ⟦<CrewWalk<T, C, S, P> as Iterator>⟧.next_gives (λ it. it ≡ walk))
         printer.old printer.new (W.contents out.old) (W.contents out.new)) }
     ensures sought { sought_of takes_of printer.new.filter ≡ sought_of takes_of printer.old.filter }
-    ensures style { style_of printer.new.lines ≡ style_of printer.old.lines }
+    ensures form { form_of printer.new.lines ≡ form_of printer.old.lines }
 {
     let mut answers = walk.into_iter();
     print_found(&mut answers, printer, clock, out, err)
@@ -103,7 +103,7 @@ fn search_walk<
         (Sets (record (with_callback rules (described walk)) { options = with_skip_hidden false (options_of walk) })))
         printer.old printer.new (W.contents out.old) (W.contents out.new)) }
     ensures sought { sought_of takes_of printer.new.filter ≡ sought_of takes_of printer.old.filter }
-    ensures style { style_of printer.new.lines ≡ style_of printer.old.lines }
+    ensures form { form_of printer.new.lines ≡ form_of printer.old.lines }
 {
     print_begun(with_hidden_shown(walk, rules), printer, clock, out, err)
 }
@@ -124,12 +124,7 @@ impl<
     K: Clock,
     S: FileSystem + Send + Sync + 'static,
     X: Texts + Send + Sync + 'static,
-<<<<<<< HEAD
 > Search<'a, 'w, T, K, S, X> {
-    /// Returns what is asked of the walks.
-=======
-> Search<'a, 'w, T, S, X> {
->>>>>>> 3900bb4135bcdc9a2bc1de8334609b72e534a924
     fn options(&self) -> WalkOptions
         ensures { result ≡ walk_options self.now.asked.now }
     {
@@ -160,7 +155,7 @@ impl<
             (IsPlain (arc_value self.now.disk) self.now.asked.now root.now))
             printer.old printer.new (W.contents out.old) (W.contents out.new)) }
         ensures sought { sought_of takes_of printer.new.filter ≡ sought_of takes_of printer.old.filter }
-        ensures style { style_of printer.new.lines ≡ style_of printer.old.lines }
+        ensures form { form_of printer.new.lines ≡ form_of printer.old.lines }
     {
         let excluding = Excluding::new(alloc, self.asked.excludes.as_slice(), root)?;
         let root = String::from_str(alloc, root)?;
@@ -195,7 +190,7 @@ impl<
             (IsHonouring (arc_value self.now.disk) (arc_value self.now.texts) self.now.asked.now root.now))
             printer.old printer.new (W.contents out.old) (W.contents out.new)) }
         ensures sought { sought_of takes_of printer.new.filter ≡ sought_of takes_of printer.old.filter }
-        ensures style { style_of printer.new.lines ≡ style_of printer.old.lines }
+        ensures form { form_of printer.new.lines ≡ form_of printer.old.lines }
     {
         let excluding = Excluding::new(alloc, self.asked.excludes.as_slice(), root)?;
         let rules = IgnoreFiles::new(self.texts.clone()?)
@@ -226,7 +221,7 @@ impl<
             ⟦<HonouringWalk<T, S, X> as Iterator>⟧.next_gives (arc_value self.now.disk) (arc_value self.now.texts)
             self.now.asked.now may_stop root.now) printer.old printer.new (W.contents out.old) (W.contents out.new)) }
         ensures sought { sought_of takes_of printer.new.filter ≡ sought_of takes_of printer.old.filter }
-        ensures style { style_of printer.new.lines ≡ style_of printer.old.lines }
+        ensures form { form_of printer.new.lines ≡ form_of printer.old.lines }
     {
         if self.asked.no_ignore {
             return self.search_all(alloc, root, printer, out, err);

@@ -66,6 +66,7 @@ timed_asks rows asked times asks = record {
   excludes = asks.excludes;
   max_results = asks.max_results;
   quiet = asks.quiet;
+  absolute = asks.absolute;
   print0 = asks.print0;
   threads = asks.threads;
 }

@@ -101,5 +101,6 @@ pub record Asks (rows : List Row) (asked : Asked) : Type 0 where
   pub excludes : texts_of asked.excludes.items ≡ values_in rows (codes "exclude")
   pub max_results : AreResultsIn rows asked.max_results
   pub quiet : asked.quiet ≡ is_named rows (codes "quiet")
+  pub absolute : asked.absolute ≡ is_named rows (codes "absolute-path")
   pub print0 : asked.print0 ≡ is_named rows (codes "print0")
   pub threads : IsNumberOf (one_of (codes "threads") rows) asked.threads

@@ -103,7 +103,7 @@ one_rule = record (new_rule (codes "one-result")) { short = Some 49; action = So
 -- the part of the finds that is printed
 abbrev pub print_rules : List Rule
 print_rules =
-    number_rule (codes "max-results") ∷ one_rule ∷ flag_rule (codes "quiet") 113 ∷ flag_rule (codes "print0") 48 ∷ []
+    number_rule (codes "max-results") ∷ one_rule ∷ flag_rule (codes "quiet") 113 ∷ flag_rule (codes "absolute-path") 97 ∷ flag_rule (codes "print0") 48 ∷ []
 
 -- the names of types
 abbrev pub kind_names : List Text

@@ -18,6 +18,10 @@ shown_folder style folder = if style.here then without_here folder else folder
 abbrev pub shown_text : Style → List ℕ → List ℕ
 shown_text style text = if style.to_terminal then masked text else text
 
+-- the line of a path: the path, and the separator
+abbrev pub text_line : Style → List ℕ → List ℕ
+text_line style path = shown_text style path ++ style.separator ∷ []
+
 -- the line of a name in a folder: the path, and the separator
 abbrev pub line_of : Style → List ℕ → List ℕ → List ℕ
 line_of style folder name = join (shown_text style (shown_folder style folder)) (shown_text style name) ++ style.separator ∷ []

@@ -58,6 +58,8 @@ pub struct Asked<'w> {
     pub max_results: Option<usize>,
     /// No path is printed, and the status says whether there is one.
     pub quiet: bool,
+    /// Absolute paths are printed.
+    pub absolute: bool,
     /// A zero byte follows each path, in place of a line feed.
     pub print0: bool,
     /// The number of threads that read directories, if that was named.

@@ -287,6 +287,7 @@ fn print_options<'a>(alloc: Global) -> Result<Vec<Arg<'a>>, AllocError>
             'q',
             "Print nothing: the status says whether there is a result",
         ),
+        flag(alloc, "absolute-path", 'a', "Print absolute paths"),
         flag(
             alloc,
             "print0",

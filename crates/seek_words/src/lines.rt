@@ -1,10 +1,12 @@
 //! The printed lines.
-ghost use Rattle.std.specs.Prelude.{◌≡◌, true, false, [], IfOk, OnOk};
+ghost use Rattle.std.specs.Prelude.{◌≡◌, ◌++◌, true, false, [], IfOk, OnOk};
+ghost use Rattle.std.specs.Option.{option_map};
 ghost use Rattle.std.specs.Io.KnownBytes.{Appends, append_known};
-ghost use Rattle.seek_words.specs.Paths.{line_of};
+ghost use Rattle.seek_words.specs.Subject.{front_of};
 
 use crate::halt::Halt;
 use crate::paths::Style;
+use crate::subject::AbsolutePath;
 use std::alloc::{AllocError, Global};
 use std::io::Write;
 use std::time::{Clock, Duration};
@@ -21,26 +23,33 @@ const LONGEST: u128 = 100;
 #[derive(Drop)]
 pub struct Lines {
     style: Style,
+    /// The absolute path of an entry, if that is printed.
+    absolute: Option<AbsolutePath>,
     gathered: Vec<u8>,
     has_printed: bool,
     oldest: Option<Duration>,
 }
 
 impl Lines {
-    ghost use Rattle.seek_words.specs.Lines.{style_of, gathered_of, has_printed};
+    ghost use Rattle.seek_words.specs.Lines.{form_line, form_of, gathered_of, has_printed};
 
-    /// Returns no lines, for paths of this style.
+    /// Returns no lines, for paths of this style: absolute ones, if `absolute` says below which folder.
     ///
     /// # Errors
     ///
     /// If memory runs out.
-    pub fn new(alloc: Global, style: Style) -> Result<Self, AllocError>
-        ensures style { IfOk result (λ lines. style_of lines ≡ style) }
+    pub fn new(
+        alloc: Global,
+        style: Style,
+        absolute: Option<AbsolutePath>,
+    ) -> Result<Self, AllocError>
+        ensures form { IfOk result (λ lines. form_of lines ≡ record { style = style; front = option_map front_of absolute }) }
         ensures empty { IfOk result (λ lines. gathered_of lines ≡ []) }
         ensures none { IfOk result (λ lines. has_printed lines ≡ false) }
     {
         Ok(Lines {
             style,
+            absolute,
             gathered: Vec::with_capacity(alloc, 2 * GATHERED)?,
             has_printed: false,
             oldest: None,
@@ -54,11 +63,24 @@ impl Lines {
         self.has_printed
     }
 
+    fn gather(&mut self, folder: &str, name: &str) -> Result<(), AllocError>
+        ensures gathered { OnOk result (gathered_of self.new ≡ gathered_of self.old ++ form_line (form_of self.old) folder.now name.now) }
+        ensures form { form_of self.new ≡ form_of self.old }
+    {
+        match &mut self.absolute {
+            None => self.style.write(folder, name, &mut self.gathered),
+            Some(path) => {
+                path.set(folder, name)?;
+                self.style.write_path(path.as_str(), &mut self.gathered)
+            }
+        }
+    }
+
     /// Leaves nothing gathered.
     fn write_gathered<W: Write>(&mut self, out: &mut W) -> Result<(), Halt>
         ensures written { OnOk result (Appends (W.contents out.old) (W.contents out.new) (gathered_of self.old)) }
         ensures empty { OnOk result (gathered_of self.new ≡ []) }
-        ensures style { style_of self.new ≡ style_of self.old }
+        ensures form { form_of self.new ≡ form_of self.old }
         ensures as_before { has_printed self.new ≡ has_printed self.old }
     {
         if out.write_all(self.gathered.as_slice()).is_err() {
@@ -77,12 +99,12 @@ impl Lines {
     /// If memory runs out, or if the output can't be written.
     pub fn print<W: Write>(&mut self, folder: &str, name: &str, out: &mut W) -> Result<(), Halt>
         ensures printed { OnOk result (Appends (append_known (W.contents out.old) (gathered_of self.old))
-            (append_known (W.contents out.new) (gathered_of self.new)) (line_of (style_of self.old) folder.now name.now)) }
-        ensures at_once { OnOk result ((style_of self.old).to_terminal ≡ true → gathered_of self.new ≡ []) }
+            (append_known (W.contents out.new) (gathered_of self.new)) (form_line (form_of self.old) folder.now name.now)) }
+        ensures at_once { OnOk result ((form_of self.old).style.to_terminal ≡ true → gathered_of self.new ≡ []) }
         ensures has_printed { OnOk result (has_printed self.new ≡ true) }
-        ensures style { style_of self.new ≡ style_of self.old }
+        ensures form { form_of self.new ≡ form_of self.old }
     {
-        self.style.write(folder, name, &mut self.gathered)?;
+        self.gather(folder, name)?;
         self.has_printed = true;
         if self.gathered.len() < GATHERED && !self.style.to_terminal {
             return Ok(());
@@ -99,7 +121,7 @@ impl Lines {
     pub fn write_old<T: Clock, W: Write>(&mut self, clock: &T, out: &mut W) -> Result<(), Halt>
         ensures kept { OnOk result (Appends (append_known (W.contents out.old) (gathered_of self.old))
             (append_known (W.contents out.new) (gathered_of self.new)) []) }
-        ensures style { style_of self.new ≡ style_of self.old }
+        ensures form { form_of self.new ≡ form_of self.old }
         ensures as_before { has_printed self.new ≡ has_printed self.old }
     {
         if self.gathered.is_empty() {

@@ -2,7 +2,7 @@
 ghost use Rattle.std.specs.Prelude.{◌≡◌, ◌++◌, ◌∷◌, [], OnOk};
 ghost use Rattle.std.specs.Io.KnownBytes.{Appends};
 ghost use Rattle.jwalk_model.specs.Paths.{join};
-ghost use Rattle.seek_words.specs.Paths.{without_here, line_of};
+ghost use Rattle.seek_words.specs.Paths.{without_here, line_of, text_line};
 
 use crate::masked::masked;
 use jwalk_fs::path_text::join_parts;
@@ -53,6 +53,29 @@ impl Style {
         } else {
             folder
         }
+    }
+
+    /// Appends a path and the separator to `out`.
+    ///
+    /// # Errors
+    ///
+    /// If memory runs out.
+    pub fn write_path<A: Allocator + Copy>(
+        self,
+        path: &str,
+        out: &mut Vec<u8, A>,
+    ) -> Result<(), AllocError>
+        ensures { OnOk result (out.new.items ≡ out.old.items ++ text_line self path.now) }
+    {
+        if self.to_terminal {
+            let alloc = *out.allocator();
+            let path = masked(alloc, path)?;
+            out.extend_from_slice(path.as_bytes())?;
+        } else {
+            out.extend_from_slice(path.as_bytes())?;
+        }
+        out.push(self.separator)?;
+        Ok(())
     }
 
     /// Appends the path of a name in a folder and the separator to `out`.

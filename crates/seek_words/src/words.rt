@@ -215,6 +215,7 @@ fn asked_of<'w>(alloc: Global, found: &ArgMatches<'w>) -> Result<Asked<'w>, Refu
         excludes: values_of(alloc, found, "exclude")?,
         max_results: results_of(found),
         quiet: is_named(found, "quiet"),
+        absolute: is_named(found, "absolute-path"),
         print0: is_named(found, "print0"),
         threads: number_of(found, "threads"),
     })

@@ -254,6 +254,17 @@ fn more_patterns(rt: HostRuntime) {
 }
 
 #[test]
+fn absolute_path(rt: HostRuntime) {
+    const FOUND: &str = "/t/a.txt\n/t/sub/deep/a.rs\n";
+    prints(&rt, &["-a", "^a"], FOUND);
+    prints(&rt, &["-a", "^a", "t"], FOUND);
+    prints(&rt, &["--absolute-path", "^a", "./t"], FOUND);
+    prints(&rt, &["-a", "^a", "/t"], FOUND);
+    prints(&rt, &["-ap", "^/t/a", "t"], "/t/a.txt\n");
+    prints(&rt, &["-a0", "^b", "t"], "/t/B.TXT\0");
+}
+
+#[test]
 fn full_path(rt: HostRuntime) {
     prints(
         &rt,

@@ -98,6 +98,7 @@ fn control_characters_on_a_terminal(rt: HostRuntime) {
     let want = "/t/?[31m\n/t/?[31m/a?b\n/t/?é?\n";
     assert!(rt; prints_names(&rt, &[".", "/t"], true, want));
     assert!(rt; prints_names(&rt, &["-0", "é", "/t"], true, "/t/?é?\0"));
+    assert!(rt; prints_names(&rt, &["-a", ".", "t"], true, want));
 }
 
 #[test]

@@ -2,7 +2,7 @@ use Rattle.std.proofs.Common.{◌≡◌, ◌∙◌, ◌∷◌, [], refl, subst}
 use Rattle.std.specs.Io.KnownBytes.{Appends, append_known}
 use Rattle.jwalk_job.specs.Entry.{item}
 use Rattle.seek_words.specs.Filter.{sought_of}
-use Rattle.seek_words.specs.Lines.{style_of, gathered_of}
+use Rattle.seek_words.specs.Lines.{form_of, gathered_of}
 use Rattle.seek_found.specs.Found.{found_line}
 use Rattle.seek_found.specs.Limit.{left_after}
 use Rattle.seek_found.proofs.FoundFacts.{appends_nothing, none_found, one_found, enough_found, all_found}
@@ -13,10 +13,10 @@ loop-answers-init g c = record {
   can = c.requires.can;
   ends = c.requires.ends;
   so_far = none_found g.I.Iterator.next_gives c.args.answers.now
-      (sought_of g.T.NameTest.takes c.args.printer.now.filter) (style_of c.args.printer.now.lines) c.args.printer.now.left
+      (sought_of g.T.NameTest.takes c.args.printer.now.filter) (form_of c.args.printer.now.lines) c.args.printer.now.left
       (append_known (g.W.Write.contents c.args.out.now) (gathered_of c.args.printer.now.lines));
   sought = refl;
-  style = refl;
+  form = refl;
 }
 
 pub loop-answers-preserved : goal.loop-answers-preserved
@@ -28,31 +28,31 @@ loop-answers-preserved g c =
     let new = append_known (g.W.Write.contents c.write_old.new.out) (gathered_of c.write_old.new.self) in
     let answer = item c.in-Some.answer in
     let sought = sought_of g.T.NameTest.takes c.args.printer.now.filter in
-    let found = subst (λ s. Appends old mid (found_line s (style_of c.loop-answers.printer.lines) answer)) held.sought c.in_ok-clean.ensures.printed in
-    let printed = subst (λ s. Appends old mid (found_line sought s answer)) held.style found in
+    let found = subst (λ s. Appends old mid (found_line s (form_of c.loop-answers.printer.lines) answer)) held.sought c.in_ok-clean.ensures.printed in
+    let printed = subst (λ s. Appends old mid (found_line sought s answer)) held.form found in
     record {
       can = on.0;
       ends = on.1;
-      so_far = one_found g.I.Iterator.next_gives c.args.answers.now sought (style_of c.args.printer.now.lines) c.args.printer.now.left
+      so_far = one_found g.I.Iterator.next_gives c.args.answers.now sought (form_of c.args.printer.now.lines) c.args.printer.now.left
           c.loop-answers.answers c.next.new.self c.loop-answers.printer.left c.print.new.self.left
           (append_known (g.W.Write.contents c.args.out.now) (gathered_of c.args.printer.now.lines)) old new
           c.loop-answers.clean c.in_ok-clean.field-0 c.in-Some.answer held.so_far (c.is_full.ensures.room c.loop-answers-test.true) c.in-Some.ensures.steps
-          (appends_nothing old mid new (found_line sought (style_of c.args.printer.now.lines) answer) printed c.in_ok-write_old.ensures.kept)
+          (appends_nothing old mid new (found_line sought (form_of c.args.printer.now.lines) answer) printed c.in_ok-write_old.ensures.kept)
           (subst (λ s. c.print.new.self.left ≡ left_after s c.loop-answers.printer.left (answer ∷ [])) held.sought c.in_ok-clean.ensures.left) c.in_ok-clean.ensures.clean;
       sought = c.print.ensures.sought ∙ held.sought;
-      style = c.write_old.ensures.style ∙ (c.print.ensures.style ∙ held.style);
+      form = c.write_old.ensures.form ∙ (c.print.ensures.form ∙ held.form);
     }
 
 pub returns-clause-printed : goal.returns-clause-printed
 returns-clause-printed g c =
     enough_found g.I.Iterator.next_gives c.args.answers.now
-    (sought_of g.T.NameTest.takes c.args.printer.now.filter) (style_of c.args.printer.now.lines) c.args.printer.now.left c.loop-answers.answers c.loop-answers.printer.left
+    (sought_of g.T.NameTest.takes c.args.printer.now.filter) (form_of c.args.printer.now.lines) c.args.printer.now.left c.loop-answers.answers c.loop-answers.printer.left
     (append_known (g.W.Write.contents c.args.out.now) (gathered_of c.args.printer.now.lines))
     (append_known (g.W.Write.contents c.loop-answers.out) (gathered_of c.loop-answers.printer.lines)) c.loop-answers.clean c.loop-answers.invariant.so_far (c.is_full.ensures.full c.loop-answers-test.false)
 
 pub returns-in_default-clause-printed : goal.returns-in_default-clause-printed
 returns-in_default-clause-printed g c =
     all_found g.I.Iterator.next_gives c.args.answers.now
-    (sought_of g.T.NameTest.takes c.args.printer.now.filter) (style_of c.args.printer.now.lines) c.args.printer.now.left c.loop-answers.answers c.next.new.self c.loop-answers.printer.left
+    (sought_of g.T.NameTest.takes c.args.printer.now.filter) (form_of c.args.printer.now.lines) c.args.printer.now.left c.loop-answers.answers c.next.new.self c.loop-answers.printer.left
     (append_known (g.W.Write.contents c.args.out.now) (gathered_of c.args.printer.now.lines))
     (append_known (g.W.Write.contents c.loop-answers.out) (gathered_of c.loop-answers.printer.lines)) c.loop-answers.clean c.loop-answers.invariant.so_far c.in_default.ensures.steps

@@ -2,7 +2,7 @@ use Rattle.std.proofs.Common.{◌≡◌}
 use Rattle.std.specs.Io.KnownBytes.{append_known}
 use Rattle.std.specs.Iterator.{IsFinite, size}
 use Rattle.seek_words.specs.Filter.{sought_of}
-use Rattle.seek_words.specs.Lines.{style_of, gathered_of}
+use Rattle.seek_words.specs.Lines.{form_of, gathered_of}
 use Rattle.seek_found.proofs.FoundFacts.{FoundSoFar}
 use Rattle.seek_found.proofs.found.print_found.Given as goal
 
@@ -12,11 +12,11 @@ invariant-loop-answers g l =
       can : g.I.Iterator.can_next l.answers;
       ends : IsFinite (g.I.Iterator.remaining l.answers);
       so_far : FoundSoFar g.I.Iterator.next_gives l.fn.answers
-          (sought_of g.T.NameTest.takes l.fn.printer.filter) (style_of l.fn.printer.lines) l.fn.printer.left l.answers l.printer.left
+          (sought_of g.T.NameTest.takes l.fn.printer.filter) (form_of l.fn.printer.lines) l.fn.printer.left l.answers l.printer.left
           (append_known (g.W.Write.contents l.fn.out) (gathered_of l.fn.printer.lines))
           (append_known (g.W.Write.contents l.out) (gathered_of l.printer.lines)) l.clean;
       sought : sought_of g.T.NameTest.takes l.printer.filter ≡ sought_of g.T.NameTest.takes l.fn.printer.filter;
-      style : style_of l.printer.lines ≡ style_of l.fn.printer.lines;
+      form : form_of l.printer.lines ≡ form_of l.fn.printer.lines;
     }
 
 -- the greatest number of answers to come

@@ -42,7 +42,7 @@ pub returns-in_ok-search_each-in_default-clause-yielded : goal.returns-in_ok-sea
 returns-in_ok-search_each-in_default-clause-yielded g t c =
     let parts = c.split_at.result in
     printed_such (below_same _ _ _ _ c.args.search.now.asked.now _ (texts_then c.args.roots.now parts.0.now parts.1.now c.split_at.ensures.by_index.0))
-    (roots_printed _ _ (texts_of parts.0.now) (texts_of parts.1.now) _ _ _ _ _ _ c.in_ok-clean-in_default.clean c.in_ok-search_each-in_default.field-0 (c.is_full.ensures.room c.if-is_full.false) c.search_each.ensures.sought c.search_each.ensures.style
+    (roots_printed _ _ (texts_of parts.0.now) (texts_of parts.1.now) _ _ _ _ _ _ c.in_ok-clean-in_default.clean c.in_ok-search_each-in_default.field-0 (c.is_full.ensures.room c.if-is_full.false) c.search_each.ensures.sought c.search_each.ensures.form
     c.in_ok-clean-in_default.ensures.yielded c.in_ok-search_each-in_default.ensures.yielded)
 
 pub returns-in_ok-search_each-in_default-clause-whole : goal.returns-in_ok-search_each-in_default-clause-whole
@@ -52,6 +52,6 @@ returns-in_ok-search_each-in_default-clause-whole g t c = λ fixed told none is.
     let first = c.in_ok-clean-in_default.ensures in
     let clean = c.in_ok-clean-in_default.clean in
     let more = c.in_ok-search_each-in_default.field-0 in
-    others_printed f c.args.roots.now parts.0.now parts.1.now c.split_at.ensures.by_index.0 c.search_each.ensures.sought c.search_each.ensures.style
+    others_printed f c.args.roots.now parts.0.now parts.1.now c.split_at.ensures.by_index.0 c.search_each.ensures.sought c.search_each.ensures.form
     (first.whole fixed told none (first_true clean more is))
     (c.in_ok-search_each-in_default.ensures.whole fixed told (still_none _ first.yielded.answers none first.yielded.limit) (second_true clean more is))

@@ -24,6 +24,7 @@ returns-clause-asked c = record {
   excludes = c.in_ok-values_of-4.ensures;
   max_results = c.results_of.ensures;
   quiet = c.is_named-7.ensures;
-  print0 = c.is_named-8.ensures;
+  absolute = c.is_named-8.ensures;
+  print0 = c.is_named-9.ensures;
   threads = c.number_of.ensures;
 }
