@@ -12,7 +12,7 @@ use Rattle.seek_words.specs.Sought.{Sought}
 use Rattle.seek_words.specs.Lines.{Form}
 use Rattle.seek_found.specs.Found.{found_line, found_lines, is_clean, PrintsFound}
 use Rattle.seek_found.specs.Limit.{left_after, up_to}
-use Rattle.seek_found.proofs.LimitFacts.{left_as_before, left_then, more_within, up_to_none}
+use Rattle.seek_found.proofs.LimitFacts.{left_as_before, left_then, more_within, never_full, up_to_none}
 
 -- one text is written, and then another
 pub appends_then : (a b c : Option (List ℕ)) (xs ys : List ℕ) → Appends a b xs → Appends b c ys → Appends a c (xs ++ ys)
@@ -110,3 +110,8 @@ module _ {S C A R E : Type 0} (steps : S → Option (Result (DirEntry C A R E) (
     lines = so_far.lines;
     all = so_far.all;
   }
+
+-- without a limit none is reached
+pub found_unlimited : {S C A R E : Type 0} {steps : S → Option (Result (DirEntry C A R E) (Error A)) → S → Type 0} {start : S} {sought : Sought} {form : Form} {left left' : Option ℕ} {old new : Option (List ℕ)} {clean : Bool}
+    → PrintsFound steps start sought form left left' old new clean → left ≡ None → left' ≡ Some 0 → ⊥
+found_unlimited {sought} prints none full = never_full sought (map item prints.answered) none prints.limit full

@@ -1,6 +1,6 @@
 -- The text that is printed for the answers below roots, one root after another.
-use Rattle.std.proofs.Common.{◌≡◌, ◌≢◌, ◌⊎◌, ◌∙◌, ℕ, Bool, true, ◌&&◌, List, [], ◌∷◌, ◌++◌, map, Option, Some, Result, append_assoc, append-nil, inl, inr, ap, ap₂, refl, subst, sym}
-use Rattle.std.specs.List.{list_all}
+use Rattle.std.proofs.Common.{◌≡◌, ◌≢◌, ◌⊎◌, ◌∙◌, ℕ, Bool, true, ◌&&◌, List, [], ◌∷◌, ◌++◌, map, Option, None, Some, Result, append_assoc, append-nil, inl, inr, ap, ap₂, refl, subst, sym}
+use Rattle.std.specs.List.{list_all, list_any}
 use Rattle.std.specs.Io.KnownBytes.{Appends, append_known}
 use Rattle.std.proofs.lemmas.Grind.{flat_map-append}
 use Rattle.jwalk_model.specs.Counted.{Worth}
@@ -12,11 +12,11 @@ use Rattle.jwalk_job.specs.Given.{Given, counted_item, counted_list}
 use Rattle.seek_words.specs.Sought.{Sought}
 use Rattle.seek_words.specs.Lines.{Form}
 use Rattle.seek_found.specs.Found.{found_line, found_lines, is_clean}
-use Rattle.seek_found.specs.Limit.{left_after, up_to}
+use Rattle.seek_found.specs.Limit.{is_hit, left_after, up_to}
 use Rattle.seek_found.specs.Roots.{AreBelow, Below, PrintsSuch}
 use Rattle.seek_found.proofs.CleanFacts.{all_seam, first_written, rest_written}
 use Rattle.seek_found.proofs.FoundFacts.{appends_none, appends_then}
-use Rattle.seek_found.proofs.LimitFacts.{left_as_before, left_then, up_to_more, up_to_none}
+use Rattle.seek_found.proofs.LimitFacts.{left_as_before, left_then, never_full, one_of_one, up_to_more, up_to_none}
 use Rattle.seek_found.proofs.WholeFacts.{all_clean, same_after, same_lines, same_up_to}
 
 module _ {sought : Sought} {form : Form} {left left' : Option ℕ} {old new : Option (List ℕ)} {clean : Bool} where
@@ -36,6 +36,19 @@ module _ {sought : Sought} {form : Form} {left left' : Option ℕ} {old new : Op
   such_printed_by {are} {sought'} {form'} sought_is form_is left_is printed =
       subst (λ (l : Option ℕ). PrintsSuch are sought' form' l left' old new clean) left_is
       (subst (λ (s : Form). PrintsSuch are sought' s left left' old new clean) form_is (subst (λ (s : Sought). PrintsSuch are s form left left' old new clean) sought_is printed))
+
+module _ {are : List (Item Worth Worth) → Type 0} {sought : Sought} {form : Form} {left left' : Option ℕ} {old new : Option (List ℕ)} {clean : Bool} where
+  -- without a limit none is reached
+  pub none_reached : PrintsSuch are sought form left left' old new clean → left ≡ None → left' ≡ Some 0 → ⊥
+  none_reached printed none full = never_full sought printed.answers none printed.limit full
+
+  -- and there is none after it
+  pub none_after : PrintsSuch are sought form left left' old new clean → left ≡ None → left' ≡ None
+  none_after printed none = printed.limit ∙ ap (λ l. left_after sought l printed.answers) none
+
+  -- if a limit of one is reached, one was found
+  pub one_printed_of : (printed : PrintsSuch are sought form left left' old new clean) → left ≡ Some 1 → left' ≡ Some 0 → list_any (is_hit sought) printed.answers ≡ true
+  one_printed_of printed one full = one_of_one sought printed.answers one printed.limit full
 
 -- the text that is printed for answers is printed for what they count as
 pub counted_printed : {C A R E : Type 0} (given : Given R E) (are : List (Item Worth Worth) → Type 0) (sought : Sought) (form : Form) (left left' : Option ℕ) (old new : Option (List ℕ)) (clean : Bool) (xs : List (Result (DirEntry C A R E) (Error A)))
@@ -63,6 +76,7 @@ such_written_last {sought} {form} old mid new none last empty printed rest = rec
 
 -- if the search may not stop, all answers are there
 all_there : (below : Below) (may_stop : Type 0) (roots : List (List ℕ)) (xs : List (Item Worth Worth)) → ¬ may_stop → AreBelow below may_stop roots xs → AreBelow below ⊥ roots xs
+unfolding AreBelow
 all_there below may_stop [] xs on are = are
 all_there below may_stop (root ∷ roots) xs on (inl (first, (rest, own, more, is))) = inl (first, (rest, own, all_there below may_stop roots rest on more, is))
 all_there below may_stop (root ∷ roots) xs on (inr (stops, last)) = absurd (on stops)
@@ -70,6 +84,7 @@ all_there below may_stop (root ∷ roots) xs on (inr (stops, last)) = absurd (on
 module _ (below : Below) (may_stop : Type 0) where
   -- all answers below roots, and then those below other roots
   more_roots : (roots others : List (List ℕ)) (xs ys : List (Item Worth Worth)) → AreBelow below ⊥ roots xs → AreBelow below may_stop others ys → AreBelow below may_stop (roots ++ others) (xs ++ ys)
+  unfolding AreBelow
   more_roots [] others xs ys none more = subst (λ l. AreBelow below may_stop others (l ++ ys)) (sym none) more
   more_roots (root ∷ roots) others xs ys (inl (first, (rest, own, so_far, is))) more =
       inl (first, (rest ++ ys, own, more_roots roots others rest ys so_far more, ap (λ l. l ++ ys) is ∙ append_assoc first rest ys))
@@ -77,6 +92,7 @@ module _ (below : Below) (may_stop : Type 0) where
 
   -- if the search stopped, other roots aren't searched
   stopped : (roots others : List (List ℕ)) (xs : List (Item Worth Worth)) → may_stop → AreBelow below may_stop roots xs → AreBelow below may_stop (roots ++ others) xs
+  unfolding AreBelow
   stopped [] [] xs stops are = are
   stopped [] (other ∷ others) xs stops are = inr (stops, inl are)
   stopped (root ∷ roots) others xs stops (inl (first, (rest, own, more, is))) = inl (first, (rest, own, stopped roots others rest stops more, is))
@@ -84,11 +100,13 @@ module _ (below : Below) (may_stop : Type 0) where
 
   -- the answers below one root
   pub one_root : (root : List ℕ) (xs : List (Item Worth Worth)) → below ⊥ root xs ⊎ (may_stop × below may_stop root xs) → AreBelow below may_stop (root ∷ []) xs
+  unfolding AreBelow
   one_root root xs (inl own) = inl (xs, ([], own, refl, sym (append-nil xs)))
   one_root root xs (inr (stops, own)) = inr (stops, inr own)
 
   -- nothing is printed for no roots
   pub no_roots_printed : (sought : Sought) (form : Form) (left : Option ℕ) (old : Option (List ℕ)) → PrintsSuch (AreBelow below may_stop []) sought form left left old old true
+  unfolding AreBelow
   no_roots_printed sought form left old = record {
     answers = [];
     such = refl;
@@ -121,6 +139,7 @@ module _ (below : Below) (may_stop : Type 0) where
 -- a search that may stop may also stop for a weaker cause
 pub may_stop_sooner : (below : Below) (may_stop other : Type 0) → (may_stop → other) → ((root : List ℕ) (xs : List (Item Worth Worth)) → below may_stop root xs → below other root xs)
     → (roots : List (List ℕ)) (xs : List (Item Worth Worth)) → AreBelow below may_stop roots xs → AreBelow below other roots xs
+unfolding AreBelow
 may_stop_sooner below may_stop other more each [] xs are = are
 may_stop_sooner below may_stop other more each (root ∷ roots) xs (inl (first, (rest, own, are, is))) = inl (first, (rest, own, may_stop_sooner below may_stop other more each roots rest are, is))
 may_stop_sooner below may_stop other more each (root ∷ roots) xs (inr (stops, inl none)) = inr (more stops, inl none)

@@ -15,7 +15,7 @@ Below = (may_stop : Type 0) → List ℕ → List (Item Worth Worth) → Type 0
 
 -- The answers are those below each of these roots, one root after another. If the search may stop, they end below one
 -- root, or before it.
-abbrev pub AreBelow : Below → Type 0 → List (List ℕ) → List (Item Worth Worth) → Type 0
+unfoldable pub AreBelow : Below → Type 0 → List (List ℕ) → List (Item Worth Worth) → Type 0
 AreBelow below may_stop [] answers = answers ≡ []
 AreBelow below may_stop (root ∷ roots) answers =
     ((first : List (Item Worth Worth)) × ((rest : List (Item Worth Worth)) × below ⊥ root first × AreBelow below may_stop roots rest × (answers ≡ first ++ rest)))

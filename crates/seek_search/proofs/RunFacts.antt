@@ -10,7 +10,6 @@ use Rattle.seek_words.specs.Sought.{Sought}
 use Rattle.seek_words.specs.Wanted.{Wants}
 use Rattle.seek_words.specs.Lines.{Form}
 use Rattle.seek_found.specs.Found.{found_lines, PrintsClean}
-use Rattle.seek_found.specs.Limit.{left_after}
 use Rattle.seek_found.specs.Roots.{AreBelow, Below, PrintsSuch}
 use Rattle.seek_found.proofs.RootsFacts.{no_roots_printed}
 use Rattle.seek_found.proofs.CleanFacts.{clean_none, clean_then, first_written, printed_as, rest_written}
@@ -82,10 +81,6 @@ none_printed f all few sought form old = printed_as (sym (ap (λ l. flat_map f (
 pub none_yielded : (below : Below) (may_stop : Type 0) (roots : List (Bor (List ℕ))) → length roots < 1 → (sought : Sought) (form : Form) (left : Option ℕ) (old : Option (List ℕ)) → PrintsSuch (AreBelow below may_stop (texts_of roots)) sought form left left old old true
 none_yielded below may_stop [] few sought form left old = no_roots_printed below may_stop sought form left old
 none_yielded below may_stop (root ∷ roots) few sought form left old = absurd (omega (arith, few))
-
--- without a limit, there is none after answers
-pub still_none : {R E : Type 0} (sought : Sought) (xs : List (Item R E)) {left left' : Option ℕ} → left ≡ None → left' ≡ left_after sought left xs → left' ≡ None
-still_none sought xs none limit = limit ∙ ap (λ l. left_after sought l xs) none
 
 -- two answers are both true
 pub first_true : (a b : Bool) → (a && b) ≡ true → a ≡ true

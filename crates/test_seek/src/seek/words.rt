@@ -22,11 +22,6 @@ fn bad_words_are_named(rt: HostRuntime) {
     const ROWS: &[(&[&str], &str)] = &[
         (&["--hiden"], "'--hiden'"),
         (&["-x"], "'-x'"),
-        (&["a", "-x", "rm"], "`seek -0 .. | xargs -0 COMMAND`"),
-        (
-            &["a", "--exec-batch", "rm"],
-            "`seek -0 .. | xargs -0 COMMAND`",
-        ),
         (&["-g", "-F"], "--fixed-strings"),
         (&["*.md", "/t"], "try -g"),
         (&["-t", "q", ".", "/t"], "'q'"),

@@ -1,10 +1,9 @@
 use Rattle.std.proofs.lemmas.Result.{IfOk-weaker}
 use Rattle.std.specs.Arc.{arc_value}
 use Rattle.seek_words.specs.Asks.{texts_of}
-use Rattle.seek_found.proofs.LimitFacts.{never_full}
-use Rattle.seek_found.proofs.RootsFacts.{printed_such, roots_printed, roots_stopped}
+use Rattle.seek_found.proofs.RootsFacts.{none_after, none_reached, printed_such, roots_printed, roots_stopped}
 use Rattle.seek_search.specs.Search.{yielded_below}
-use Rattle.seek_search.proofs.RunFacts.{first_true, none_printed, none_yielded, one_element, one_printed, others_printed, second_true, still_none, texts_then}
+use Rattle.seek_search.proofs.RunFacts.{first_true, none_printed, none_yielded, one_element, one_printed, others_printed, second_true, texts_then}
 use Rattle.seek_search.proofs.SearchFacts.{below_one, below_same}
 use Rattle.seek_search.proofs.run.+search_each.Goals as goal
 
@@ -35,8 +34,7 @@ returns-then-is_full-clause-yielded g t c =
 
 pub returns-then-is_full-clause-whole : goal.returns-then-is_full-clause-whole
 returns-then-is_full-clause-whole g t c = λ fixed told none is.
-    let first = c.in_ok-clean-in_default.ensures.yielded in
-    absurd (never_full _ first.answers none first.limit (c.is_full.ensures.full c.if-is_full.true))
+    absurd (none_reached c.in_ok-clean-in_default.ensures.yielded none (c.is_full.ensures.full c.if-is_full.true))
 
 pub returns-in_ok-search_each-in_default-clause-yielded : goal.returns-in_ok-search_each-in_default-clause-yielded
 returns-in_ok-search_each-in_default-clause-yielded g t c =
@@ -54,4 +52,4 @@ returns-in_ok-search_each-in_default-clause-whole g t c = λ fixed told none is.
     let more = c.in_ok-search_each-in_default.field-0 in
     others_printed f c.args.roots.now parts.0.now parts.1.now c.split_at.ensures.by_index.0 c.search_each.ensures.sought c.search_each.ensures.form
     (first.whole fixed told none (first_true clean more is))
-    (c.in_ok-search_each-in_default.ensures.whole fixed told (still_none _ first.yielded.answers none first.yielded.limit) (second_true clean more is))
+    (c.in_ok-search_each-in_default.ensures.whole fixed told (none_after first.yielded none) (second_true clean more is))

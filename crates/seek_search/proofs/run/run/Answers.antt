@@ -32,9 +32,11 @@ returns-then-asked-clause-done g c = λ zero.
     let found = ok_twice c.search_asked-ended.result _ _ (c.status_of.ensures.done zero) c.search_asked-ended.ensures.found in
     inr (record {
       asked = _;
-      ask = read.0;
+      ask = timed_ask_for _ _ _ read.0;
       sought = _;
-      is_for = read.1;
+      is_for = timed_for _ _ _ read.1;
+      times = λ both.
+          let known = c.in-Ok-times_of.ensures both.0 in record { now = known.now; after = known.after; before = known.before; after_file = known.after_file };
       quiet = λ quiet. (c.in-Ok.ensures.unwritten, found.2 quiet found.1);
       yielded = λ loud. absurd (true≢false (sym c.if-asked.true ∙ loud));
       prints = λ both none. absurd (one_not_none (limit_quiet _ c.if-asked.true) none);

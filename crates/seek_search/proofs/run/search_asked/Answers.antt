@@ -9,8 +9,7 @@ use Rattle.seek_words.specs.declared.paths.Style.{Style}
 use Rattle.seek_words.specs.Wanted.{Wants}
 use Rattle.seek_found.specs.Limit.{is_hit}
 use Rattle.seek_found.proofs.CleanFacts.{printed_as}
-use Rattle.seek_found.proofs.LimitFacts.{one_of_one}
-use Rattle.seek_found.proofs.RootsFacts.{printed_such, such_printed_by, such_written_last}
+use Rattle.seek_found.proofs.RootsFacts.{one_printed_of, printed_such, such_printed_by, such_written_last}
 use Rattle.seek_words.specs.Asks.{texts_of}
 use Rattle.seek_search.specs.KeptLinks.{functions_kept}
 use Rattle.seek_search.specs.Search.{positive, roots_asked, yielded_by}
@@ -19,7 +18,7 @@ use Rattle.seek_search.proofs.RunFacts.{is_some_made, printed_by, sought_by, wri
 use Rattle.seek_search.proofs.SearchFacts.{same_below, stops_somewhere}
 use Rattle.seek_search.proofs.run.search_asked.Goals as goal
 
-form_of_parts : Style → Option (List ℕ) → Form
+abbrev form_of_parts : Style → Option (List ℕ) → Form
 form_of_parts style front = record { style = style; front = front }
 
 pub returns-clause-whole : goal.returns-clause-whole
@@ -63,5 +62,5 @@ returns-clause-found g c = λ quiet full.
       in_front = is_some_made front_of c.in_ok-path_of.field-0 ∙ c.in_ok-path_of.ensures.wanted;
       answers = yielded.answers;
       yielded = stops_somewhere _ _ _ _ asked _ (roots_asked asked) yielded.answers (same_below _ _ asked _ (roots_asked asked) c.in_ok-shared.ensures c.in_ok-shared-2.ensures yielded.answers yielded.such);
-      found = subst (λ (s : Sought). list_any (is_hit s) yielded.answers ≡ true) sought (one_of_one _ yielded.answers one yielded.limit (c.is_full.ensures.full full));
+      found = subst (λ (s : Sought). list_any (is_hit s) yielded.answers ≡ true) sought (one_printed_of yielded one (c.is_full.ensures.full full));
     }

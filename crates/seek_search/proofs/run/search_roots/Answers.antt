@@ -7,11 +7,11 @@ use Rattle.seek_search.proofs.run.search_roots.Goals as goal
 pub returns-then-is_empty-clause-yielded : goal.returns-then-is_empty-clause-yielded
 returns-then-is_empty-clause-yielded g c =
     let asked = c.args.search.now.asked.now in
-    let none = sym (c.is_empty.ensures ∙ ap (λ l. nat_eq (length l) 0) c.as_slice.ensures.value) ∙ c.if-is_empty.true in
+    let none = sym (c.is_empty.ensures ∙ ap (λ l. nat_eq (length l) 0) c.as_slice-roots.ensures.value) ∙ c.if-is_empty.true in
     IfOk-weaker c.below.result _ _ (λ clean. printed_such (below_here _ _ _ _ asked _ none)) c.below.ensures.yielded
 
 pub returns-clause-yielded : goal.returns-clause-yielded
 returns-clause-yielded g c =
     let asked = c.args.search.now.asked.now in
-    let some = sym (c.is_empty.ensures ∙ ap (λ l. nat_eq (length l) 0) c.as_slice.ensures.value) ∙ c.if-is_empty.false in
-    IfOk-weaker c.search_each.result _ _ (λ clean. printed_such (below_named _ _ _ _ asked _ c.as_slice.result.now some c.as_slice.ensures.value)) c.search_each.ensures.yielded
+    let some = sym (c.is_empty.ensures ∙ ap (λ l. nat_eq (length l) 0) c.as_slice-roots.ensures.value) ∙ c.if-is_empty.false in
+    IfOk-weaker c.search_each.result _ _ (λ clean. printed_such (below_named _ _ _ _ asked _ c.as_slice-roots.result.now some c.as_slice-roots.ensures.value)) c.search_each.ensures.yielded

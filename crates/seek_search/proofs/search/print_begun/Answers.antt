@@ -4,7 +4,7 @@ use Rattle.jwalk.specs.jwalk_job.Entry.{item}
 use Rattle.jwalk.specs.WalkDir.{stateless}
 use Rattle.jwalk.proofs.CleanFacts.{clean_whole}
 use Rattle.jwalk.proofs.WholeFacts.{steady_begun}
-use Rattle.seek_found.proofs.LimitFacts.{never_full}
+use Rattle.seek_found.proofs.FoundFacts.{found_unlimited}
 use Rattle.seek_found.proofs.RootsFacts.{counted_printed}
 use Rattle.seek_found.proofs.WholeFacts.{clean_entries, printed_whole}
 use Rattle.seek_search.proofs.search.print_begun.Goals as goal
@@ -23,7 +23,7 @@ returns-clause-whole g c =
     elim prints.calls [
       | inl drains ↦ printed_whole given _ _ _ _ clean (map item prints.answered) _ is prints.all prints.lines
           (clean_whole _ _ _ _ _ given walk it prints.answered begun.begins.0 begun.begins.1.holds steadily begun.starts steady drains (clean_entries prints.answered (sym prints.all ∙ is)))
-      | inr stopped ↦ absurd (never_full _ (map item prints.answered) none prints.limit stopped.0)
+      | inr stopped ↦ absurd (found_unlimited prints none stopped.0)
     ])
     c.print_found.ensures.printed
 

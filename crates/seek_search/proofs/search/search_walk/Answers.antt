@@ -18,8 +18,8 @@ use Rattle.seek_search.proofs.search.search_walk.Goals as goal
 pub returns-clause-whole : goal.returns-clause-whole
 returns-clause-whole g c =
     let rules = c.args.rules in
-    let set = c.with_hidden_shown-walk.ensures in
-    let walk = c.with_hidden_shown-walk.result in
+    let set = c.with_hidden_shown.ensures in
+    let walk = c.with_hidden_shown.result in
     let texts = g.X.Texts.functions (arc_value (texts_of rules.rules)) in
     let given = given_kept (settings_of rules.rules) texts (excluded_of (next_of rules.rules)) in
     let made = ignoring (settings_of rules.rules) texts (excluding (excluded_of (next_of rules.rules))) in
