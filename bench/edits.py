@@ -2,6 +2,7 @@
 """Tries the wrong bodies that the gate doesn't try, those in bench/edits: the prover must refuse each.
 
     python3 bench/edits.py [--check] [CRATE | CRATE/NAME ..]
+    python3 bench/edits.py --twins [CRATE | CRATE/NAME ..]
 
 An edit is the file bench/edits/CRATE/NAME.edit. All are tried where none is named, of a crate that is named all of its
 own. While the edits of a crate are tried, they stand in the place of crates/CRATE/must-fail, and `rt must-fail CRATE`
@@ -10,10 +11,16 @@ check of its crate takes after a change. The lines of `rt` come first, with its 
 for each edit, which says whether it is refused, NOT REFUSED, a BAD EDIT, which can't be applied or compiled, or NOT
 TRIED. The script ends with 1 if one isn't refused.
 
+With --twins it tries the edits of the gate, in crates/CRATE/must-fail, with a harmless body in the place of the wrong
+one, where a rule makes one (`twin_of`): a branch that is added is never taken, and a condition that is changed is what
+it was, negated twice. The prover must accept each such twin. One that is refused says that its edit may be refused for
+its form alone, and the script ends with 1.
+
 With --check nothing is proved, and it takes a second. Of each edit, also of those that the gate tries, it is looked at
 whether each old text stands once in its file. What doesn't is printed, and the script ends with 1.
 """
 import os
+import re
 import shutil
 import signal
 import subprocess
@@ -37,19 +44,26 @@ def edits_in(folder):
     return [name.removesuffix(".edit") for name in names if name.endswith(".edit")]
 
 
-def edits_of(crate):
-    return edits_in(f"{TOP}/bench/edits/{crate}")
+def own_edits(crate):
+    """The folder with the edits of a crate that the gate doesn't try."""
+    return f"{TOP}/bench/edits/{crate}"
 
 
-def asked_for(words):
+def gate_edits(crate):
+    """The folder with those that it tries."""
+    return f"{TOP}/crates/{crate}/must-fail"
+
+
+def asked_for(words, folder_of):
     """The names of the edits that words ask for, by crate."""
-    crates = sorted(os.listdir(f"{TOP}/bench/edits"))
+    crates = [crate for crate in sorted(os.listdir(f"{TOP}/crates")) if edits_in(folder_of(crate))]
     asked = {}
     for word in words or crates:
         crate, _, name = word.partition("/")
-        names = [name.removesuffix(".edit")] if name else edits_of(crate)
-        if not names or not set(names) <= set(edits_of(crate)):
-            sys.exit(f"{word} is no edit in bench/edits, nor a crate that has some")
+        there = edits_in(folder_of(crate))
+        names = [name.removesuffix(".edit")] if name else there
+        if not names or not set(names) <= set(there):
+            sys.exit(f"{word} is no edit here, nor a crate that has some")
         asked[crate] = sorted({*asked.get(crate, []), *names})
     return asked
 
@@ -123,24 +137,55 @@ def run_on(crate):
     return verdicts
 
 
-def tried(crate, names):
-    """Tries edits of a crate in the place of its own."""
+def tried(crate, texts):
+    """Tries edits of a crate, of which these are the texts by name, in the place of its own."""
     folder = f"{TOP}/crates/{crate}"
     put_back(crate)
     try:
         os.makedirs(f"{folder}/must-fail", exist_ok=True)
         os.rename(f"{folder}/must-fail", f"{folder}/{ASIDE}")
         os.mkdir(f"{folder}/must-fail")
-        for name in names:
-            shutil.copy(f"{TOP}/bench/edits/{crate}/{name}.edit", f"{folder}/must-fail")
+        for name, text in texts.items():
+            with open(f"{folder}/must-fail/{name}.edit", "w", encoding="utf-8") as file:
+                file.write(text)
         return run_on(crate)
     finally:
         put_back(crate)
 
 
+def harmless(old, new):
+    """A harmless text in the place of a new one; none if no rule makes one."""
+    if new.endswith(old.strip()) and re.match(r"\s*if ", new):
+        added = new[: -len(old.strip())].strip()
+        return f"if false {{ {added} }} {old.strip()}"
+    if new.startswith(old) and re.match(r"\s*if ", new[len(old) :]):
+        return f"{old} if false {{ {new[len(old) :].strip()} }}"
+    was = re.fullmatch(r"(\s*(?:\} else )?(?:if|while)) (?!let )(.*) \{", old)
+    now = re.fullmatch(r"(\s*(?:\} else )?(?:if|while)) (?!let )(.*) \{", new)
+    if was and now:
+        return f"{was[1]} !!({was[2]}) {{"
+    return None
+
+
+def twin_of(text):
+    """An edit of one text with a harmless body in the place of the wrong one; none if no rule makes one."""
+    found = re.fullmatch(r"(file: .*)\nold: (.*)\nnew: (.*)\n*", text)
+    made = harmless(found[2], found[3]) if found else None
+    return f"{found[1]}\nold: {found[2]}\nnew: {made}\n" if made else None
+
+
+def texts_of(crate, names, twins):
+    """The texts of edits by name: of their twins, where there is one, or as they are."""
+    if twins:
+        made = {name: twin_of(read(f"{gate_edits(crate)}/{name}.edit")) for name in names}
+        return {name: text for name, text in made.items() if text}
+    return {name: read(f"{own_edits(crate)}/{name}.edit") for name in names}
+
+
 def main():
-    words = [word for word in sys.argv[1:] if word != "--check"]
-    asked = asked_for(words)
+    twins = "--twins" in sys.argv
+    words = [word for word in sys.argv[1:] if word not in ("--check", "--twins")]
+    asked = asked_for(words, gate_edits if twins else own_edits)
     if "--check" in sys.argv:
         sys.exit(1 if check(asked) else 0)
     # so that an end by one of these signals puts the folder back
@@ -148,13 +193,15 @@ def main():
         signal.signal(number, lambda number, frame: sys.exit(128 + number))
     results = []
     for crate, names in asked.items():
-        verdicts = tried(crate, names)
-        results += [(f"{crate}/{name}", verdicts.get(name, "NOT TRIED")) for name in names]
+        texts = texts_of(crate, names, twins)
+        verdicts = tried(crate, texts) if texts else {}
+        results += [(f"{crate}/{name}", verdicts.get(name, "NOT TRIED")) for name in texts]
     for name, verdict in results:
         print(f"{name}: {verdict}")
-    refused = sum(verdict == "refused" for _, verdict in results)
-    print(f"{refused} of {len(results)} edits are refused")
-    sys.exit(0 if refused == len(results) else 1)
+    wanted = "NOT REFUSED" if twins else "refused"
+    right = sum(verdict == wanted for _, verdict in results)
+    print(f"{right} of {len(results)} {'twins are accepted' if twins else 'edits are refused'}")
+    sys.exit(0 if right == len(results) else 1)
 
 
 if __name__ == "__main__":

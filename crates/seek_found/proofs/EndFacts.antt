@@ -1,5 +1,5 @@
 -- The statuses of words and patterns that are rejected.
-use Rattle.std.proofs.Common.{◌≡◌, ◌<◌, ◌≤◌, ◌⊎◌, ℕ, zero, suc, List, inl, inr, refl, sym, subst, ◌∙◌, arith}
+use Rattle.std.proofs.Common.{◌≡◌, ◌<◌, ◌≤◌, ◌⊎◌, ℕ, zero, suc, List, inl, inr, refl, ◌∙◌, arith}
 use Rattle.seek_words.proofs.EndFacts.{asked_for_text, refusal_most}
 use Rattle.seek_words.specs.AsksFor.{AskFor, AskForText}
 use Rattle.seek_words.specs.Refusal.{IsRefusedFor, status_of as status_for}

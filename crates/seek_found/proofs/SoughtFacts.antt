@@ -1,7 +1,6 @@
 -- Patterns that are read one after another, and tests of them.
-use Rattle.std.proofs.Common.{◌≡◌, ◌∙◌, ◌<◌, ◌+◌, ℕ, Bool, true, false, ◌&&◌, List, [], ◌∷◌, ◌++◌, Bor, Result, Ok, Err, inr, map, length, take, ap, subst, sym}
+use Rattle.std.proofs.Common.{◌≡◌, ◌∙◌, ◌<◌, ◌+◌, ℕ, List, [], ◌∷◌, ◌++◌, Bor, Result, Ok, Err, inr, map, length, take, ap, subst, sym}
 use Rattle.std.specs.Prelude.{IfErr}
-use Rattle.std.specs.List.{Contains, list_all}
 use Rattle.std.specs.Result.{IsErrAnd}
 use Rattle.std.proofs.Math.ListN.{get_or}
 use Rattle.std.proofs.lemmas.List.{map-append, take_more}

@@ -11,15 +11,36 @@ use seek_words::words::read_words;
 use std::alloc::Global;
 use std::io::Write;
 
+/// Returns whether a word is an option by which `fd` starts programs.
+fn starts_program(word: &str) -> bool {
+    matches!(word, "-x" | "-X" | "--exec" | "--exec-batch")
+}
+
+/// Reports why words are refused. For words that ask to start a program it says how that is done.
+fn report<E: Write>(refusal: &Refusal<'_>, words: &[String], err: &mut E) {
+    let _ = match refusal {
+        Refusal::Words(_) if words.iter().any(|word| starts_program(word.as_str())) => writeln!(
+            err,
+            "seek: programs aren't started: write `seek -0 .. | xargs -0 COMMAND`"
+        ),
+        _ => write!(err, "{refusal}"),
+    };
+}
+
 /// Prints help or the version, or reports why words are refused.
-fn refuse<W: Write, E: Write>(refusal: &Refusal<'_>, out: &mut W, err: &mut E) -> u8
+fn refuse<W: Write, E: Write>(
+    refusal: &Refusal<'_>,
+    words: &[String],
+    out: &mut W,
+    err: &mut E,
+) -> u8
     ensures refused { 0 < status_for refusal.now → result ≡ status_for refusal.now }
     ensures text { status_for refusal.now ≡ 0 → result ≤ 1 }
     ensures untouched { result ≡ 2 → W.contents out.new ≡ W.contents out.old }
 {
     let status = refusal.status();
     if status > 0 {
-        let _ = write!(err, "{refusal}");
+        report(refusal, words, err);
         return status;
     }
     u8::from(write!(out, "{refusal}").is_err() || out.flush().is_err())
@@ -75,7 +96,7 @@ pub fn read_call<'w, W: Write, E: Write>(
 {
     let asked = match read_words(alloc, words) {
         Ok(asked) => asked,
-        Err(refusal) => return Err(refuse(&refusal, out, err)),
+        Err(refusal) => return Err(refuse(&refusal, words, out, err)),
     };
     match Sought::read(alloc, &asked) {
         Ok(sought) => Ok((asked, sought)),

@@ -1,8 +1,8 @@
 -- The statuses of words that ask for no search.
-use Rattle.std.proofs.Common.{◌≡◌, Bor, ◌≤◌, ◌⊎◌, ℕ, List, inl, inr, refl, subst, sym, ap, ◌∙◌, arith}
+use Rattle.std.proofs.Common.{◌≡◌, Bor, ◌≤◌, ◌⊎◌, List, inl, inr, refl, subst, sym, ap, ◌∙◌, arith}
 use Rattle.std.specs.Prelude.{Result, Ok, Err, IfErr}
 use Rattle.std.specs.Result.{IsErrAnd}
-use Rattle.clap.specs.Words.{App, IsAmong, HasKind, Kinds, Row, Text, fault_of, kind_of}
+use Rattle.clap.specs.Words.{IsAmong, Kinds, Row, Text, fault_of, kind_of}
 use Rattle.clap.specs.declared.error.Error.{Error}
 use Rattle.clap.specs.declared.error.kind.ErrorKind.{ErrorKind}
 use Rattle.clap.specs.declared.error.kind.ErrorKind.TheVariants.{InvalidValue, UnknownArgument, InvalidSubcommand, NoEquals, ValueValidation, TooManyValues, TooFewValues, WrongNumberOfValues, ArgumentConflict, MissingRequiredArgument, MissingSubcommand, DisplayHelp, DisplayHelpOnMissingArgumentOrSubcommand, DisplayVersion, Io, Format, OutOfMemory}

@@ -21,7 +21,8 @@ fn tells(rt: &impl Host, words: &[&str], told: &str, status: u8) -> bool {
 fn bad_words_are_named(rt: HostRuntime) {
     const ROWS: &[(&[&str], &str)] = &[
         (&["--hiden"], "'--hiden'"),
-        (&["-x"], "'-x'"),
+        (&["-x"], "`seek -0 .. | xargs -0 COMMAND`"),
+        (&["a", "--exec-batch", "rm"], "xargs -0 COMMAND"),
         (&["-g", "-F"], "--fixed-strings"),
         (&["*.md", "/t"], "try -g"),
         (&["-t", "q", ".", "/t"], "'q'"),

@@ -1,8 +1,6 @@
 use Rattle.std.proofs.Common.{◌≡◌, ◌∙◌, ℕ, List, ap, rules, string_bytes, subst, sym}
 use Rattle.regex.specs.Patterns.{ReadsAsText}
-use Rattle.regex.specs.Sources.{IsRefusal}
 use Rattle.seek_words.specs.Expression.{config_for}
-use Rattle.seek_found.specs.NamePattern.{source_of}
 use Rattle.seek_found.proofs.name_pattern.NamePattern.expression_of.Goals as goal
 
 pub returns-in-Ok-clause-expression : goal.returns-in-Ok-clause-expression
