@@ -1,6 +1,6 @@
 -- Roots that are searched one after another.
 use Rattle.std.proofs.Common.{◌≡◌, ◌≤◌, ◌<◌, ◌∙◌, ℕ, Bool, true, false, ◌&&◌, List, [], ◌∷◌, ◌++◌, length, slice_index_or, Option, Some, None, Result, Ok, Err, append-nil, ap, ap₂, arith, refl, subst, sym}
-use Rattle.std.specs.Prelude.{flat_map, is_some, option_map, if◌then◌else◌, IfOk, IsOkAnd}
+use Rattle.std.specs.Prelude.{flat_map, is_some, option_map, IfOk, IsOkAnd}
 use Rattle.std.specs.Borrow.{Bor}
 use Rattle.std.specs.Io.KnownBytes.{Appends, append_known}
 use Rattle.std.proofs.lemmas.Grind.{flat_map-append}
@@ -14,8 +14,6 @@ use Rattle.seek_found.specs.Roots.{AreBelow, Below, PrintsSuch}
 use Rattle.seek_found.proofs.RootsFacts.{no_roots_printed}
 use Rattle.seek_found.proofs.CleanFacts.{clean_none, clean_then, first_written, printed_as, rest_written}
 use Rattle.seek_words.specs.Asks.{texts_of}
-use Rattle.seek_words.specs.declared.asked.Asked.{Asked}
-use Rattle.seek_search.specs.Search.{limit_asked, positive}
 
 -- what is looked for, by its parts
 pub sought_by : {w w' : Wants} {t t' : List ℕ → Bool → Bool} {f f' : Option (List ℕ)} → w ≡ w' → t ≡ t' → f ≡ f'
@@ -91,9 +89,6 @@ pub second_true : (a b : Bool) → (a && b) ≡ true → b ≡ true
 second_true true b is = is
 second_true false b is = absurd (cc)
 
--- a quiet search has a limit
-pub limit_quiet : (asked : Asked) → asked.quiet ≡ true → limit_asked asked ≡ Some 1
-limit_quiet asked quiet = ap (λ b. if b then Some 1 else positive asked.max_results) quiet
-
+-- one isn't none
 pub one_not_none : {n : Option ℕ} → n ≡ Some 1 → n ≡ None → ⊥
 one_not_none {n} one none = let no : ◌≡◌ {A = Option ℕ} (Some 1) None = sym one ∙ none in absurd (cc)

@@ -1,5 +1,5 @@
 -- The walks of a search.
-use Rattle.std.proofs.Common.{◌≡◌, ◌≤◌, ◌<◌, ◌⊎◌, ◌∙◌, ℕ, Bool, true, false, List, [], ◌∷◌, length, slice_index_or, Option, inl, inr, ap, ap₂, arith, refl, subst, sym}
+use Rattle.std.proofs.Common.{◌≡◌, ◌≤◌, ◌<◌, ◌⊎◌, ℕ, Bool, true, false, List, [], ◌∷◌, length, slice_index_or, inl, inr, arith, refl, subst, sym}
 use Rattle.std.specs.Prelude.{◌==◌, if◌then◌else◌, MatchBool}
 use Rattle.std.specs.Borrow.{Bor}
 use Rattle.std.specs.declared.sync.Arc.{Arc}

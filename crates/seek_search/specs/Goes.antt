@@ -6,7 +6,7 @@ use Rattle.std.specs.List.{list_any}
 use Rattle.std.specs.declared.sync.Arc.{Arc}
 use Rattle.jwalk.specs.jwalk_model.Counted.{Worth}
 use Rattle.jwalk.specs.jwalk_model.Entry.{Item}
-use Rattle.jwalk.specs.jwalk_model.Options.{Options, with_skip_hidden}
+use Rattle.jwalk.specs.jwalk_model.Options.{with_skip_hidden}
 use Rattle.jwalk.specs.jwalk_job.Given.{counted_list}
 use Rattle.jwalk_job.specs.declared.dir_entry.DirEntry.{DirEntry}
 use Rattle.jwalk_job.specs.declared.error.Error.{Error}

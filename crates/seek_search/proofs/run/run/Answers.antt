@@ -1,9 +1,9 @@
-use Rattle.std.proofs.Common.{◌∙◌, inl, inr, map, string_bytes, sym}
+use Rattle.std.proofs.Common.{◌∙◌, inl, inr, map, refl, string_bytes, sym}
 use Rattle.std.proofs.lemmas.Bool.{true≢false}
 use Rattle.seek_found.proofs.EndFacts.{bad_ends, ends_most, searched_ends}
 use Rattle.seek_found.proofs.TimedFacts.{timed_for}
 use Rattle.seek_words.proofs.AsksFacts.{timed_ask_for}
-use Rattle.seek_search.proofs.RunFacts.{limit_quiet, ok_twice, one_not_none}
+use Rattle.seek_search.proofs.RunFacts.{ok_twice, one_not_none}
 use Rattle.seek_search.proofs.run.run.Goals as goal
 
 pub returns-in-Err-clause-status : goal.returns-in-Err-clause-status
@@ -39,7 +39,7 @@ returns-then-asked-clause-done g c = λ zero.
           let known = c.in-Ok-times_of.ensures both.0 in record { now = known.now; after = known.after; before = known.before; after_file = known.after_file };
       quiet = λ quiet. (c.in-Ok.ensures.unwritten, found.2 quiet found.1);
       yielded = λ loud. absurd (true≢false (sym c.if-asked.true ∙ loud));
-      prints = λ both none. absurd (one_not_none (limit_quiet _ c.if-asked.true) none);
+      prints = λ both none. absurd (one_not_none refl (rw c.if-asked.true at none));
     })
 
 pub returns-clause-ends : goal.returns-clause-ends

@@ -18,7 +18,6 @@ use Rattle.jwalk_ignore.specs.Callback.Excluding.{excluded_by, excluded_of, excl
 use Rattle.seek_search.specs.Search.{excluded_asked, options_asked, settings_asked}
 use Rattle.jwalk_ignore.proofs.KeptFacts.{ignoring_same}
 use Rattle.seek_search.proofs.SearchFacts.{hidden_by_crew, yielded_so}
-use Rattle.seek_search.specs.Goes.{IsHonouring}
 use Rattle.seek_search.proofs.search.Search.search_kept.Goals as goal
 
 pub returns-clause-whole : goal.returns-clause-whole
