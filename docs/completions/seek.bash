@@ -17,6 +17,6 @@ _seek() {
     --newer-than-file) compopt +o default; return ;;
     --max-results) compopt +o default; return ;;
     esac
-    if [[ $word == -* ]]; then COMPREPLY=($(compgen -W "-g --glob -F --fixed-strings --and -p --full-path -i --ignore-case -s --case-sensitive -H --hidden -I --no-ignore -u --unrestricted -E --exclude -L --follow --prune --one-file-system --mount --xdev --sort -j --threads --min-depth -d --max-depth --maxdepth --exact-depth -t --type -e --extension -S --size --changed-within --newer --changed-before --newer-than-file --max-results -1 -q --quiet -a --absolute-path -0 --print0 -h --help -V --version" -- "$word")); fi
+    if [[ $word == -* ]]; then COMPREPLY=($(compgen -W "-g --glob -F --fixed-strings --and -p --full-path -i --ignore-case -s --case-sensitive -H --hidden -I --no-ignore -u --unrestricted -E --exclude -L --follow --one-file-system --mount --xdev --sort -j --threads --min-depth -d --max-depth --maxdepth --exact-depth -t --type -e --extension -S --size --changed-within --newer --changed-before --newer-than-file --max-results -1 -q --quiet -a --absolute-path -0 --print0 -h --help -V --version" -- "$word")); fi
 }
 complete -o default -F _seek seek
