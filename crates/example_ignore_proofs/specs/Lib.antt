@@ -1,3 +1,4 @@
 pub mod Given
 pub mod Sized
 pub mod Packages
+pub mod Starts

@@ -59,14 +59,14 @@ pub fn walk_ignoring<S: FileSystem, X: Texts, A: Allocator + Copy>(
 /// If memory runs out for the list.
 pub fn walk_tree_ignoring(
     alloc: Global,
-    fs: MemoryFs,
-    texts: MemoryTexts,
+    fs: &MemoryFs,
+    texts: &MemoryTexts,
     root: String,
 ) -> Result<Vec<Found<Global>>, AllocError>
     ensures { IfOk result (λ found. NoneRefused found.items
-        → counted_list (ignoring_alone first_settings (texts_in texts)) found.items
-        ≡ whole_walk (job_ignoring first_settings (texts_in texts)
-        (functions_of (tree_of fs)) (with_skip_hidden false defaults))
+        → counted_list (ignoring_alone first_settings (texts_in texts.now)) found.items
+        ≡ whole_walk (job_ignoring first_settings (texts_in texts.now)
+        (functions_of (tree_of fs.now)) (with_skip_hidden false defaults))
         (string_bytes root) no_rules_yet) }
 {
     walk_ignoring(

@@ -5,3 +5,4 @@ pub mod given;
 pub mod ignoring;
 pub mod packages;
 pub mod sized;
+pub mod starts;

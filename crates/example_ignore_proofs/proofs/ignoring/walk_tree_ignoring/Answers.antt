@@ -20,6 +20,6 @@ returns c =
     let state : rules_alone (state_of c.new.result) ≡ no_rules_yet = ap (λ chain. both (chain_worth chain) blank) built.state.0 in
     IfOk-weaker c.walk_ignoring.result _ _
     (λ found whole none.
-    yielded_by (λ settings texts. counted_list (ignoring_alone settings texts) found.items) rules.settings (ap texts_of rules.texts)
-    (ap (λ fs. functions_of (tree_of fs)) built.file_system) (ap (with_skip_hidden false) built.options) built.root state (whole tt tt none))
+    yielded_by (λ settings texts. counted_list (ignoring_alone settings texts) found.items) rules.settings (ap (λ texts. texts_of texts.now) rules.texts)
+    (ap (λ fs. functions_of (tree_of fs.now)) built.file_system) (ap (with_skip_hidden false) built.options) built.root state (whole tt tt none))
     c.walk_ignoring.ensures
