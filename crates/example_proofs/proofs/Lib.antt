@@ -6,3 +6,4 @@ pub mod BothFacts
 pub mod OwnReadersFacts
 pub mod AheadFacts
 pub mod EachFacts
+pub mod SubtotalFacts

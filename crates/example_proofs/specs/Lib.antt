@@ -1,5 +1,6 @@
 pub mod HandsOnNames
 pub mod SmallTree
+pub mod Subtotals
 pub mod Skipping
 pub mod RootAlone
 pub mod Turned

@@ -17,6 +17,7 @@ pub mod own_readers;
 pub mod root_alone;
 pub mod skipping;
 pub mod small_tree;
+pub mod subtotals;
 pub mod texts;
 pub mod totals;
 pub mod turned_by_crew;

@@ -6,7 +6,6 @@ ghost use Rattle.tally_words.specs.Command.{flag_rule, short_rule, valued_rule, 
 use clap::{Arg, ArgAction, Command};
 use std::alloc::{AllocError, Global};
 
-/// Returns an option without a value, which may be repeated.
 fn flag<'a>(alloc: Global, id: &'a str, help: &'a str) -> Arg<'a>
     ensures rule { rule_of result ≡ flag_rule id.entry.now }
     ensures local { result.global ≡ false }
@@ -17,7 +16,6 @@ fn flag<'a>(alloc: Global, id: &'a str, help: &'a str) -> Arg<'a>
         .help(help)
 }
 
-/// Returns an option without a value that has a letter too.
 fn short<'a>(alloc: Global, id: &'a str, letter: char, help: &'a str) -> Arg<'a>
     ensures rule { rule_of result ≡ short_rule id.entry.now letter }
     ensures local { result.global ≡ false }
@@ -25,7 +23,6 @@ fn short<'a>(alloc: Global, id: &'a str, letter: char, help: &'a str) -> Arg<'a>
     flag(alloc, id, help).short(letter)
 }
 
-/// Returns an option with a value.
 fn valued<'a>(alloc: Global, id: &'a str, letter: char, value: &'a str, help: &'a str) -> Arg<'a>
     ensures rule { rule_of result ≡ valued_rule id.entry.now letter }
     ensures local { result.global ≡ false }
@@ -38,7 +35,6 @@ fn valued<'a>(alloc: Global, id: &'a str, letter: char, value: &'a str, help: &'
         .help(help)
 }
 
-/// Returns an option with a number.
 fn number<'a>(alloc: Global, id: &'a str, letter: char, help: &'a str) -> Arg<'a>
     ensures rule { rule_of result ≡ number_rule id.entry.now letter }
     ensures local { result.global ≡ false }
@@ -46,7 +42,6 @@ fn number<'a>(alloc: Global, id: &'a str, letter: char, help: &'a str) -> Arg<'a
     valued(alloc, id, letter, "N", help).value_parser(clap::value_parser!(usize))
 }
 
-/// Returns an option with a value, which may be repeated.
 fn listed<'a>(alloc: Global, id: &'a str, letter: char, value: &'a str, help: &'a str) -> Arg<'a>
     ensures rule { rule_of result ≡ listed_rule id.entry.now letter }
     ensures local { result.global ≡ false }
@@ -54,7 +49,6 @@ fn listed<'a>(alloc: Global, id: &'a str, letter: char, value: &'a str, help: &'
     valued(alloc, id, letter, value, help).action(ArgAction::Append)
 }
 
-/// Returns the options that say which results are written.
 fn shown_options<'a>(alloc: Global) -> Result<Vec<Arg<'a>>, AllocError>
     ensures { IfOk result (λ options. HaveRules options.items shown_rules) }
 {
@@ -86,7 +80,6 @@ fn shown_options<'a>(alloc: Global) -> Result<Vec<Arg<'a>>, AllocError>
     ]?)
 }
 
-/// Returns the options that say how results are written.
 fn form_options<'a>(alloc: Global) -> Result<Vec<Arg<'a>>, AllocError>
     ensures { IfOk result (λ options. HaveRules options.items form_rules) }
 {
@@ -107,7 +100,6 @@ fn form_options<'a>(alloc: Global) -> Result<Vec<Arg<'a>>, AllocError>
     ]?)
 }
 
-/// Returns the options that say what counts.
 fn counted_options<'a>(alloc: Global) -> Result<Vec<Arg<'a>>, AllocError>
     ensures { IfOk result (λ options. HaveRules options.items counted_rules) }
 {
@@ -134,7 +126,6 @@ fn counted_options<'a>(alloc: Global) -> Result<Vec<Arg<'a>>, AllocError>
     ]?)
 }
 
-/// Returns the options that say how directories are read.
 fn walked_options<'a>(alloc: Global) -> Result<Vec<Arg<'a>>, AllocError>
     ensures { IfOk result (λ options. HaveRules options.items walked_rules) }
 {
@@ -162,7 +153,6 @@ fn walked_options<'a>(alloc: Global) -> Result<Vec<Arg<'a>>, AllocError>
     ]?)
 }
 
-/// Returns the words that are no options.
 fn root_option<'a>(alloc: Global) -> Arg<'a>
     ensures rule { rule_of result ≡ root_rule }
     ensures local { result.global ≡ false }
@@ -174,7 +164,6 @@ fn root_option<'a>(alloc: Global) -> Arg<'a>
         .help("What to count [default: the folder that it runs in]")
 }
 
-/// Returns the command with its name, and with the words that are no options.
 fn named<'a>(alloc: Global) -> Result<Command<'a>, AllocError>
     ensures { IfOk result (λ all. app_of all ≡ with_rules named_app (root_rule ∷ [])) }
 {
@@ -184,7 +173,6 @@ fn named<'a>(alloc: Global) -> Result<Command<'a>, AllocError>
         .arg(root_option(alloc))
 }
 
-/// Returns the command line.
 pub(crate) fn command<'a>(alloc: Global) -> Result<Command<'a>, AllocError>
     ensures { IfOk result (λ all. app_of all ≡ tally_app) }
 {

@@ -18,7 +18,7 @@ pub enum Refusal {
     Memory,
 }
 
-/// Returns the status that an error of words ends the program with: 0 for help and for the version.
+/// Help and the version have the status 0.
 fn status_of_kind(kind: ErrorKind) -> u8
     ensures { result ≡ status_of_kind kind }
 {

@@ -14,21 +14,18 @@ use clap::ArgMatches;
 use std::alloc::{AllocError, Global};
 use std::convert::AsStr;
 
-/// Returns whether an option without a value was named.
 fn is_named(found: &ArgMatches<'_>, id: &str) -> bool
     ensures { result ≡ is_named (rows_of (found_of found.now)) id.now }
 {
     found.get_count(id) > 0
 }
 
-/// Returns whether an option has a value.
 fn has_value(found: &ArgMatches<'_>, id: &str) -> bool
     ensures { result ≡ has_value (rows_of (found_of found.now)) id.now }
 {
     found.get_str(id).is_some()
 }
 
-/// Returns a copy of a list of texts.
 fn copied<'w>(alloc: Global, texts: &[&'w str]) -> Result<Vec<&'w str>, AllocError>
     ensures { IfOk result (λ copy. copy.items ≡ texts.now) }
 {
@@ -37,7 +34,6 @@ fn copied<'w>(alloc: Global, texts: &[&'w str]) -> Result<Vec<&'w str>, AllocErr
     Ok(copy)
 }
 
-/// Returns the values of an option.
 fn values_of<'w>(
     alloc: Global,
     found: &ArgMatches<'w>,
@@ -51,14 +47,13 @@ fn values_of<'w>(
     }
 }
 
-/// Returns the number that an option has.
 fn number_of(found: &ArgMatches<'_>, id: &str) -> Option<usize>
     ensures { IsNumberOf (one_of id.now (rows_of (found_of found.now))) result }
 {
     found.get_one::<usize>(id)
 }
 
-/// Returns the greatest depth that is named: 0 where the totals alone are asked for.
+/// It is 0 where the totals alone are asked for.
 fn depth_of(found: &ArgMatches<'_>) -> Option<usize>
     ensures { IsDepthIn (rows_of (found_of found.now)) result }
 {
@@ -70,7 +65,6 @@ fn depth_of(found: &ArgMatches<'_>) -> Option<usize>
     }
 }
 
-/// Returns how results are written.
 fn form_of(found: &ArgMatches<'_>) -> Form
     ensures { result ≡ form_in (rows_of (found_of found.now)) }
 {
@@ -85,7 +79,6 @@ fn form_of(found: &ArgMatches<'_>) -> Form
     }
 }
 
-/// Returns what is asked for by words that were read.
 fn asked_of<'w>(alloc: Global, found: &ArgMatches<'w>) -> Result<Asked<'w>, AllocError>
     ensures { IfOk result (Asks (rows_of (found_of found.now))) }
 {
@@ -110,7 +103,6 @@ fn asked_of<'w>(alloc: Global, found: &ArgMatches<'w>) -> Result<Asked<'w>, Allo
     })
 }
 
-/// Returns an option for lines, if one was named.
 fn lines_option(found: &ArgMatches<'_>) -> Option<&'static str>
     ensures { is_some result ≡ asks_lines (rows_of (found_of found.now)) }
 {
@@ -155,7 +147,6 @@ fn total_conflict(found: &ArgMatches<'_>) -> Option<(&'static str, &'static str)
     }
 }
 
-/// Returns two options that were named and exclude each other.
 fn conflict_of(found: &ArgMatches<'_>) -> Option<(&'static str, &'static str)>
     ensures { is_some result ≡ has_conflict (rows_of (found_of found.now)) }
 {
@@ -165,7 +156,6 @@ fn conflict_of(found: &ArgMatches<'_>) -> Option<(&'static str, &'static str)>
     }
 }
 
-/// Returns the values that words give to options.
 fn matches_of<'w, S: AsStr>(alloc: Global, words: &'w [S]) -> Result<ArgMatches<'w>, Refusal>
     ensures read { IfOk result (λ found. GiveValues (map S.text words.entry.now) (rows_of (found_of found))) }
     ensures refused { IfErr result (IsRefusedFor (map S.text words.entry.now)) }
