@@ -5,14 +5,17 @@ ghost use Rattle.std.specs.Iterator.{IsFinite};
 ghost use Rattle.jwalk.specs.WalkDir.{callback_of};
 ghost use Rattle.jwalk_subtotals.specs.Coming.{ends_with, value};
 ghost use Rattle.jwalk_subtotals.specs.Error.{is_last};
+ghost use Rattle.jwalk_subtotals.specs.Files.{files_of};
 ghost use Rattle.tally_run.specs.Results.{rows_of, Takes};
 ghost use Rattle.tally_run.specs.Counting.{is_clean, TakesAll};
+ghost use Rattle.tally_run.specs.Walks.{subtotals_asked, CountsWalk};
 
 use crate::failure::Failure;
 use crate::report::{report_entry, report_error};
 use crate::results::Results;
 use crate::screen::Screen;
 use crate::shown::Shown;
+use jwalk::crew::{Readers, Session};
 use jwalk::file_system::FileSystem;
 use jwalk::read_dir::ProcessReadDir;
 use jwalk::{ClientState, Crew, Host, WalkDirGeneric};
@@ -112,7 +115,9 @@ fn take_all<
 }
 
 /// Returns what is counted. All subtotals are taken, since the error of a directory comes with its own.
-fn options_of(asked: &Asked<'_>) -> SubtotalOptions {
+fn options_of(asked: &Asked<'_>) -> SubtotalOptions
+    ensures { result ≡ subtotals_asked asked.now }
+{
     SubtotalOptions {
         apparent: asked.apparent,
         each_name: asked.each_name,
@@ -143,6 +148,9 @@ where
     C::ReadDirState: Send + 'static,
     C::DirEntryState: Send + 'static,
     requires { P.IsLawful (callback_of walk) }
+    ensures { IfOk result (CountsWalk S.FileSystem P.ProcessReadDir C.ReadDirState.Clone C.DirEntryState.Default
+        ⟦<Session<T, C, S, P, Global> as Readers<C, S, P, Global>>⟧ walk asked.now (files_of files)
+        results.old (W.contents out.old) results.new (W.contents out.new)) }
 {
     let answers = walk.into_iter();
     let mut subtotals = subtotals_beside(alloc, files, answers, options_of(asked));

@@ -1,9 +1,15 @@
 //! A call of the program.
-ghost use Rattle.std.specs.Prelude.{◌≡◌, ◌<◌, ◌≤◌, true, flat_map, map, string_bytes, Ok, IfOk, OnOk};
+ghost use Rattle.std.specs.Prelude.{◌≡◌, ◌<◌, ◌≤◌, ◌⊎◌, true, flat_map, map, string_bytes, Ok, IfOk, OnOk};
+ghost use Rattle.std.specs.Arc.{arc_value};
 ghost use Rattle.std.specs.Io.KnownBytes.{Appends};
+ghost use Rattle.jwalk_subtotals.specs.Files.{files_of};
 ghost use Rattle.tally_text.specs.Nodes.{trees_of};
+ghost use Rattle.tally_words.specs.Asks.{texts_of};
+ghost use Rattle.tally_words.specs.AsksFor.{AskForText};
 ghost use Rattle.tally_words.specs.Refusal.{status_of as status_for};
-ghost use Rattle.tally_run.specs.Run.{Ends};
+ghost use Rattle.tally_run.specs.Roots.{CountsRoot, CountsRoots};
+ghost use Rattle.tally_run.specs.Run.{roots_asked, Ends, Counts, WritesAsked};
+ghost use Rattle.tally_run.specs.Walks.{counted_below};
 ghost use Rattle.tally_run.specs.Written.{are_lines, scale_asked, separator_of, style_asked, table_of, width_of};
 ghost use Rattle.tally_run.specs.Written.{document_text, trees_text, AreNone, Finishes};
 
@@ -104,7 +110,12 @@ fn count_root<
     results: &mut Results,
     out: &mut W,
     err: &mut E,
-) -> Result<Counted, Failure> {
+) -> Result<Counted, Failure>
+    ensures { IfOk result (CountsRoot (S.IsFixed (arc_value walks.now.disk) × X.IsFixed (arc_value walks.now.texts))
+        (counted_below (S.functions (arc_value walks.now.disk)) (X.functions (arc_value walks.now.texts))
+        walks.now.asked.now root.now) walks.now.asked.now (files_of files)
+        results.old (W.contents out.old) results.new (W.contents out.new)) }
+{
     if !known.add(alloc, walks.disk(), root)? {
         report_root(alloc, walks.screen().shows_errors, root, err)?;
         return Ok(Counted { files, clean: true });
@@ -127,7 +138,12 @@ fn count_roots<
     results: &mut Results,
     out: &mut W,
     err: &mut E,
-) -> Result<bool, Failure> {
+) -> Result<bool, Failure>
+    ensures { IfOk result (CountsRoots (S.IsFixed (arc_value walks.now.disk) × X.IsFixed (arc_value walks.now.texts))
+        (counted_below (S.functions (arc_value walks.now.disk)) (X.functions (arc_value walks.now.texts))
+        walks.now.asked.now) walks.now.asked.now (texts_of roots.now)
+        results.old (W.contents out.old) results.new (W.contents out.new)) }
+{
     let mut known = Roots::new(alloc, walks.asked().one_file_system);
     let mut files = Files::new(alloc);
     let mut clean = true;
@@ -152,7 +168,12 @@ fn count_asked<
     results: &mut Results,
     out: &mut W,
     err: &mut E,
-) -> Result<bool, Failure> {
+) -> Result<bool, Failure>
+    ensures { IfOk result (CountsRoots (S.IsFixed (arc_value walks.now.disk) × X.IsFixed (arc_value walks.now.texts))
+        (counted_below (S.functions (arc_value walks.now.disk)) (X.functions (arc_value walks.now.texts))
+        walks.now.asked.now) walks.now.asked.now (roots_asked walks.now.asked.now)
+        results.old (W.contents out.old) results.new (W.contents out.new)) }
+{
     let roots = walks.asked().roots.as_slice();
     if roots.is_empty() {
         return count_roots(alloc, walks, &["."], results, out, err);
@@ -282,7 +303,10 @@ fn tally<
     screen: Screen,
     out: &mut W,
     err: &mut E,
-) -> Result<bool, Failure> {
+) -> Result<bool, Failure>
+    ensures { IfOk result (λ clean. clean ≡ true → WritesAsked (S.IsFixed disk × X.IsFixed texts) (S.functions disk)
+        (X.functions texts) screen asked.now (W.contents out.old) (W.contents out.new)) }
+{
     let walks = Walks::new(rt, alloc, asked, screen, disk, texts)?;
     let mut results = results_of(alloc, asked, screen)?;
     let clean = count_asked(alloc, &walks, &mut results, out, err)?;
@@ -342,6 +366,9 @@ pub fn run<
     ensures status { result ≤ 2 }
     ensures ends { Ends (map string_bytes words.now) result }
     ensures untouched { result ≡ 2 → W.contents out.new ≡ W.contents out.old }
+    ensures done { result ≡ 0 → AskForText (map string_bytes words.now)
+        ⊎ Counts (S.IsFixed disk × X.IsFixed texts) (S.functions disk) (X.functions texts) screen
+        (map string_bytes words.now) (W.contents out.old) (W.contents out.new) }
 {
     match read_words(alloc, words) {
         Ok(asked) => {
