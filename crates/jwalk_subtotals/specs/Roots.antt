@@ -19,7 +19,7 @@ abbrev pub usage_in : Subtotal → Usage
 usage_in t = record { files = t.files; dirs = t.dirs; links = t.links; others = t.others; errors = t.errors; bytes = t.file_bytes }
 
 module _ {R E : Type 0} where
-  -- the subtotals of the roots among up to so many answers: of the first, and of those among the answers that aren't below it
+  -- the subtotals of the roots among the first answers, as many as the number says: of the first, and of those not below it
   abbrev pub roots_among : ℕ → List (Weighed R E) → List Subtotal
   roots_among zero l = []
   roots_among (suc n) [] = []
