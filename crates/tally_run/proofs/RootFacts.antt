@@ -3,7 +3,7 @@ use Rattle.std.proofs.Common.{◌≡◌, ◌∙◌, ◌+◌, ◌<◌, ◌⊎◌,
 use Rattle.std.specs.Prelude.{get_or}
 use Rattle.std.specs.Borrow.{Bor}
 use Rattle.std.proofs.lemmas.Grind.{flat_map-append}
-use Rattle.std.proofs.lemmas.List.{map-append, take_more}
+use Rattle.std.proofs.lemmas.List.{length-append, map-append, take_more}
 use Rattle.jwalk.specs.jwalk_model.Counted.{Worth}
 use Rattle.jwalk.specs.jwalk_model.declared.metadata.Identity.{Identity}
 use Rattle.jwalk.specs.jwalk_model.Entry.{Item}
@@ -35,6 +35,10 @@ module _ {X : Type 0} where
   one_in (y ∷ xs) left x (inl (rest, is, more)) = inl (rest ++ x ∷ [], ap (λ (l : List X). l ++ x ∷ []) is, one_in xs rest x more)
   one_in (y ∷ xs) left x (inr more) = inr (one_in xs left x more)
 
+-- two lists are as long with one more
+one_longer : {X Y : Type 0} (xs : List X) (ys : List Y) (x : X) (y : Y) → length xs ≡ length ys → length (xs ++ x ∷ []) ≡ length (ys ++ y ∷ [])
+one_longer xs ys x y same = length-append xs (x ∷ []) ∙ ap (λ (n : ℕ). n + 1) same ∙ sym (length-append ys (y ∷ []))
+
 -- one root more
 roots_more : (roots : List (Bor (List ℕ))) (i : ℕ) (d : Bor (List ℕ)) → i < length roots → texts_of (take (i + 1) roots) ≡ texts_of (take i roots) ++ (get_or roots i d).now ∷ []
 roots_more roots i d below = ap texts_of (take_more roots i d below) ∙ map-append (λ it. it.now) (take i roots) (get_or roots i d ∷ [])
@@ -65,6 +69,7 @@ module _ (fixed : Type 0) (below : List ℕ → List (Item Worth Worth)) (asked 
     pub counted : List (List ℕ)
     pub among : LeavesOut roots counted
     pub answered : List (List (Item Worth Worth))
+    pub each : length answered ≡ length counted
     pub whole : fixed → clean ≡ true → answered ≡ map below counted
     pub taken : Takes (rows_of (shown_asked asked) (all_subtotals (subtotals_asked asked) [] answered)) old before new after
     pub remembered : HaveSame files (files_behind (subtotals_asked asked) [] answered)
@@ -75,6 +80,7 @@ module _ (fixed : Type 0) (below : List ℕ → List (Item Worth Worth)) (asked 
     counted = [];
     among = refl;
     answered = [];
+    each = refl;
     whole = λ _ _. refl;
     taken = takes_none old before;
     remembered = subst (λ (l : List Identity). HaveSame l []) (sym none) (λ i. refl);
@@ -88,6 +94,7 @@ module _ (fixed : Type 0) (below : List ℕ → List (Item Worth Worth)) (asked 
       counted = so_far.counted;
       among = subst (λ (l : List (List ℕ)). LeavesOut l so_far.counted) (sym (roots_more roots i d is_one)) (one_out (texts_of (take i roots)) so_far.counted (get_or roots i d).now so_far.among);
       answered = so_far.answered;
+      each = so_far.each;
       whole = λ always is. so_far.whole always (both_first clean counted.clean is);
       taken = subst (λ (r : Results). Takes (rows_of (shown_asked asked) (all_subtotals (subtotals_asked asked) [] so_far.answered)) old before r after) (sym out.untaken)
           (subst (λ (w : Option (List ℕ)). Takes (rows_of (shown_asked asked) (all_subtotals (subtotals_asked asked) [] so_far.answered)) old before mid w) (sym out.unwritten) so_far.taken);
@@ -108,6 +115,7 @@ module _ (fixed : Type 0) (below : List ℕ → List (Item Worth Worth)) (asked 
           counted = so_far.counted ++ root ∷ [];
           among = subst (λ (r : List (List ℕ)). LeavesOut r (so_far.counted ++ root ∷ [])) (sym (roots_more roots i d is_one)) (one_in (texts_of (take i roots)) so_far.counted root so_far.among);
           answered = ls ++ l ∷ [];
+          each = one_longer ls so_far.counted l root so_far.each;
           whole = λ always is.
               ap₂ (λ (a : List (List (Item Worth Worth))) (b : List (Item Worth Worth)). a ++ b ∷ []) (so_far.whole always (both_first clean counted.clean is)) (counts.whole always (both_second clean counted.clean is))
               ∙ sym (map-append below so_far.counted (root ∷ []));
@@ -130,6 +138,7 @@ module _ (fixed : Type 0) (below : List ℕ → List (Item Worth Worth)) (asked 
     counted = so_far.counted;
     among = so_far.among;
     answered = so_far.answered;
+    each = so_far.each;
     whole = so_far.whole;
     taken = so_far.taken;
   }
@@ -141,6 +150,7 @@ roots_as is counts = record {
   counted = counts.counted;
   among = subst (λ (l : List (List ℕ)). LeavesOut l counts.counted) is counts.among;
   answered = counts.answered;
+  each = counts.each;
   whole = counts.whole;
   taken = counts.taken;
 }

@@ -1,5 +1,6 @@
 -- What is counted of a walk doesn't go by its states.
 use Rattle.std.proofs.Common.{◌≡◌, ◌∙◌, ℕ, Bool, true, false, List, [], ◌∷◌, ◌++◌, map, Option, Ok, Err, refl, sym, ap, ap₂, subst}
+use Rattle.std.specs.Prelude.{flat_map, if◌then◌else◌}
 use Rattle.std.specs.Iterator.{Drains}
 use Rattle.std.specs.declared.clone.Clone as Clone
 use Rattle.std.specs.declared.default.Default as Default
@@ -15,19 +16,32 @@ use Rattle.jwalk.specs.jwalk_job.declared.process_read_dir.ProcessReadDir as Pro
 use Rattle.jwalk.specs.jwalk_job.Given.{Given, counted_item}
 use Rattle.jwalk.specs.jwalk_job.Job.{IsSteady}
 use Rattle.jwalk.specs.jwalk_core.declared.readers.Readers as Readers
-use Rattle.jwalk.specs.WalkDir.{callback_of, file_system_of, job_for, root_of, state_of}
+use Rattle.jwalk.specs.jwalk_core.declared.dir_entry_iter.DirEntryIter.{DirEntryIter}
+use Rattle.jwalk.specs.jwalk_core.DirEntryIter.{Answers, StartsSteady}
+use Rattle.jwalk.specs.tree_crew.declared.crew.NotStarted.{NotStarted}
+use Rattle.jwalk.specs.WalkDir.{HoldsUnless, Starts, callback_of, file_system_of, job_for, root_of, state_of}
 use Rattle.jwalk.specs.declared.walk_dir.WalkDirGeneric.{WalkDirGeneric}
+use Rattle.jwalk.specs.jwalk_job.Entry.{item}
+use Rattle.jwalk.proofs.CleanFacts.{clean_whole}
+use Rattle.jwalk.proofs.WholeFacts.{steady_begun}
 use Rattle.jwalk_ignore.specs.Callback.Kept.{job_with}
-use Rattle.jwalk_subtotals.specs.Counted.{is_among}
+use Rattle.jwalk_ignore.specs.Rules.Texts.{Texts}
+use Rattle.jwalk_subtotals.specs.Coming.{Gives, IsFreshBeside, answers_of, held, options_of, value}
+use Rattle.jwalk_subtotals.specs.Counted.{HaveSame, files_after, is_among}
+use Rattle.jwalk_subtotals.specs.Files.{files_of}
 use Rattle.jwalk_subtotals.specs.Subtotals.{Yielded, subtotals_beside, yielded_by}
+use Rattle.jwalk_subtotals.specs.declared.iter.Subtotals.{Subtotals}
 use Rattle.jwalk_subtotals.proofs.StateFacts.{files_same, subtotals_same}
+use Rattle.jwalk_subtotals.proofs.WholeFacts.{all_yielded_beside}
+use Rattle.tally_run.specs.Counting.{TakesAll}
 use Rattle.tally_words.specs.declared.asked.Asked.{Asked}
 use Rattle.tally_run.specs.Results.{Row, Takes, row_of, rows_of}
 use Rattle.tally_run.specs.Shown.{shown_asked}
-use Rattle.tally_run.specs.Walks.{CountsBelow, CountsWalk, options_asked, options_by, subtotals_asked}
+use Rattle.tally_run.specs.Walks.{CountsBelow, CountsWalk, all_below, counted_below, kept_below, options_asked, options_by, subtotals_asked}
 use Rattle.tally_run.specs.declared.counting.Counted.{Counted}
 use Rattle.tally_run.specs.declared.results.Results.{Results}
 use Rattle.tally_run.specs.declared.shown.Shown.{Shown}
+use Rattle.tally_run.proofs.CountingFacts.{answers_ok}
 
 module _ {R E V W : Type 0} (view : R → V) (mark : E → W) (shown : Shown) where
   row_same : (y : Yielded R E) → row_of shown (yielded_by view mark y) ≡ row_of shown y
@@ -64,6 +78,13 @@ below_as always is counts = record {
   remembered = counts.remembered;
 }
 
+-- what is counted below a root, with ignore files and without
+pub kept_counted : (fs : Functions) (texts : Texts) (asked : Asked) (root : List ℕ) → asked.ignore ≡ true → kept_below fs texts asked root ≡ counted_below fs texts asked root
+kept_counted fs texts asked root is = ap (λ (b : Bool). if b then kept_below fs texts asked root else all_below fs asked root) (sym is)
+
+pub all_counted : (fs : Functions) (texts : Texts) (asked : Asked) (root : List ℕ) → asked.ignore ≡ false → all_below fs asked root ≡ counted_below fs texts asked root
+all_counted fs texts asked root is = ap (λ (b : Bool). if b then kept_below fs texts asked root else all_below fs asked root) (sym is)
+
 -- it doesn't matter whether a crew reads
 pub same_by_crew : (processed : Processing Worth Worth) (by_crew : Bool) (fs : Functions) (asked : Asked) (root : List ℕ) (state : Worth)
     → whole_walk (job_with fs (options_by by_crew asked) processed) root state ≡ whole_walk (job_with fs (options_asked asked) processed) root state
@@ -77,10 +98,26 @@ unfolding whole_walk
 hidden_by_crew processed true fs asked root state = refl
 hidden_by_crew processed false fs asked root state = refl
 
--- calls from the same state
-pub drains_as : {S X : Type 0} {next : S → Option X → S → Type 0} {s t : S} {xs : List X} → s ≡ t → Drains next s xs → Drains next t xs
-drains_as {next = next} {xs = xs} is drains = subst (λ i. Drains next i xs) is drains
-
--- the same results
-pub taken_as : {R E : Type 0} {shown shown' : Shown} {ys zs : List (Yielded R E)} {old new : Results} {before after : Option (List ℕ)} → shown ≡ shown' → ys ≡ zs → Takes (rows_of shown ys) old before new after → Takes (rows_of shown' zs) old before new after
-taken_as {old = old} {new = new} {before = before} {after = after} shown_is is taken = subst (λ (rows : List Row). Takes rows old before new after) (ap₂ (λ s l. rows_of s l) shown_is is) taken
+module _ {C S P A W L R E : Type 0} (files : FileSystem.Ghosts S) (process : ProcessReadDir.Ghosts P C A R E) (clone : Clone.Ghosts R) (defaults : Default.Ghosts E) (readers : Readers.Ghosts L C S P A R E) (walk : WalkDirGeneric C S P A W R E) (it : DirEntryIter C S P A L R E) where
+  -- what is taken of the subtotals of a walk, from its beginning until its end, is counted of it
+  pub walk_counted : (asked : Asked) (known : List Identity) (old new : Results) (before after : Option (List ℕ)) (counted : Counted) (start end : Subtotals C A (DirEntryIter C S P A L R E) R E) (why_not : Option NotStarted)
+      → Starts walk it → HoldsUnless files process clone defaults why_not walk it → StartsSteady files process clone defaults readers it
+      → IsFreshBeside known start → answers_of start ≡ it → options_of start ≡ subtotals_asked asked
+      → TakesAll (Gives (Answers files process clone defaults readers)) (shown_asked asked) start end old before new after counted.clean → HaveSame (files_of counted.files) (held end).files
+      → CountsWalk files process clone defaults readers walk asked known old before new after counted
+  walk_counted asked known old new before after counted start end why_not starts holds steadily fresh same options took remembered =
+      let next = Answers files process clone defaults readers in
+      let o = subtotals_asked asked in
+      let all = all_yielded_beside next known start end took.yielded fresh took.calls took.goes_on in
+      let xs = all.0 in
+      let drains = subst (λ i. Drains next i xs) same all.1 in
+      let told : subtotals_beside o known (map item xs) ≡ flat_map value took.yielded = ap (λ s. subtotals_beside s known (map item xs)) (sym options) ∙ all.2 in
+      record {
+        answered = map item xs;
+        walked = (it, starts, xs, drains, refl);
+        whole = λ is given steady.
+            clean_whole files process clone defaults readers given walk it xs why_not holds (steady_begun files process clone defaults readers given walk it steadily starts steady) starts steady drains
+            (answers_ok o known xs (flat_map value took.yielded) told (sym took.tells ∙ is));
+        taken = subst (λ l. Takes (rows_of (shown_asked asked) l) old before new after) (sym told) took.taken;
+        remembered = λ i. remembered i ∙ all.3 i ∙ ap (λ s. is_among (files_after s known (map item xs)) i) options;
+      }

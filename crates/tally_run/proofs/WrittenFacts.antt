@@ -51,6 +51,7 @@ asked_written {fixed} {fixed'} {fs} {fs'} {texts} {texts'} {asked} {asked'} {scr
       counted = same.counted;
       among = same.among;
       answered = same.answered;
+      each = same.each;
       whole = λ h.
           same.whole (always h) is
           ∙ ap (λ (f : Functions). map (counted_below f texts' asked) same.counted) fs_are

@@ -1,5 +1,5 @@
 -- What is counted below several roots.
-use Rattle.std.specs.Prelude.{◌≡◌, ◌⊎◌, ℕ, Bool, true, List, [], ◌∷◌, ◌++◌, map, Option}
+use Rattle.std.specs.Prelude.{◌≡◌, ◌⊎◌, ℕ, Bool, true, List, [], ◌∷◌, ◌++◌, length, map, Option}
 use Rattle.jwalk.specs.jwalk_model.Counted.{Worth}
 use Rattle.jwalk.specs.jwalk_model.declared.metadata.Identity.{Identity}
 use Rattle.jwalk.specs.jwalk_model.Entry.{Item}
@@ -42,10 +42,11 @@ abbrev pub CountsRoot : Type 0 → List (Item Worth Worth) → Asked → List Id
 CountsRoot fixed below asked known old before new after counted =
     IsLeftOut known old before new after counted ⊎ CountsBelow fixed below asked known old before new after counted
 
--- The roots are counted, but for those that are left out, and what is written of their subtotals is taken, of all in one. If there was no error, and what is gone over always answers the same, they are of the whole walks below these roots.
+-- The roots are counted, but for those that are left out. What is written of the subtotals of answers, a list for each root that is counted, is taken, of all in one. If there was no error, and what is gone over always answers the same, these are the whole walks below the roots.
 pub record CountsRoots (fixed : Type 0) (below : List ℕ → List (Item Worth Worth)) (asked : Asked) (roots : List (List ℕ)) (old : Results) (before : Option (List ℕ)) (new : Results) (after : Option (List ℕ)) (clean : Bool) : Type 0 where
   pub counted : List (List ℕ)
   pub among : LeavesOut roots counted
   pub answered : List (List (Item Worth Worth))
+  pub each : length answered ≡ length counted
   pub whole : fixed → clean ≡ true → answered ≡ map below counted
   pub taken : Takes (rows_of (shown_asked asked) (all_subtotals (subtotals_asked asked) [] answered)) old before new after

@@ -83,7 +83,7 @@ pub record CountsWalk {C S P A W L R E : Type 0} (files : FileSystem.Ghosts S) (
   pub taken : Takes (rows_of (shown_asked asked) (subtotals_beside (subtotals_asked asked) known answered)) old before new after
   pub remembered : HaveSame (files_of counted.files) (files_after (subtotals_asked asked) known answered)
 
--- So it is of a root, whatever states its walk has.
+-- What is written of the subtotals of answers is taken, beside the files that were counted before. If there was no error, and what the walk goes over always answers the same, these are all that is below a root, by value.
 pub record CountsBelow (fixed : Type 0) (below : List (Item Worth Worth)) (asked : Asked) (known : List Identity) (old : Results) (before : Option (List ℕ)) (new : Results) (after : Option (List ℕ)) (counted : Counted) : Type 0 where
   pub answered : List (Item Worth Worth)
   pub whole : fixed → counted.clean ≡ true → answered ≡ below
