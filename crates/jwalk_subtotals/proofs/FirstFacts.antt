@@ -6,7 +6,7 @@ use Rattle.jwalk.specs.jwalk_model.declared.metadata.Identity.{Identity}
 use Rattle.jwalk.specs.jwalk_model.Metadata.{same_file}
 use Rattle.jwalk.specs.jwalk_model.Entry.{Entry, Item}
 use Rattle.jwalk_subtotals.specs.Counted.{counted_once, is_among, is_repeated, size_kept, weighed, with_file}
-use Rattle.jwalk_subtotals.specs.Firsts.{RootsAreFirsts, are_same, first_size, first_sizes, is_name_of}
+use Rattle.jwalk_subtotals.specs.Firsts.{RootsAreFirsts, are_same, first_sizes, is_name_of}
 use Rattle.jwalk_subtotals.specs.Subtotals.{total}
 use Rattle.jwalk_subtotals.specs.declared.options.SubtotalOptions.{SubtotalOptions}
 use Rattle.jwalk_subtotals.specs.declared.subtotal.Subtotal.{Subtotal}

@@ -100,12 +100,12 @@ hidden_by_crew processed false fs asked root state = refl
 
 module _ {C S P A W L R E : Type 0} (files : FileSystem.Ghosts S) (process : ProcessReadDir.Ghosts P C A R E) (clone : Clone.Ghosts R) (defaults : Default.Ghosts E) (readers : Readers.Ghosts L C S P A R E) (walk : WalkDirGeneric C S P A W R E) (it : DirEntryIter C S P A L R E) where
   -- what is taken of the subtotals of a walk, from its beginning until its end, is counted of it
-  pub walk_counted : (asked : Asked) (known : List Identity) (old new : Results) (before after : Option (List ℕ)) (counted : Counted) (start end : Subtotals C A (DirEntryIter C S P A L R E) R E) (why_not : Option NotStarted)
+  pub walk_counted : (asked : Asked) (known : List Identity) (old new : Results) (before after : Option (List ℕ)) (counted : Counted) (start end : Subtotals C A (DirEntryIter C S P A L R E) R E) (shown : Shown) (why_not : Option NotStarted)
       → Starts walk it → HoldsUnless files process clone defaults why_not walk it → StartsSteady files process clone defaults readers it
-      → IsFreshBeside known start → answers_of start ≡ it → options_of start ≡ subtotals_asked asked
-      → TakesAll (Gives (Answers files process clone defaults readers)) (shown_asked asked) start end old before new after counted.clean → HaveSame (files_of counted.files) (held end).files
+      → IsFreshBeside known start → answers_of start ≡ it → options_of start ≡ subtotals_asked asked → shown ≡ shown_asked asked
+      → TakesAll (Gives (Answers files process clone defaults readers)) shown start end old before new after counted.clean → HaveSame (files_of counted.files) (held end).files
       → CountsWalk files process clone defaults readers walk asked known old before new after counted
-  walk_counted asked known old new before after counted start end why_not starts holds steadily fresh same options took remembered =
+  walk_counted asked known old new before after counted start end shown why_not starts holds steadily fresh same options shown_is took remembered =
       let next = Answers files process clone defaults readers in
       let o = subtotals_asked asked in
       let all = all_yielded_beside next known start end took.yielded fresh took.calls took.goes_on in
@@ -118,6 +118,6 @@ module _ {C S P A W L R E : Type 0} (files : FileSystem.Ghosts S) (process : Pro
         whole = λ is given steady.
             clean_whole files process clone defaults readers given walk it xs why_not holds (steady_begun files process clone defaults readers given walk it steadily starts steady) starts steady drains
             (answers_ok o known xs (flat_map value took.yielded) told (sym took.tells ∙ is));
-        taken = subst (λ l. Takes (rows_of (shown_asked asked) l) old before new after) (sym told) took.taken;
+        taken = subst (λ (rows : List Row). Takes rows old before new after) (ap₂ (λ s l. rows_of s l) shown_is (sym told)) took.taken;
         remembered = λ i. remembered i ∙ all.3 i ∙ ap (λ s. is_among (files_after s known (map item xs)) i) options;
       }
