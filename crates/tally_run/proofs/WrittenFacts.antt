@@ -1,5 +1,5 @@
 -- Results that are taken and then written.
-use Rattle.std.proofs.Common.{◌≡◌, ◌∙◌, ℕ, Bool, true, false, List, [], ◌++◌, Option, None, Some, append-nil, map, refl, sym, ap, subst}
+use Rattle.std.proofs.Common.{◌≡◌, ◌∙◌, ℕ, Bool, true, List, [], ◌++◌, Option, None, Some, append-nil, map, sym, ap, subst}
 use Rattle.std.specs.Io.KnownBytes.{Appends, append_known}
 use Rattle.jwalk.specs.jwalk_model.FileSystem.{Functions}
 use Rattle.jwalk_ignore.specs.Rules.Texts.{Texts}
@@ -12,7 +12,7 @@ use Rattle.tally_run.specs.Results.{ArePushed, Row, Takes, gathered_of, lines_te
 use Rattle.tally_run.specs.Roots.{CountsRoots}
 use Rattle.tally_run.specs.Run.{WritesAsked, roots_asked}
 use Rattle.tally_run.specs.Walks.{counted_below}
-use Rattle.tally_run.specs.Written.{AreNone, Finishes, Writes, WritesAs, are_lines, style_asked, trees_text}
+use Rattle.tally_run.specs.Written.{AreNone, Finishes, Writes, WritesAs, style_asked, trees_text}
 use Rattle.tally_run.specs.declared.results.Results.{Results}
 use Rattle.tally_run.specs.declared.results.Results.TheVariants as results
 use Rattle.tally_run.specs.declared.screen.Screen.{Screen}
