@@ -2,6 +2,7 @@
 use Rattle.std.proofs.Common.{◌≡◌, ◌∙◌, ◌+◌, ◌<◌, ℕ, Bool, true, false, ◌&&◌, List, [], ◌∷◌, ◌++◌, append-nil, append_assoc, map, take, length, Option, inl, inr, refl, sym, ap, ap₂, subst}
 use Rattle.std.specs.Prelude.{get_or}
 use Rattle.std.specs.Borrow.{Bor}
+use Rattle.std.specs.List.{list_all}
 use Rattle.std.proofs.lemmas.Grind.{flat_map-append}
 use Rattle.std.proofs.lemmas.List.{length-append, map-append, take_more}
 use Rattle.jwalk.specs.jwalk_model.Counted.{Worth}
@@ -14,12 +15,14 @@ use Rattle.jwalk_subtotals.specs.declared.options.SubtotalOptions.{SubtotalOptio
 use Rattle.jwalk_subtotals.proofs.ComingFacts.{after_same, weighed_same}
 use Rattle.tally_words.specs.Asks.{texts_of}
 use Rattle.tally_words.specs.declared.asked.Asked.{Asked}
+use Rattle.tally_run.specs.Counting.{is_clean}
 use Rattle.tally_run.specs.Results.{Row, Takes, row_of, rows_of}
 use Rattle.tally_run.specs.Roots.{CountsRoot, CountsRoots, IsLeftOut, LeavesOut, all_subtotals, files_behind}
 use Rattle.tally_run.specs.Shown.{shown_asked}
 use Rattle.tally_run.specs.Walks.{CountsBelow, subtotals_asked}
 use Rattle.tally_run.specs.declared.counting.Counted.{Counted}
 use Rattle.tally_run.specs.declared.results.Results.{Results}
+use Rattle.tally_run.proofs.CountingFacts.{all_seam}
 use Rattle.tally_run.proofs.ResultFacts.{takes_none, takes_then}
 
 module _ {X : Type 0} where
@@ -63,6 +66,10 @@ both_second : (a b : Bool) → (a && b) ≡ true → b ≡ true
 both_second true b is = is
 both_second false b is = absurd (cc is)
 
+and_true : (a : Bool) → (a && true) ≡ a
+and_true true = refl
+and_true false = refl
+
 module _ (fixed : Type 0) (below : List ℕ → List (Item Worth Worth)) (asked : Asked) (old : Results) (before : Option (List ℕ)) where
   -- The roots so far are counted, with these files.
   pub record RootsSoFar (roots : List (List ℕ)) (files : List Identity) (new : Results) (after : Option (List ℕ)) (clean : Bool) : Type 0 where
@@ -72,6 +79,7 @@ module _ (fixed : Type 0) (below : List ℕ → List (Item Worth Worth)) (asked 
     pub each : length answered ≡ length counted
     pub whole : fixed → clean ≡ true → answered ≡ map below counted
     pub taken : Takes (rows_of (shown_asked asked) (all_subtotals (subtotals_asked asked) [] answered)) old before new after
+    pub tells : clean ≡ list_all is_clean (all_subtotals (subtotals_asked asked) [] answered)
     pub remembered : HaveSame files (files_behind (subtotals_asked asked) [] answered)
 
   -- no roots
@@ -83,6 +91,7 @@ module _ (fixed : Type 0) (below : List ℕ → List (Item Worth Worth)) (asked 
     each = refl;
     whole = λ _ _. refl;
     taken = takes_none old before;
+    tells = refl;
     remembered = subst (λ (l : List Identity). HaveSame l []) (sym none) (λ i. refl);
   }
 
@@ -98,6 +107,7 @@ module _ (fixed : Type 0) (below : List ℕ → List (Item Worth Worth)) (asked 
       whole = λ always is. so_far.whole always (both_first clean counted.clean is);
       taken = subst (λ (r : Results). Takes (rows_of (shown_asked asked) (all_subtotals (subtotals_asked asked) [] so_far.answered)) old before r after) (sym out.untaken)
           (subst (λ (w : Option (List ℕ)). Takes (rows_of (shown_asked asked) (all_subtotals (subtotals_asked asked) [] so_far.answered)) old before mid w) (sym out.unwritten) so_far.taken);
+      tells = ap₂ (λ (a b : Bool). a && b) so_far.tells out.without_error ∙ and_true (list_all is_clean (all_subtotals (subtotals_asked asked) [] so_far.answered));
       remembered = subst (λ (l : List Identity). HaveSame l (files_behind (subtotals_asked asked) [] so_far.answered)) (sym out.remembered) so_far.remembered;
     }
 
@@ -123,6 +133,9 @@ module _ (fixed : Type 0) (below : List ℕ → List (Item Worth Worth)) (asked 
               (sym (ap (rows_of shown) (subtotals_more o [] ls l) ∙ flat_map-append (row_of shown) (all_subtotals o [] ls) (subtotals_beside o known l)))
               (takes_then (rows_of shown (all_subtotals o [] ls)) (rows_of shown (subtotals_beside o known l)) old mid new before during after so_far.taken
               (subst (λ w. Takes (rows_of shown (listed_all o w)) mid during new after) (weighed_same o files known so_far.remembered l) counts.taken));
+          tells =
+              ap₂ (λ (a b : Bool). a && b) so_far.tells (counts.tells ∙ ap (λ w. list_all is_clean (listed_all o w)) (weighed_same o files known so_far.remembered l))
+              ∙ sym (ap (list_all is_clean) (subtotals_more o [] ls l) ∙ all_seam is_clean (all_subtotals o [] ls) (subtotals_beside o known l));
           remembered = λ j. counts.remembered j ∙ after_same o files known so_far.remembered l j ∙ ap (λ (fs : List Identity). is_among fs j) (sym (files_more o [] ls l));
         }
 
@@ -141,6 +154,7 @@ module _ (fixed : Type 0) (below : List ℕ → List (Item Worth Worth)) (asked 
     each = so_far.each;
     whole = so_far.whole;
     taken = so_far.taken;
+    tells = so_far.tells;
   }
 
 -- the same roots
@@ -153,4 +167,5 @@ roots_as is counts = record {
   each = counts.each;
   whole = counts.whole;
   taken = counts.taken;
+  tells = counts.tells;
 }

@@ -1,7 +1,8 @@
 -- What is counted of a walk doesn't go by its states.
-use Rattle.std.proofs.Common.{◌≡◌, ◌∙◌, ℕ, Bool, true, false, List, [], ◌∷◌, ◌++◌, map, Option, Ok, Err, refl, sym, ap, ap₂, subst}
+use Rattle.std.proofs.Common.{◌≡◌, ◌∙◌, ℕ, Bool, true, false, List, [], ◌∷◌, ◌++◌, ◌&&◌, map, Option, None, Some, Ok, Err, refl, sym, ap, ap₂, subst}
 use Rattle.std.specs.Prelude.{flat_map, if◌then◌else◌}
 use Rattle.std.specs.Iterator.{Drains}
+use Rattle.std.specs.List.{list_all}
 use Rattle.std.specs.declared.clone.Clone as Clone
 use Rattle.std.specs.declared.default.Default as Default
 use Rattle.jwalk.specs.jwalk_model.Counted.{Worth}
@@ -33,7 +34,7 @@ use Rattle.jwalk_subtotals.specs.Subtotals.{Yielded, subtotals_beside, yielded_b
 use Rattle.jwalk_subtotals.specs.declared.iter.Subtotals.{Subtotals}
 use Rattle.jwalk_subtotals.proofs.StateFacts.{files_same, subtotals_same}
 use Rattle.jwalk_subtotals.proofs.WholeFacts.{all_yielded_beside}
-use Rattle.tally_run.specs.Counting.{TakesAll}
+use Rattle.tally_run.specs.Counting.{TakesAll, is_clean}
 use Rattle.tally_words.specs.declared.asked.Asked.{Asked}
 use Rattle.tally_run.specs.Results.{Row, Takes, row_of, rows_of}
 use Rattle.tally_run.specs.Shown.{shown_asked}
@@ -52,6 +53,15 @@ module _ {R E V W : Type 0} (view : R → V) (mark : E → W) (shown : Shown) wh
   rows_same [] = refl
   rows_same (y ∷ ys) = ap₂ (λ (a b : List Row). a ++ b) (row_same y) (rows_same ys)
 
+  one_clean : (y : Yielded R E) → is_clean (yielded_by view mark y) ≡ is_clean y
+  one_clean (Err f) = refl
+  one_clean (Ok (e, t)) =
+      elim e.read_children as (λ o. is_clean (yielded_by view mark (Ok (record e { read_children = o }, t))) ≡ is_clean {R = R} {E = E} (Ok (record e { read_children = o }, t))) [ None ↦ refl | Some c ↦ refl ]
+
+  all_clean : (ys : List (Yielded R E)) → list_all is_clean (map (yielded_by view mark) ys) ≡ list_all is_clean ys
+  all_clean [] = refl
+  all_clean (y ∷ ys) = ap₂ (λ (a b : Bool). a && b) (one_clean y) (all_clean ys)
+
 -- what is counted of a walk is counted of what it yields by value
 pub below_counted : {C S P A W L R E : Type 0} (files : FileSystem.Ghosts S) (process : ProcessReadDir.Ghosts P C A R E) (clone : Clone.Ghosts R) (defaults : Default.Ghosts E) (readers : Readers.Ghosts L C S P A R E) (walk : WalkDirGeneric C S P A W R E) (given : Given R E) (fixed : Type 0) (below : List (Item Worth Worth)) (asked : Asked) (known : List Identity) (old new : Results) (before after : Option (List ℕ)) (counted : Counted)
     → (fixed → IsSteady files process clone defaults (file_system_of walk) (callback_of walk) given) → (fixed → whole_walk (job_for files given walk) (root_of walk) (given.read_dir_state (state_of walk)) ≡ below)
@@ -65,6 +75,9 @@ below_counted files process clone defaults readers walk given fixed below asked 
       taken = subst (λ (rows : List Row). Takes rows old before new after)
           (sym (ap (rows_of shown) (subtotals_same given.read_dir_state given.dir_entry_state o known counts.answered) ∙ rows_same given.read_dir_state given.dir_entry_state shown (subtotals_beside o known counts.answered)))
           counts.taken;
+      tells =
+          counts.tells
+          ∙ sym (ap (list_all is_clean) (subtotals_same given.read_dir_state given.dir_entry_state o known counts.answered) ∙ all_clean given.read_dir_state given.dir_entry_state shown (subtotals_beside o known counts.answered));
       remembered = λ i. counts.remembered i ∙ ap (λ (l : List Identity). is_among l i) (sym (files_same given.read_dir_state given.dir_entry_state o known counts.answered));
     }
 
@@ -75,6 +88,7 @@ below_as always is counts = record {
   answered = counts.answered;
   whole = λ fixed clean. counts.whole (always fixed) clean ∙ is;
   taken = counts.taken;
+  tells = counts.tells;
   remembered = counts.remembered;
 }
 
@@ -119,5 +133,6 @@ module _ {C S P A W L R E : Type 0} (files : FileSystem.Ghosts S) (process : Pro
             clean_whole files process clone defaults readers given walk it xs why_not holds (steady_begun files process clone defaults readers given walk it steadily starts steady) starts steady drains
             (answers_ok o known xs (flat_map value took.yielded) told (sym took.tells ∙ is));
         taken = subst (λ (rows : List Row). Takes rows old before new after) (ap₂ (λ s l. rows_of s l) shown_is (sym told)) took.taken;
+        tells = took.tells ∙ ap (list_all is_clean) (sym told);
         remembered = λ i. remembered i ∙ all.3 i ∙ ap (λ s. is_among (files_after s known (map item xs)) i) options;
       }

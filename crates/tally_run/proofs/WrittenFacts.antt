@@ -56,5 +56,6 @@ asked_written {fixed} {fixed'} {fs} {fs'} {texts} {texts'} {asked} {asked'} {scr
           same.whole (always h) is
           ∙ ap (λ (f : Functions). map (counted_below f texts' asked) same.counted) fs_are
           ∙ ap (λ (t : Texts). map (counted_below fs t asked) same.counted) texts_are;
+      clean = sym same.tells ∙ is;
       written = all_written asked screen _ none all before mid after empty same.taken rest;
     }

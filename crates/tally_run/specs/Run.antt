@@ -1,5 +1,6 @@
 -- How a call of the program ends.
-use Rattle.std.specs.Prelude.{◌≡◌, ◌<◌, ◌≤◌, ◌⊎◌, ◌==◌, ℕ, List, [], ◌∷◌, length, map, Option, if◌then◌else◌}
+use Rattle.std.specs.Prelude.{◌≡◌, ◌<◌, ◌≤◌, ◌⊎◌, ◌==◌, ℕ, true, List, [], ◌∷◌, length, map, Option, if◌then◌else◌}
+use Rattle.std.specs.List.{list_all}
 use Rattle.jwalk.specs.jwalk_model.Counted.{Worth}
 use Rattle.jwalk.specs.jwalk_model.Entry.{Item}
 use Rattle.jwalk.specs.jwalk_model.FileSystem.{Functions}
@@ -10,6 +11,7 @@ use Rattle.tally_words.specs.AsksFor.{AskFor}
 use Rattle.tally_words.specs.Refusal.{status_of, IsRefusedFor}
 use Rattle.tally_words.specs.declared.asked.Asked.{Asked}
 use Rattle.tally_words.specs.declared.refusal.Refusal.{Refusal}
+use Rattle.tally_run.specs.Counting.{is_clean}
 use Rattle.tally_run.specs.Results.{rows_of}
 use Rattle.tally_run.specs.Roots.{LeavesOut, all_subtotals}
 use Rattle.tally_run.specs.Shown.{shown_asked}
@@ -32,13 +34,14 @@ Ends words status = ((asked : Asked) × AskFor words asked × (status ≤ 1)) �
 abbrev pub roots_asked : Asked → List (List ℕ)
 roots_asked asked = if length asked.roots.items == 0 then dot ∷ [] else texts_of asked.roots.items
 
--- What is asked for is written of the roots that are counted: the subtotals of answers, a list for each of these roots, where each file counts once in all. If what is gone over always answers the same, these are the whole walks below the roots.
+-- What is asked for is written of the roots that are counted: the subtotals of answers, a list for each of these roots, where each file counts once in all. None of them has an error. If what is gone over always answers the same, these are the whole walks below the roots.
 pub record WritesAsked (fixed : Type 0) (fs : Functions) (texts : Texts) (screen : Screen) (asked : Asked) (before after : Option (List ℕ)) : Type 0 where
   pub counted : List (List ℕ)
   pub among : LeavesOut (roots_asked asked) counted
   pub answered : List (List (Item Worth Worth))
   pub each : length answered ≡ length counted
   pub whole : fixed → answered ≡ map (counted_below fs texts asked) counted
+  pub clean : list_all is_clean (all_subtotals (subtotals_asked asked) [] answered) ≡ true
   pub written : Writes asked screen (rows_of (shown_asked asked) (all_subtotals (subtotals_asked asked) [] answered)) before after
 
 -- The words ask for something to be counted, and what is asked for is written.

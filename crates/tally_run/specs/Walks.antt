@@ -1,6 +1,7 @@
 -- What is counted below a root, and how.
 use Rattle.std.specs.Prelude.{◌≡◌, ℕ, ◌-◌, ◌^◌, Bool, true, false, not, List, map, Option, Result, if◌then◌else◌}
 use Rattle.std.specs.Iterator.{Drains}
+use Rattle.std.specs.List.{list_all}
 use Rattle.std.specs.declared.clone.Clone as Clone
 use Rattle.std.specs.declared.default.Default as Default
 use Rattle.jwalk.specs.jwalk_model.Counted.{Worth, blank}
@@ -31,6 +32,7 @@ use Rattle.jwalk_subtotals.specs.Subtotals.{subtotals_beside}
 use Rattle.jwalk_subtotals.specs.declared.options.SubtotalOptions.{SubtotalOptions}
 use Rattle.tally_words.specs.Asks.{texts_of}
 use Rattle.tally_words.specs.declared.asked.Asked.{Asked}
+use Rattle.tally_run.specs.Counting.{is_clean}
 use Rattle.tally_run.specs.Results.{Takes, rows_of}
 use Rattle.tally_run.specs.Shown.{shown_asked}
 use Rattle.tally_run.specs.declared.counting.Counted.{Counted}
@@ -81,6 +83,7 @@ pub record CountsWalk {C S P A W L R E : Type 0} (files : FileSystem.Ghosts S) (
   pub whole : counted.clean ≡ true → (given : Given R E) → IsSteady files process clone defaults (file_system_of walk) (callback_of walk) given
       → map (counted_item given) answered ≡ whole_walk (job_for files given walk) (root_of walk) (given.read_dir_state (state_of walk))
   pub taken : Takes (rows_of (shown_asked asked) (subtotals_beside (subtotals_asked asked) known answered)) old before new after
+  pub tells : counted.clean ≡ list_all is_clean (subtotals_beside (subtotals_asked asked) known answered)
   pub remembered : HaveSame (files_of counted.files) (files_after (subtotals_asked asked) known answered)
 
 -- What is written of the subtotals of answers is taken, beside the files that were counted before. If there was no error, and what the walk goes over always answers the same, these are all that is below a root, by value.
@@ -88,4 +91,5 @@ pub record CountsBelow (fixed : Type 0) (below : List (Item Worth Worth)) (asked
   pub answered : List (Item Worth Worth)
   pub whole : fixed → counted.clean ≡ true → answered ≡ below
   pub taken : Takes (rows_of (shown_asked asked) (subtotals_beside (subtotals_asked asked) known answered)) old before new after
+  pub tells : counted.clean ≡ list_all is_clean (subtotals_beside (subtotals_asked asked) known answered)
   pub remembered : HaveSame (files_of counted.files) (files_after (subtotals_asked asked) known answered)
