@@ -44,7 +44,7 @@ abbrev pub CountsRoot : Type 0 → List (Item Worth Worth) → Asked → List Id
 CountsRoot fixed below asked known old before new after counted =
     IsLeftOut known old before new after counted ⊎ CountsBelow fixed below asked known old before new after counted
 
--- The roots are counted, but for those that are left out. What is written of the subtotals of answers, a list for each root that is counted, is taken, of all in one. If there was no error, and what is gone over always answers the same, these are the whole walks below the roots.
+-- The roots are counted, but for those that are left out. What is written of the subtotals of answers, a list for each root that is counted, is taken, of all in one. It is known whether one has an error. If none has, and what is gone over always answers the same, the lists are the whole walks below the roots.
 pub record CountsRoots (fixed : Type 0) (below : List ℕ → List (Item Worth Worth)) (asked : Asked) (roots : List (List ℕ)) (old : Results) (before : Option (List ℕ)) (new : Results) (after : Option (List ℕ)) (clean : Bool) : Type 0 where
   pub counted : List (List ℕ)
   pub among : LeavesOut roots counted

@@ -76,7 +76,7 @@ abbrev pub WalkYields : {C S P A W L R E : Type 0} → FileSystem.Ghosts S → P
 WalkYields {C} {S} {P} {A} {W} {L} {R} {E} files process clone defaults readers walk answered =
     (it : DirEntryIter C S P A L R E) × Starts walk it × (yielded : List (Result (DirEntry C A R E) (Error A))) × Drains (Answers files process clone defaults readers) it yielded × (map item yielded ≡ answered)
 
--- A walk yielded answers until its end, and what is written of their subtotals is taken, beside the files that were counted before. If there was no error, and what it goes over always answers the same, these are the whole walk.
+-- A walk yielded answers until its end, and what is written of their subtotals is taken, beside the files that were counted before. It is known whether one has an error. If none has, and what the walk goes over always answers the same, the answers are the whole walk.
 pub record CountsWalk {C S P A W L R E : Type 0} (files : FileSystem.Ghosts S) (process : ProcessReadDir.Ghosts P C A R E) (clone : Clone.Ghosts R) (defaults : Default.Ghosts E) (readers : Readers.Ghosts L C S P A R E) (walk : WalkDirGeneric C S P A W R E) (asked : Asked) (known : List Identity) (old : Results) (before : Option (List ℕ)) (new : Results) (after : Option (List ℕ)) (counted : Counted) : Type 0 where
   pub answered : List (Item R E)
   pub walked : WalkYields files process clone defaults readers walk answered
@@ -86,7 +86,7 @@ pub record CountsWalk {C S P A W L R E : Type 0} (files : FileSystem.Ghosts S) (
   pub tells : counted.clean ≡ list_all is_clean (subtotals_beside (subtotals_asked asked) known answered)
   pub remembered : HaveSame (files_of counted.files) (files_after (subtotals_asked asked) known answered)
 
--- What is written of the subtotals of answers is taken, beside the files that were counted before. If there was no error, and what the walk goes over always answers the same, these are all that is below a root, by value.
+-- What is written of the subtotals of answers is taken, beside the files that were counted before. It is known whether one has an error. If none has, and what the walk goes over always answers the same, the answers are all that is below a root, by value.
 pub record CountsBelow (fixed : Type 0) (below : List (Item Worth Worth)) (asked : Asked) (known : List Identity) (old : Results) (before : Option (List ℕ)) (new : Results) (after : Option (List ℕ)) (counted : Counted) : Type 0 where
   pub answered : List (Item Worth Worth)
   pub whole : fixed → counted.clean ≡ true → answered ≡ below
