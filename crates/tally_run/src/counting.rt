@@ -11,6 +11,7 @@ ghost use Rattle.tally_run.specs.Counting.{is_clean, TakesAll};
 ghost use Rattle.tally_run.specs.Walks.{subtotals_asked, CountsWalk};
 
 use crate::failure::Failure;
+use crate::progress::Report;
 use crate::report::{report_entry, report_error};
 use crate::results::Results;
 use crate::screen::Screen;
@@ -58,7 +59,7 @@ fn take_error<A: Allocator + Copy, E: Write>(
 }
 
 /// Takes what is yielded of subtotals. Returns whether it is no error.
-fn take_one<C: ClientState, A: Allocator + Copy, W: Write, E: Write>(
+fn take_one<C: ClientState, A: Allocator + Copy, W: Write, E: Report>(
     alloc: Global,
     screen: Screen,
     yielded: Result<WithSubtotal<C, A>, SubtotalError<A>>,
@@ -74,6 +75,7 @@ fn take_one<C: ClientState, A: Allocator + Copy, W: Write, E: Write>(
 {
     match yielded {
         Ok(found) => {
+            err.note();
             if shown.has(&found.entry) {
                 results.take(alloc, &found, out)?;
             }
@@ -92,7 +94,7 @@ fn take_all<
     A: Allocator + Copy,
     I: Iterator<Item = Result<WithSubtotal<C, A>, SubtotalError<A>>>,
     W: Write,
-    E: Write,
+    E: Report,
 >(
     alloc: Global,
     screen: Screen,
@@ -133,7 +135,7 @@ pub(crate) fn count_walk<
     S: FileSystem + Send + Sync + 'static,
     P: ProcessReadDir<C, Global> + Send + Sync + 'static,
     W: Write,
-    E: Write,
+    E: Report,
 >(
     alloc: Global,
     screen: Screen,

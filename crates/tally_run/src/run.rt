@@ -15,6 +15,7 @@ ghost use Rattle.tally_run.specs.Written.{document_text, trees_text, AreNone, Fi
 
 use crate::counting::Counted;
 use crate::failure::Failure;
+use crate::progress::{Progress, Report};
 use crate::report::report_root;
 use crate::results::{Lines, Results};
 use crate::roots::Roots;
@@ -100,7 +101,7 @@ fn count_root<
     S: FileSystem + Send + Sync + 'static,
     X: Texts + Send + Sync + 'static,
     W: Write,
-    E: Write,
+    E: Report,
 >(
     alloc: Global,
     walks: &Walks<'_, '_, T, S, X>,
@@ -130,7 +131,7 @@ fn count_roots<
     S: FileSystem + Send + Sync + 'static,
     X: Texts + Send + Sync + 'static,
     W: Write,
-    E: Write,
+    E: Report,
 >(
     alloc: Global,
     walks: &Walks<'_, '_, T, S, X>,
@@ -161,7 +162,7 @@ fn count_asked<
     S: FileSystem + Send + Sync + 'static,
     X: Texts + Send + Sync + 'static,
     W: Write,
-    E: Write,
+    E: Report,
 >(
     alloc: Global,
     walks: &Walks<'_, '_, T, S, X>,
@@ -287,13 +288,18 @@ fn finish<W: Write>(
     Ok(())
 }
 
+/// Returns whether a line tells how far the call is: on a terminal, unless lines of results are written to one meanwhile.
+fn tells(asked: &Asked<'_>, screen: Screen) -> bool {
+    screen.shows_errors && !(screen.is_terminal && are_lines(asked.form))
+}
+
 /// Counts as is asked for, and writes the results. Returns whether there was no error.
 fn tally<
     T: Host,
     S: FileSystem + Send + Sync + 'static,
     X: Texts + Send + Sync + 'static,
     W: Write,
-    E: Write,
+    E: Report,
 >(
     rt: &T,
     alloc: Global,
@@ -310,6 +316,7 @@ fn tally<
     let walks = Walks::new(rt, alloc, asked, screen, disk, texts)?;
     let mut results = results_of(alloc, asked, screen)?;
     let clean = count_asked(alloc, &walks, &mut results, out, err)?;
+    err.wipe();
     finish(alloc, asked, screen, results, out)?;
     Ok(clean)
 }
@@ -372,7 +379,9 @@ pub fn run<
 {
     match read_words(alloc, words) {
         Ok(asked) => {
-            let ended = tally(rt, alloc, disk, texts, &asked, screen, out, err);
+            let mut told = Progress::new(rt, err, tells(&asked, screen));
+            let ended = tally(rt, alloc, disk, texts, &asked, screen, out, &mut told);
+            told.wipe();
             status_of(ended, err)
         }
         Err(refusal) => refuse(&refusal, out, err),

@@ -11,6 +11,7 @@ ghost use Rattle.tally_run.specs.Walks.{all_below, counted_below, kept_below, op
 
 use crate::counting::{Counted, count_walk};
 use crate::failure::Failure;
+use crate::progress::Report;
 use crate::results::Results;
 use crate::screen::Screen;
 use jwalk::file_system::FileSystem;
@@ -89,7 +90,7 @@ fn count_ruled<
     S: FileSystem + Send + Sync + 'static,
     X: Texts + Send + Sync + 'static,
     W: Write,
-    E: Write,
+    E: Report,
 >(
     alloc: Global,
     screen: Screen,
@@ -175,7 +176,7 @@ impl<
     }
 
     /// Counts what is below a root, whatever ignore files say.
-    fn count_all<W: Write, E: Write>(
+    fn count_all<W: Write, E: Report>(
         &self,
         alloc: Global,
         files: Files<Global>,
@@ -207,7 +208,7 @@ impl<
     }
 
     /// Counts what ignore files leave below a root.
-    fn count_kept<W: Write, E: Write>(
+    fn count_kept<W: Write, E: Report>(
         &self,
         alloc: Global,
         files: Files<Global>,
@@ -242,7 +243,7 @@ impl<
     }
 
     /// Counts what is below a root, beside the files that were counted before.
-    pub(crate) fn count_below<W: Write, E: Write>(
+    pub(crate) fn count_below<W: Write, E: Report>(
         &self,
         alloc: Global,
         files: Files<Global>,
