@@ -9,3 +9,4 @@ pub mod RunFacts
 pub mod WholeFacts
 pub mod StateFacts
 pub mod ErrorFacts
+pub mod FirstFacts

@@ -8,5 +8,6 @@ pub mod Coming
 pub mod Turns
 pub mod Whole
 pub mod Alike
+pub mod Firsts
 pub mod Roots
 pub mod Rows

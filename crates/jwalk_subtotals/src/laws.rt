@@ -1,5 +1,6 @@
 //! The laws on subtotals, each as the contract of a function that does nothing.
 ghost use Rattle.jwalk_subtotals.specs.Alike.{StatesDoNotCount, ErrorsAreYielded};
+ghost use Rattle.jwalk_subtotals.specs.Firsts.{RootsAreFirsts};
 ghost use Rattle.jwalk_subtotals.specs.Roots.{RootsAreAll, RootsAreTotals, SubtotalsAddUp};
 ghost use Rattle.jwalk_subtotals.specs.Whole.{AllAreYielded, AllAreYieldedBeside, FirstAreYielded};
 
@@ -20,6 +21,12 @@ pub fn roots_are_all<R, E>()
 /// Where each name is counted, the subtotals of the roots come to the totals by what entries keep.
 pub fn roots_are_totals<R, E>()
     ensures { RootsAreTotals R E }
+{}
+
+/// The bytes of the roots' subtotals come to the sizes of all entries, of each file that is counted once at the first of
+/// its names.
+pub fn roots_are_firsts<R, E>()
+    ensures { RootsAreFirsts R E }
 {}
 
 /// Subtotals don't go by the states of a walk.

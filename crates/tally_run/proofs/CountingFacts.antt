@@ -4,8 +4,13 @@ use Rattle.std.specs.Prelude.{flat_map}
 use Rattle.std.specs.Iterator.{Yields}
 use Rattle.std.specs.List.{list_all, list_any}
 use Rattle.std.proofs.lemmas.Grind.{flat_map-append}
+use Rattle.jwalk.specs.jwalk_model.declared.metadata.Identity.{Identity}
+use Rattle.jwalk.specs.jwalk_job.declared.dir_entry.DirEntry.{DirEntry}
+use Rattle.jwalk.specs.jwalk_job.declared.error.Error.{Error}
+use Rattle.jwalk.specs.jwalk_job.Entry.{item}
 use Rattle.jwalk_subtotals.specs.Coming.{ends_with, value}
-use Rattle.jwalk_subtotals.specs.Subtotals.{Yielded}
+use Rattle.jwalk_subtotals.specs.Subtotals.{Yielded, subtotals_beside}
+use Rattle.jwalk_subtotals.specs.declared.options.SubtotalOptions.{SubtotalOptions}
 use Rattle.jwalk_subtotals.specs.declared.error.SubtotalError.{SubtotalError}
 use Rattle.jwalk_subtotals.specs.declared.error.SubtotalError.TheVariants.{Walk, TooMany, Memory}
 use Rattle.jwalk_subtotals.specs.declared.stack.WithSubtotal.{WithSubtotal}
@@ -13,6 +18,7 @@ use Rattle.tally_run.specs.Counting.{TakesAll, is_clean}
 use Rattle.tally_run.specs.Results.{Row, Takes, row_of, rows_of}
 use Rattle.tally_run.specs.declared.results.Results.{Results}
 use Rattle.tally_run.specs.declared.shown.Shown.{Shown}
+use Rattle.jwalk_subtotals.proofs.ErrorFacts.{entries_alone}
 use Rattle.tally_run.proofs.ResultFacts.{takes_none, takes_then}
 
 and_and : (a b c : Bool) → ((a && b) && c) ≡ (a && (b && c))
@@ -93,3 +99,17 @@ error_rows C A R E shown Memory = refl
 pub error_taken : {C A R E : Type 0} (shown : Shown) (x : Result (WithSubtotal C A R E) (SubtotalError A)) (e : SubtotalError A) → x ≡ Err e → (results : Results) (written : Option (List ℕ)) → Takes (rows_of shown (value x)) results written results written
 error_taken {C} {A} {R} {E} shown x e is results written =
     subst (λ (rows : List Row). Takes rows results written results written) (sym (ap (λ y. rows_of shown (value y)) is ∙ error_rows C A R E shown e)) (takes_none results written)
+
+clean_ok : {R E : Type 0} (ys : List (Yielded R E)) → list_all is_clean ys ≡ true → list_all is_ok ys ≡ true
+clean_ok [] clean = refl
+clean_ok (Ok y ∷ ys) clean = clean_ok ys (right_true (is_clean (Ok y)) (list_all is_clean ys) clean)
+clean_ok (Err f ∷ ys) clean = absurd (cc clean)
+
+items_ok : {C A R E : Type 0} (xs : List (Result (DirEntry C A R E) (Error A))) → list_all is_ok (map item xs) ≡ true → list_all is_ok xs ≡ true
+items_ok [] all = refl
+items_ok (Ok e ∷ xs) all = items_ok xs all
+items_ok (Err f ∷ xs) all = absurd (cc all)
+
+-- answers whose subtotals are clean are entries
+pub answers_ok : {C A R E : Type 0} (o : SubtotalOptions) (known : List Identity) (xs : List (Result (DirEntry C A R E) (Error A))) (ys : List (Yielded R E)) → subtotals_beside o known (map item xs) ≡ ys → list_all is_clean ys ≡ true → list_all is_ok xs ≡ true
+answers_ok o known xs ys is clean = items_ok xs (entries_alone o known (map item xs) (ap (list_all is_ok) is ∙ clean_ok ys clean))

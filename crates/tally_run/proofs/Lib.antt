@@ -1,2 +1,5 @@
 pub mod ResultFacts
 pub mod CountingFacts
+pub mod WalkFacts
+pub mod RootFacts
+pub mod WrittenFacts

@@ -1,15 +1,13 @@
 -- Results that are taken one after another.
-use Rattle.std.proofs.Common.{◌≡◌, ◌∙◌, ℕ, List, [], ◌∷◌, ◌++◌, append-nil, Option, refl, sym, ap, subst}
+use Rattle.std.proofs.Common.{◌≡◌, ◌∙◌, ℕ, List, [], ◌∷◌, ◌++◌, append-nil, Option, refl, sym, subst}
 use Rattle.std.specs.Io.KnownBytes.{Appends, append_known}
 use Rattle.std.proofs.KnownBytes.{Appends-nil, Appends-trans}
 use Rattle.std.proofs.lemmas.Grind.{flat_map-append}
 use Rattle.seek_words.specs.declared.paths.Style.{Style}
 use Rattle.tally_text.specs.Nodes.{IsPushed, largest_of, trees_of}
 use Rattle.tally_text.specs.declared.node.Node.{Node}
-use Rattle.tally_text.specs.declared.nodes.Nodes.{Nodes}
 use Rattle.tally_text.specs.declared.scale.Scale.{Scale}
 use Rattle.tally_run.specs.Results.{ArePushed, Row, Takes, gathered_of, lines_text, numbers_of, row_line, scale_of, style_of, tree_name}
-use Rattle.tally_run.specs.declared.results.Lines.{Lines}
 use Rattle.tally_run.specs.declared.results.Results.{Results}
 use Rattle.tally_run.specs.declared.results.Results.TheVariants as results
 

@@ -1,5 +1,5 @@
 -- What becomes of results.
-use Rattle.std.specs.Prelude.{◌≡◌, ℕ, nat_lt, List, [], ◌∷◌, flat_map, Option, Result, Ok, Err, if◌then◌else◌}
+use Rattle.std.specs.Prelude.{◌≡◌, ℕ, nat_lt, List, [], ◌∷◌, flat_map, Option, Ok, Err, if◌then◌else◌}
 use Rattle.std.specs.Io.KnownBytes.{Appends, append_known}
 use Rattle.jwalk.specs.jwalk_model.Entry.{Entry}
 use Rattle.jwalk.specs.jwalk_model.Paths.{join}

@@ -1,5 +1,5 @@
 -- Which results are written.
-use Rattle.std.specs.Prelude.{ℕ, ◌-◌, ◌^◌, ◌==◌, nat_le, Bool, ◌&&◌, ◌||◌, Option, unwrap_or}
+use Rattle.std.specs.Prelude.{ℕ, ◌-◌, ◌^◌, ◌==◌, nat_le, Bool, ◌&&◌, ◌||◌, unwrap_or}
 use Rattle.jwalk.specs.jwalk_model.Entry.{Entry}
 use Rattle.jwalk.specs.jwalk_model.FileType.{is_dir}
 use Rattle.tally_words.specs.declared.asked.Asked.{Asked}

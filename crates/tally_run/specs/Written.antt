@@ -14,7 +14,7 @@ use Rattle.tally_text.specs.declared.scale.Scale.TheVariants.{Human, Kibibytes, 
 use Rattle.tally_words.specs.declared.asked.Asked.{Asked}
 use Rattle.tally_words.specs.declared.form.Form.{Form}
 use Rattle.tally_words.specs.declared.form.Form.TheVariants as form
-use Rattle.tally_run.specs.Results.{gathered_of, scale_of, style_of}
+use Rattle.tally_run.specs.Results.{ArePushed, Row, gathered_of, lines_text, scale_of, style_of}
 use Rattle.tally_run.specs.declared.results.Results.{Results}
 use Rattle.tally_run.specs.declared.results.Results.TheVariants as results
 use Rattle.tally_run.specs.declared.screen.Screen.{Screen}
@@ -69,3 +69,12 @@ AreNone asked screen (results.Trees nodes) = (are_lines asked.form ≡ false) ×
 abbrev pub Finishes : Asked → Screen → Results → Option (List ℕ) → Option (List ℕ) → Type 0
 Finishes asked screen (results.Lines lines) before after = Appends before after (gathered_of lines)
 Finishes asked screen (results.Trees nodes) before after = Appends before after (trees_text asked screen (trees_of nodes))
+
+-- The lines of results are written, or the trees that they make.
+abbrev pub WritesAs : Bool → Asked → Screen → List Row → Option (List ℕ) → Option (List ℕ) → Type 0
+WritesAs true asked screen rows before after = Appends before after (lines_text (scale_asked asked) (style_asked asked screen) rows)
+WritesAs false asked screen rows before after = (trees : List Node) × ArePushed asked.largest rows [] trees × Appends before after (trees_text asked screen trees)
+
+-- Results are written as is asked for.
+abbrev pub Writes : Asked → Screen → List Row → Option (List ℕ) → Option (List ℕ) → Type 0
+Writes asked screen rows before after = WritesAs (are_lines asked.form) asked screen rows before after

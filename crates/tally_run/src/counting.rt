@@ -5,14 +5,18 @@ ghost use Rattle.std.specs.Iterator.{IsFinite};
 ghost use Rattle.jwalk.specs.WalkDir.{callback_of};
 ghost use Rattle.jwalk_subtotals.specs.Coming.{ends_with, value};
 ghost use Rattle.jwalk_subtotals.specs.Error.{is_last};
+ghost use Rattle.jwalk_subtotals.specs.Files.{files_of};
 ghost use Rattle.tally_run.specs.Results.{rows_of, Takes};
 ghost use Rattle.tally_run.specs.Counting.{is_clean, TakesAll};
+ghost use Rattle.tally_run.specs.Walks.{subtotals_asked, CountsWalk};
 
 use crate::failure::Failure;
+use crate::progress::Report;
 use crate::report::{report_entry, report_error};
 use crate::results::Results;
 use crate::screen::Screen;
 use crate::shown::Shown;
+use jwalk::crew::{Readers, Session};
 use jwalk::file_system::FileSystem;
 use jwalk::read_dir::ProcessReadDir;
 use jwalk::{ClientState, Crew, Host, WalkDirGeneric};
@@ -55,7 +59,7 @@ fn take_error<A: Allocator + Copy, E: Write>(
 }
 
 /// Takes what is yielded of subtotals. Returns whether it is no error.
-fn take_one<C: ClientState, A: Allocator + Copy, W: Write, E: Write>(
+fn take_one<C: ClientState, A: Allocator + Copy, W: Write, E: Report>(
     alloc: Global,
     screen: Screen,
     yielded: Result<WithSubtotal<C, A>, SubtotalError<A>>,
@@ -71,6 +75,7 @@ fn take_one<C: ClientState, A: Allocator + Copy, W: Write, E: Write>(
 {
     match yielded {
         Ok(found) => {
+            err.note();
             if shown.has(&found.entry) {
                 results.take(alloc, &found, out)?;
             }
@@ -89,7 +94,7 @@ fn take_all<
     A: Allocator + Copy,
     I: Iterator<Item = Result<WithSubtotal<C, A>, SubtotalError<A>>>,
     W: Write,
-    E: Write,
+    E: Report,
 >(
     alloc: Global,
     screen: Screen,
@@ -112,7 +117,9 @@ fn take_all<
 }
 
 /// Returns what is counted. All subtotals are taken, since the error of a directory comes with its own.
-fn options_of(asked: &Asked<'_>) -> SubtotalOptions {
+fn options_of(asked: &Asked<'_>) -> SubtotalOptions
+    ensures { result ≡ subtotals_asked asked.now }
+{
     SubtotalOptions {
         apparent: asked.apparent,
         each_name: asked.each_name,
@@ -128,7 +135,7 @@ pub(crate) fn count_walk<
     S: FileSystem + Send + Sync + 'static,
     P: ProcessReadDir<C, Global> + Send + Sync + 'static,
     W: Write,
-    E: Write,
+    E: Report,
 >(
     alloc: Global,
     screen: Screen,
@@ -143,6 +150,9 @@ where
     C::ReadDirState: Send + 'static,
     C::DirEntryState: Send + 'static,
     requires { P.IsLawful (callback_of walk) }
+    ensures { IfOk result (CountsWalk S.FileSystem P.ProcessReadDir C.ReadDirState.Clone C.DirEntryState.Default
+        ⟦<Session<T, C, S, P, Global> as Readers<C, S, P, Global>>⟧ walk asked.now (files_of files)
+        results.old (W.contents out.old) results.new (W.contents out.new)) }
 {
     let answers = walk.into_iter();
     let mut subtotals = subtotals_beside(alloc, files, answers, options_of(asked));

@@ -3,6 +3,7 @@
 
 mod counting;
 mod failure;
+mod progress;
 mod report;
 mod results;
 mod roots;

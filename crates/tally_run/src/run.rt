@@ -1,14 +1,21 @@
 //! A call of the program.
-ghost use Rattle.std.specs.Prelude.{◌≡◌, ◌<◌, ◌≤◌, true, flat_map, map, string_bytes, Ok, IfOk, OnOk};
+ghost use Rattle.std.specs.Prelude.{◌≡◌, ◌<◌, ◌≤◌, ◌⊎◌, true, flat_map, map, string_bytes, Ok, IfOk, OnOk};
+ghost use Rattle.std.specs.Arc.{arc_value};
 ghost use Rattle.std.specs.Io.KnownBytes.{Appends};
+ghost use Rattle.jwalk_subtotals.specs.Files.{files_of};
 ghost use Rattle.tally_text.specs.Nodes.{trees_of};
+ghost use Rattle.tally_words.specs.Asks.{texts_of};
+ghost use Rattle.tally_words.specs.AsksFor.{AskForText};
 ghost use Rattle.tally_words.specs.Refusal.{status_of as status_for};
-ghost use Rattle.tally_run.specs.Run.{Ends};
+ghost use Rattle.tally_run.specs.Roots.{CountsRoot, CountsRoots};
+ghost use Rattle.tally_run.specs.Run.{roots_asked, Ends, Counts, WritesAsked};
+ghost use Rattle.tally_run.specs.Walks.{counted_below};
 ghost use Rattle.tally_run.specs.Written.{are_lines, scale_asked, separator_of, style_asked, table_of, width_of};
 ghost use Rattle.tally_run.specs.Written.{document_text, trees_text, AreNone, Finishes};
 
 use crate::counting::Counted;
 use crate::failure::Failure;
+use crate::progress::{Progress, Report};
 use crate::report::report_root;
 use crate::results::{Lines, Results};
 use crate::roots::Roots;
@@ -94,7 +101,7 @@ fn count_root<
     S: FileSystem + Send + Sync + 'static,
     X: Texts + Send + Sync + 'static,
     W: Write,
-    E: Write,
+    E: Report,
 >(
     alloc: Global,
     walks: &Walks<'_, '_, T, S, X>,
@@ -104,7 +111,12 @@ fn count_root<
     results: &mut Results,
     out: &mut W,
     err: &mut E,
-) -> Result<Counted, Failure> {
+) -> Result<Counted, Failure>
+    ensures { IfOk result (CountsRoot (S.IsFixed (arc_value walks.now.disk) × X.IsFixed (arc_value walks.now.texts))
+        (counted_below (S.functions (arc_value walks.now.disk)) (X.functions (arc_value walks.now.texts))
+        walks.now.asked.now root.now) walks.now.asked.now (files_of files)
+        results.old (W.contents out.old) results.new (W.contents out.new)) }
+{
     if !known.add(alloc, walks.disk(), root)? {
         report_root(alloc, walks.screen().shows_errors, root, err)?;
         return Ok(Counted { files, clean: true });
@@ -119,7 +131,7 @@ fn count_roots<
     S: FileSystem + Send + Sync + 'static,
     X: Texts + Send + Sync + 'static,
     W: Write,
-    E: Write,
+    E: Report,
 >(
     alloc: Global,
     walks: &Walks<'_, '_, T, S, X>,
@@ -127,7 +139,12 @@ fn count_roots<
     results: &mut Results,
     out: &mut W,
     err: &mut E,
-) -> Result<bool, Failure> {
+) -> Result<bool, Failure>
+    ensures { IfOk result (CountsRoots (S.IsFixed (arc_value walks.now.disk) × X.IsFixed (arc_value walks.now.texts))
+        (counted_below (S.functions (arc_value walks.now.disk)) (X.functions (arc_value walks.now.texts))
+        walks.now.asked.now) walks.now.asked.now (texts_of roots.now)
+        results.old (W.contents out.old) results.new (W.contents out.new)) }
+{
     let mut known = Roots::new(alloc, walks.asked().one_file_system);
     let mut files = Files::new(alloc);
     let mut clean = true;
@@ -145,14 +162,19 @@ fn count_asked<
     S: FileSystem + Send + Sync + 'static,
     X: Texts + Send + Sync + 'static,
     W: Write,
-    E: Write,
+    E: Report,
 >(
     alloc: Global,
     walks: &Walks<'_, '_, T, S, X>,
     results: &mut Results,
     out: &mut W,
     err: &mut E,
-) -> Result<bool, Failure> {
+) -> Result<bool, Failure>
+    ensures { IfOk result (CountsRoots (S.IsFixed (arc_value walks.now.disk) × X.IsFixed (arc_value walks.now.texts))
+        (counted_below (S.functions (arc_value walks.now.disk)) (X.functions (arc_value walks.now.texts))
+        walks.now.asked.now) walks.now.asked.now (roots_asked walks.now.asked.now)
+        results.old (W.contents out.old) results.new (W.contents out.new)) }
+{
     let roots = walks.asked().roots.as_slice();
     if roots.is_empty() {
         return count_roots(alloc, walks, &["."], results, out, err);
@@ -266,13 +288,18 @@ fn finish<W: Write>(
     Ok(())
 }
 
+/// Returns whether a line tells how far the call is: on a terminal, unless lines of results are written to one meanwhile.
+fn tells(asked: &Asked<'_>, screen: Screen) -> bool {
+    screen.shows_errors && !(screen.is_terminal && are_lines(asked.form))
+}
+
 /// Counts as is asked for, and writes the results. Returns whether there was no error.
 fn tally<
     T: Host,
     S: FileSystem + Send + Sync + 'static,
     X: Texts + Send + Sync + 'static,
     W: Write,
-    E: Write,
+    E: Report,
 >(
     rt: &T,
     alloc: Global,
@@ -282,10 +309,14 @@ fn tally<
     screen: Screen,
     out: &mut W,
     err: &mut E,
-) -> Result<bool, Failure> {
+) -> Result<bool, Failure>
+    ensures { IfOk result (λ clean. clean ≡ true → WritesAsked (S.IsFixed disk × X.IsFixed texts) (S.functions disk)
+        (X.functions texts) screen asked.now (W.contents out.old) (W.contents out.new)) }
+{
     let walks = Walks::new(rt, alloc, asked, screen, disk, texts)?;
     let mut results = results_of(alloc, asked, screen)?;
     let clean = count_asked(alloc, &walks, &mut results, out, err)?;
+    err.wipe();
     finish(alloc, asked, screen, results, out)?;
     Ok(clean)
 }
@@ -342,10 +373,15 @@ pub fn run<
     ensures status { result ≤ 2 }
     ensures ends { Ends (map string_bytes words.now) result }
     ensures untouched { result ≡ 2 → W.contents out.new ≡ W.contents out.old }
+    ensures done { result ≡ 0 → AskForText (map string_bytes words.now)
+        ⊎ Counts (S.IsFixed disk × X.IsFixed texts) (S.functions disk) (X.functions texts) screen
+        (map string_bytes words.now) (W.contents out.old) (W.contents out.new) }
 {
     match read_words(alloc, words) {
         Ok(asked) => {
-            let ended = tally(rt, alloc, disk, texts, &asked, screen, out, err);
+            let mut told = Progress::new(rt, err, tells(&asked, screen));
+            let ended = tally(rt, alloc, disk, texts, &asked, screen, out, &mut told);
+            told.wipe();
             status_of(ended, err)
         }
         Err(refusal) => refuse(&refusal, out, err),

@@ -1,7 +1,17 @@
 //! The walks below roots.
+ghost use Rattle.std.specs.Prelude.{◌≡◌, is_some, string_bytes, IfOk};
+ghost use Rattle.std.specs.Arc.{arc_value};
+ghost use Rattle.jwalk.specs.WalkDir.{file_system_of, options_of, root_of, state_of};
+ghost use Rattle.jwalk_ignore.specs.Callback.Excluding.{excluded_of};
+ghost use Rattle.jwalk_ignore.specs.Callback.Given.{no_rules_yet, rules_alone};
+ghost use Rattle.jwalk_ignore.specs.Callback.IgnoreViews.{next_of, settings_of, texts_of};
+ghost use Rattle.jwalk_ignore.specs.Callback.Kept.{ignoring_walk};
+ghost use Rattle.jwalk_subtotals.specs.Files.{files_of};
+ghost use Rattle.tally_run.specs.Walks.{all_below, counted_below, kept_below, options_by, CountsBelow};
 
 use crate::counting::{Counted, count_walk};
 use crate::failure::Failure;
+use crate::progress::Report;
 use crate::results::Results;
 use crate::screen::Screen;
 use jwalk::file_system::FileSystem;
@@ -53,7 +63,12 @@ fn walk_of<C: ClientState, T: Host, S: FileSystem>(
     fs: S,
     root: String<Global>,
     crew: &Option<Arc<Crew<T>>>,
-) -> Result<WalkDirGeneric<C, S, NoProcess, Global, Crew<T>>, AllocError> {
+) -> Result<WalkDirGeneric<C, S, NoProcess, Global, Crew<T>>, AllocError>
+    ensures file_system { IfOk result (λ walk. file_system_of walk ≡ fs) }
+    ensures root { IfOk result (λ walk. root_of walk ≡ string_bytes root) }
+    ensures state { IfOk result (λ walk. C.ReadDirState.is_default (state_of walk)) }
+    ensures options { IfOk result (λ walk. options_of walk ≡ options_by (is_some crew.now) asked.now) }
+{
     let mut walk = WalkDirGeneric::with_crew(fs, root)
         .sort(asked.sort)
         .skip_hidden(asked.exclude_hidden)
@@ -75,7 +90,7 @@ fn count_ruled<
     S: FileSystem + Send + Sync + 'static,
     X: Texts + Send + Sync + 'static,
     W: Write,
-    E: Write,
+    E: Report,
 >(
     alloc: Global,
     screen: Screen,
@@ -86,7 +101,14 @@ fn count_ruled<
     results: &mut Results,
     out: &mut W,
     err: &mut E,
-) -> Result<Counted, Failure> {
+) -> Result<Counted, Failure>
+    ensures { IfOk result (CountsBelow (S.IsFixed (arc_value (file_system_of walk))
+        × X.IsFixed (arc_value (texts_of rules))
+        × (rules_alone (state_of walk) ≡ no_rules_yet))
+        (ignoring_walk (S.functions (arc_value (file_system_of walk))) (X.functions (arc_value (texts_of rules)))
+        (settings_of rules) (excluded_of (next_of rules)) (options_of walk) (root_of walk))
+        asked.now (files_of files) results.old (W.contents out.old) results.new (W.contents out.new)) }
+{
     let walk = with_hidden_shown(walk, KeptRules { rules });
     count_walk(alloc, screen, walk, files, asked, results, out, err)
 }
@@ -120,7 +142,11 @@ impl<
         screen: Screen,
         disk: S,
         texts: X,
-    ) -> Result<Self, AllocError> {
+    ) -> Result<Self, AllocError>
+        ensures asked { IfOk result (λ walks. walks.asked.now ≡ asked.now) }
+        ensures disk { IfOk result (λ walks. arc_value walks.disk ≡ disk) }
+        ensures texts { IfOk result (λ walks. arc_value walks.texts ≡ texts) }
+    {
         Ok(Walks {
             asked,
             screen,
@@ -131,7 +157,9 @@ impl<
     }
 
     /// Returns what is asked for.
-    pub(crate) fn asked(&self) -> &Asked<'w> {
+    pub(crate) fn asked(&self) -> &Asked<'w>
+        ensures { result.now ≡ self.now.asked.now }
+    {
         self.asked
     }
 
@@ -141,12 +169,14 @@ impl<
     }
 
     /// Returns the disk.
-    pub(crate) fn disk(&self) -> &S {
+    pub(crate) fn disk(&self) -> &S
+        ensures { result.now ≡ arc_value self.now.disk }
+    {
         &self.disk
     }
 
     /// Counts what is below a root, whatever ignore files say.
-    fn count_all<W: Write, E: Write>(
+    fn count_all<W: Write, E: Report>(
         &self,
         alloc: Global,
         files: Files<Global>,
@@ -154,7 +184,12 @@ impl<
         results: &mut Results,
         out: &mut W,
         err: &mut E,
-    ) -> Result<Counted, Failure> {
+    ) -> Result<Counted, Failure>
+        ensures { IfOk result (CountsBelow (S.IsFixed (arc_value self.now.disk))
+            (all_below (S.functions (arc_value self.now.disk)) self.now.asked.now root.now)
+            self.now.asked.now (files_of files)
+            results.old (W.contents out.old) results.new (W.contents out.new)) }
+    {
         let excluding = Excluding::new(alloc, self.asked.excludes.as_slice(), root)?;
         let root = String::from_str(alloc, root)?;
         let disk = self.disk.clone()?;
@@ -173,7 +208,7 @@ impl<
     }
 
     /// Counts what ignore files leave below a root.
-    fn count_kept<W: Write, E: Write>(
+    fn count_kept<W: Write, E: Report>(
         &self,
         alloc: Global,
         files: Files<Global>,
@@ -181,7 +216,12 @@ impl<
         results: &mut Results,
         out: &mut W,
         err: &mut E,
-    ) -> Result<Counted, Failure> {
+    ) -> Result<Counted, Failure>
+        ensures { IfOk result (CountsBelow (S.IsFixed (arc_value self.now.disk) × X.IsFixed (arc_value self.now.texts))
+            (kept_below (S.functions (arc_value self.now.disk)) (X.functions (arc_value self.now.texts))
+            self.now.asked.now root.now) self.now.asked.now (files_of files)
+            results.old (W.contents out.old) results.new (W.contents out.new)) }
+    {
         let excluding = Excluding::new(alloc, self.asked.excludes.as_slice(), root)?;
         let rules = IgnoreFiles::new(self.texts.clone()?)
             .keep_hidden(!self.asked.exclude_hidden)
@@ -203,7 +243,7 @@ impl<
     }
 
     /// Counts what is below a root, beside the files that were counted before.
-    pub(crate) fn count_below<W: Write, E: Write>(
+    pub(crate) fn count_below<W: Write, E: Report>(
         &self,
         alloc: Global,
         files: Files<Global>,
@@ -211,7 +251,12 @@ impl<
         results: &mut Results,
         out: &mut W,
         err: &mut E,
-    ) -> Result<Counted, Failure> {
+    ) -> Result<Counted, Failure>
+        ensures { IfOk result (CountsBelow (S.IsFixed (arc_value self.now.disk) × X.IsFixed (arc_value self.now.texts))
+            (counted_below (S.functions (arc_value self.now.disk)) (X.functions (arc_value self.now.texts))
+            self.now.asked.now root.now) self.now.asked.now (files_of files)
+            results.old (W.contents out.old) results.new (W.contents out.new)) }
+    {
         if self.asked.ignore {
             return self.count_kept(alloc, files, root, results, out, err);
         }

@@ -1,2 +1,3 @@
 pub mod AsksFacts
 pub mod CommandFacts
+pub mod EndFacts

@@ -17,3 +17,5 @@ mod refused;
 mod runs;
 #[cfg(test)]
 mod stopped;
+#[cfg(test)]
+mod told;

@@ -1,8 +1,12 @@
-use Rattle.std.proofs.Common.{inl, inr}
+use Rattle.std.proofs.Common.{inl, inr, map, refl, string_bytes}
+use Rattle.tally_words.proofs.EndFacts.{text_asked}
 use Rattle.tally_run.proofs.run.run.Goals as goal
 
 pub returns-in-Ok-clause-ends : goal.returns-in-Ok-clause-ends
 returns-in-Ok-clause-ends g c = inl (_, c.in-Ok.ensures.asked, c.status_of.ensures.status)
+
+pub returns-in-Ok-clause-done : goal.returns-in-Ok-clause-done
+returns-in-Ok-clause-done g c = λ none. inr (_, c.in-Ok.ensures.asked, (rw (c.status_of.ensures.clean none) at c.tally-ended.ensures) refl)
 
 pub returns-in-Err-clause-ends : goal.returns-in-Err-clause-ends
 returns-in-Err-clause-ends g c = inr (record {
@@ -11,3 +15,6 @@ returns-in-Err-clause-ends g c = inr (record {
   refused = c.refuse.ensures.refused;
   text = c.refuse.ensures.text;
 })
+
+pub returns-in-Err-clause-done : goal.returns-in-Err-clause-done
+returns-in-Err-clause-done g c = λ none. inl (text_asked (map string_bytes c.args.words.now) _ _ c.in-Err.ensures.refused c.refuse.ensures.refused none)

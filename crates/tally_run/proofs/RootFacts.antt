@@ -1,0 +1,171 @@
+-- Roots that are counted one after another.
+use Rattle.std.proofs.Common.{◌≡◌, ◌∙◌, ◌+◌, ◌<◌, ℕ, Bool, true, false, ◌&&◌, List, [], ◌∷◌, ◌++◌, append-nil, append_assoc, map, take, length, Option, inl, inr, refl, sym, ap, ap₂, subst}
+use Rattle.std.specs.Prelude.{get_or}
+use Rattle.std.specs.Borrow.{Bor}
+use Rattle.std.specs.List.{list_all}
+use Rattle.std.proofs.lemmas.Grind.{flat_map-append}
+use Rattle.std.proofs.lemmas.List.{length-append, map-append, take_more}
+use Rattle.jwalk.specs.jwalk_model.Counted.{Worth}
+use Rattle.jwalk.specs.jwalk_model.declared.metadata.Identity.{Identity}
+use Rattle.jwalk.specs.jwalk_model.Entry.{Item}
+use Rattle.jwalk_subtotals.specs.Counted.{HaveSame, files_after, is_among}
+use Rattle.jwalk_subtotals.specs.Files.{files_of}
+use Rattle.jwalk_subtotals.specs.Subtotals.{Yielded, listed_all, subtotals_beside}
+use Rattle.jwalk_subtotals.specs.declared.options.SubtotalOptions.{SubtotalOptions}
+use Rattle.jwalk_subtotals.proofs.ComingFacts.{after_same, weighed_same}
+use Rattle.tally_words.specs.Asks.{texts_of}
+use Rattle.tally_words.specs.declared.asked.Asked.{Asked}
+use Rattle.tally_run.specs.Counting.{is_clean}
+use Rattle.tally_run.specs.Results.{Row, Takes, row_of, rows_of}
+use Rattle.tally_run.specs.Roots.{CountsRoot, CountsRoots, IsLeftOut, LeavesOut, all_subtotals, files_behind}
+use Rattle.tally_run.specs.Shown.{shown_asked}
+use Rattle.tally_run.specs.Walks.{CountsBelow, subtotals_asked}
+use Rattle.tally_run.specs.declared.counting.Counted.{Counted}
+use Rattle.tally_run.specs.declared.results.Results.{Results}
+use Rattle.tally_run.proofs.CountingFacts.{all_seam}
+use Rattle.tally_run.proofs.ResultFacts.{takes_none, takes_then}
+
+module _ {X : Type 0} where
+  -- one more is left out
+  pub one_out : (xs left : List X) (x : X) → LeavesOut xs left → LeavesOut (xs ++ x ∷ []) left
+  one_out [] left x is = inr is
+  one_out (y ∷ xs) left x (inl (rest, is, more)) = inl (rest, is, one_out xs rest x more)
+  one_out (y ∷ xs) left x (inr more) = inr (one_out xs left x more)
+
+  -- one more isn't
+  pub one_in : (xs left : List X) (x : X) → LeavesOut xs left → LeavesOut (xs ++ x ∷ []) (left ++ x ∷ [])
+  one_in [] left x is = inl ([], ap (λ (l : List X). l ++ x ∷ []) is, refl)
+  one_in (y ∷ xs) left x (inl (rest, is, more)) = inl (rest ++ x ∷ [], ap (λ (l : List X). l ++ x ∷ []) is, one_in xs rest x more)
+  one_in (y ∷ xs) left x (inr more) = inr (one_in xs left x more)
+
+-- two lists are as long with one more
+one_longer : {X Y : Type 0} (xs : List X) (ys : List Y) (x : X) (y : Y) → length xs ≡ length ys → length (xs ++ x ∷ []) ≡ length (ys ++ y ∷ [])
+one_longer xs ys x y same = length-append xs (x ∷ []) ∙ ap (λ (n : ℕ). n + 1) same ∙ sym (length-append ys (y ∷ []))
+
+-- one root more
+roots_more : (roots : List (Bor (List ℕ))) (i : ℕ) (d : Bor (List ℕ)) → i < length roots → texts_of (take (i + 1) roots) ≡ texts_of (take i roots) ++ (get_or roots i d).now ∷ []
+roots_more roots i d below = ap texts_of (take_more roots i d below) ∙ map-append (λ it. it.now) (take i roots) (get_or roots i d ∷ [])
+
+module _ {R E : Type 0} (o : SubtotalOptions) where
+  -- one list of answers more
+  files_more : (known : List Identity) (ls : List (List (Item R E))) (l : List (Item R E)) → files_behind o known (ls ++ l ∷ []) ≡ files_after o (files_behind o known ls) l
+  files_more known [] l = refl
+  files_more known (m ∷ ls) l = files_more (files_after o known m) ls l
+
+  subtotals_more : (known : List Identity) (ls : List (List (Item R E))) (l : List (Item R E)) → all_subtotals o known (ls ++ l ∷ []) ≡ all_subtotals o known ls ++ subtotals_beside o (files_behind o known ls) l
+  subtotals_more known [] l = append-nil (subtotals_beside o known l)
+  subtotals_more known (m ∷ ls) l =
+      ap (λ (ys : List (Yielded R E)). subtotals_beside o known m ++ ys) (subtotals_more (files_after o known m) ls l)
+      ∙ sym (append_assoc (subtotals_beside o known m) (all_subtotals o (files_after o known m) ls) (subtotals_beside o (files_behind o (files_after o known m) ls) l))
+
+both_first : (a b : Bool) → (a && b) ≡ true → a ≡ true
+both_first true b is = refl
+both_first false b is = is
+
+both_second : (a b : Bool) → (a && b) ≡ true → b ≡ true
+both_second true b is = is
+both_second false b is = absurd (cc is)
+
+and_true : (a : Bool) → (a && true) ≡ a
+and_true true = refl
+and_true false = refl
+
+module _ (fixed : Type 0) (below : List ℕ → List (Item Worth Worth)) (asked : Asked) (old : Results) (before : Option (List ℕ)) where
+  -- The roots so far are counted, with these files.
+  pub record RootsSoFar (roots : List (List ℕ)) (files : List Identity) (new : Results) (after : Option (List ℕ)) (clean : Bool) : Type 0 where
+    pub counted : List (List ℕ)
+    pub among : LeavesOut roots counted
+    pub answered : List (List (Item Worth Worth))
+    pub each : length answered ≡ length counted
+    pub whole : fixed → clean ≡ true → answered ≡ map below counted
+    pub taken : Takes (rows_of (shown_asked asked) (all_subtotals (subtotals_asked asked) [] answered)) old before new after
+    pub tells : clean ≡ list_all is_clean (all_subtotals (subtotals_asked asked) [] answered)
+    pub remembered : HaveSame files (files_behind (subtotals_asked asked) [] answered)
+
+  -- no roots
+  pub no_roots : (files : List Identity) → files ≡ [] → RootsSoFar [] files old before true
+  no_roots files none = record {
+    counted = [];
+    among = refl;
+    answered = [];
+    each = refl;
+    whole = λ _ _. refl;
+    taken = takes_none old before;
+    tells = refl;
+    remembered = subst (λ (l : List Identity). HaveSame l []) (sym none) (λ i. refl);
+  }
+
+  module _ (roots : List (Bor (List ℕ))) (i : ℕ) (d : Bor (List ℕ)) (is_one : i < length roots) (files : List Identity) (mid : Results) (during : Option (List ℕ)) (clean : Bool) (so_far : RootsSoFar (texts_of (take i roots)) files mid during clean) where
+    -- a root that is left out
+    root_out : (new : Results) (after : Option (List ℕ)) (counted : Counted) → IsLeftOut files mid during new after counted
+        → RootsSoFar (texts_of (take (i + 1) roots)) (files_of counted.files) new after (clean && counted.clean)
+    root_out new after counted out = record {
+      counted = so_far.counted;
+      among = subst (λ (l : List (List ℕ)). LeavesOut l so_far.counted) (sym (roots_more roots i d is_one)) (one_out (texts_of (take i roots)) so_far.counted (get_or roots i d).now so_far.among);
+      answered = so_far.answered;
+      each = so_far.each;
+      whole = λ always is. so_far.whole always (both_first clean counted.clean is);
+      taken = subst (λ (r : Results). Takes (rows_of (shown_asked asked) (all_subtotals (subtotals_asked asked) [] so_far.answered)) old before r after) (sym out.untaken)
+          (subst (λ (w : Option (List ℕ)). Takes (rows_of (shown_asked asked) (all_subtotals (subtotals_asked asked) [] so_far.answered)) old before mid w) (sym out.unwritten) so_far.taken);
+      tells = ap₂ (λ (a b : Bool). a && b) so_far.tells out.without_error ∙ and_true (list_all is_clean (all_subtotals (subtotals_asked asked) [] so_far.answered));
+      remembered = subst (λ (l : List Identity). HaveSame l (files_behind (subtotals_asked asked) [] so_far.answered)) (sym out.remembered) so_far.remembered;
+    }
+
+    -- a root that is counted
+    root_in : (new : Results) (after : Option (List ℕ)) (counted : Counted) → CountsBelow fixed (below (get_or roots i d).now) asked files mid during new after counted
+        → RootsSoFar (texts_of (take (i + 1) roots)) (files_of counted.files) new after (clean && counted.clean)
+    root_in new after counted counts =
+        let o = subtotals_asked asked in
+        let shown = shown_asked asked in
+        let root = (get_or roots i d).now in
+        let ls = so_far.answered in
+        let l = counts.answered in
+        let known = files_behind o [] ls in
+        record {
+          counted = so_far.counted ++ root ∷ [];
+          among = subst (λ (r : List (List ℕ)). LeavesOut r (so_far.counted ++ root ∷ [])) (sym (roots_more roots i d is_one)) (one_in (texts_of (take i roots)) so_far.counted root so_far.among);
+          answered = ls ++ l ∷ [];
+          each = one_longer ls so_far.counted l root so_far.each;
+          whole = λ always is.
+              ap₂ (λ (a : List (List (Item Worth Worth))) (b : List (Item Worth Worth)). a ++ b ∷ []) (so_far.whole always (both_first clean counted.clean is)) (counts.whole always (both_second clean counted.clean is))
+              ∙ sym (map-append below so_far.counted (root ∷ []));
+          taken = subst (λ (rows : List Row). Takes rows old before new after)
+              (sym (ap (rows_of shown) (subtotals_more o [] ls l) ∙ flat_map-append (row_of shown) (all_subtotals o [] ls) (subtotals_beside o known l)))
+              (takes_then (rows_of shown (all_subtotals o [] ls)) (rows_of shown (subtotals_beside o known l)) old mid new before during after so_far.taken
+              (subst (λ w. Takes (rows_of shown (listed_all o w)) mid during new after) (weighed_same o files known so_far.remembered l) counts.taken));
+          tells =
+              ap₂ (λ (a b : Bool). a && b) so_far.tells (counts.tells ∙ ap (λ w. list_all is_clean (listed_all o w)) (weighed_same o files known so_far.remembered l))
+              ∙ sym (ap (list_all is_clean) (subtotals_more o [] ls l) ∙ all_seam is_clean (all_subtotals o [] ls) (subtotals_beside o known l));
+          remembered = λ j. counts.remembered j ∙ after_same o files known so_far.remembered l j ∙ ap (λ (fs : List Identity). is_among fs j) (sym (files_more o [] ls l));
+        }
+
+    -- one root more
+    pub one_root : (new : Results) (after : Option (List ℕ)) (counted : Counted) → CountsRoot fixed (below (get_or roots i d).now) asked files mid during new after counted
+        → RootsSoFar (texts_of (take (i + 1) roots)) (files_of counted.files) new after (clean && counted.clean)
+    one_root new after counted (inl out) = root_out new after counted out
+    one_root new after counted (inr counts) = root_in new after counted counts
+
+  -- all roots
+  pub all_roots : (roots : List (List ℕ)) (files : List Identity) (new : Results) (after : Option (List ℕ)) (clean : Bool) → RootsSoFar roots files new after clean → CountsRoots fixed below asked roots old before new after clean
+  all_roots roots files new after clean so_far = record {
+    counted = so_far.counted;
+    among = so_far.among;
+    answered = so_far.answered;
+    each = so_far.each;
+    whole = so_far.whole;
+    taken = so_far.taken;
+    tells = so_far.tells;
+  }
+
+-- the same roots
+pub roots_as : {fixed : Type 0} {below : List ℕ → List (Item Worth Worth)} {asked : Asked} {roots roots' : List (List ℕ)} {old new : Results} {before after : Option (List ℕ)} {clean : Bool}
+    → roots ≡ roots' → CountsRoots fixed below asked roots old before new after clean → CountsRoots fixed below asked roots' old before new after clean
+roots_as is counts = record {
+  counted = counts.counted;
+  among = subst (λ (l : List (List ℕ)). LeavesOut l counts.counted) is counts.among;
+  answered = counts.answered;
+  each = counts.each;
+  whole = counts.whole;
+  taken = counts.taken;
+  tells = counts.tells;
+}

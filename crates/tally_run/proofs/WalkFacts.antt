@@ -1,0 +1,138 @@
+-- What is counted of a walk doesn't go by its states.
+use Rattle.std.proofs.Common.{◌≡◌, ◌∙◌, ℕ, Bool, true, false, List, [], ◌∷◌, ◌++◌, ◌&&◌, map, Option, None, Some, Ok, Err, refl, sym, ap, ap₂, subst}
+use Rattle.std.specs.Prelude.{flat_map, if◌then◌else◌}
+use Rattle.std.specs.Iterator.{Drains}
+use Rattle.std.specs.List.{list_all}
+use Rattle.std.specs.declared.clone.Clone as Clone
+use Rattle.std.specs.declared.default.Default as Default
+use Rattle.jwalk.specs.jwalk_model.Counted.{Worth}
+use Rattle.jwalk.specs.jwalk_model.declared.metadata.Identity.{Identity}
+use Rattle.jwalk.specs.jwalk_model.Entry.{Item}
+use Rattle.jwalk.specs.jwalk_model.FileSystem.{Functions}
+use Rattle.jwalk.specs.jwalk_model.Job.{Processing}
+use Rattle.jwalk.specs.jwalk_model.Options.{with_skip_hidden}
+use Rattle.jwalk.specs.jwalk_model.Walk.{whole_walk}
+use Rattle.jwalk.specs.jwalk_fs.declared.file_system.FileSystem as FileSystem
+use Rattle.jwalk.specs.jwalk_job.declared.process_read_dir.ProcessReadDir as ProcessReadDir
+use Rattle.jwalk.specs.jwalk_job.Given.{Given, counted_item}
+use Rattle.jwalk.specs.jwalk_job.Job.{IsSteady}
+use Rattle.jwalk.specs.jwalk_core.declared.readers.Readers as Readers
+use Rattle.jwalk.specs.jwalk_core.declared.dir_entry_iter.DirEntryIter.{DirEntryIter}
+use Rattle.jwalk.specs.jwalk_core.DirEntryIter.{Answers, StartsSteady}
+use Rattle.jwalk.specs.tree_crew.declared.crew.NotStarted.{NotStarted}
+use Rattle.jwalk.specs.WalkDir.{HoldsUnless, Starts, callback_of, file_system_of, job_for, root_of, state_of}
+use Rattle.jwalk.specs.declared.walk_dir.WalkDirGeneric.{WalkDirGeneric}
+use Rattle.jwalk.specs.jwalk_job.Entry.{item}
+use Rattle.jwalk.proofs.CleanFacts.{clean_whole}
+use Rattle.jwalk.proofs.WholeFacts.{steady_begun}
+use Rattle.jwalk_ignore.specs.Callback.Kept.{job_with}
+use Rattle.jwalk_ignore.specs.Rules.Texts.{Texts}
+use Rattle.jwalk_subtotals.specs.Coming.{Gives, IsFreshBeside, answers_of, held, options_of, value}
+use Rattle.jwalk_subtotals.specs.Counted.{HaveSame, files_after, is_among}
+use Rattle.jwalk_subtotals.specs.Files.{files_of}
+use Rattle.jwalk_subtotals.specs.Subtotals.{Yielded, subtotals_beside, yielded_by}
+use Rattle.jwalk_subtotals.specs.declared.iter.Subtotals.{Subtotals}
+use Rattle.jwalk_subtotals.proofs.StateFacts.{files_same, subtotals_same}
+use Rattle.jwalk_subtotals.proofs.WholeFacts.{all_yielded_beside}
+use Rattle.tally_run.specs.Counting.{TakesAll, is_clean}
+use Rattle.tally_words.specs.declared.asked.Asked.{Asked}
+use Rattle.tally_run.specs.Results.{Row, Takes, row_of, rows_of}
+use Rattle.tally_run.specs.Shown.{shown_asked}
+use Rattle.tally_run.specs.Walks.{CountsBelow, CountsWalk, all_below, counted_below, kept_below, options_asked, options_by, subtotals_asked}
+use Rattle.tally_run.specs.declared.counting.Counted.{Counted}
+use Rattle.tally_run.specs.declared.results.Results.{Results}
+use Rattle.tally_run.specs.declared.shown.Shown.{Shown}
+use Rattle.tally_run.proofs.CountingFacts.{answers_ok}
+
+module _ {R E V W : Type 0} (view : R → V) (mark : E → W) (shown : Shown) where
+  row_same : (y : Yielded R E) → row_of shown (yielded_by view mark y) ≡ row_of shown y
+  row_same (Ok (e, t)) = refl
+  row_same (Err f) = refl
+
+  rows_same : (ys : List (Yielded R E)) → rows_of shown (map (yielded_by view mark) ys) ≡ rows_of shown ys
+  rows_same [] = refl
+  rows_same (y ∷ ys) = ap₂ (λ (a b : List Row). a ++ b) (row_same y) (rows_same ys)
+
+  one_clean : (y : Yielded R E) → is_clean (yielded_by view mark y) ≡ is_clean y
+  one_clean (Err f) = refl
+  one_clean (Ok (e, t)) =
+      elim e.read_children as (λ o. is_clean (yielded_by view mark (Ok (record e { read_children = o }, t))) ≡ is_clean {R = R} {E = E} (Ok (record e { read_children = o }, t))) [ None ↦ refl | Some c ↦ refl ]
+
+  all_clean : (ys : List (Yielded R E)) → list_all is_clean (map (yielded_by view mark) ys) ≡ list_all is_clean ys
+  all_clean [] = refl
+  all_clean (y ∷ ys) = ap₂ (λ (a b : Bool). a && b) (one_clean y) (all_clean ys)
+
+-- what is counted of a walk is counted of what it yields by value
+pub below_counted : {C S P A W L R E : Type 0} (files : FileSystem.Ghosts S) (process : ProcessReadDir.Ghosts P C A R E) (clone : Clone.Ghosts R) (defaults : Default.Ghosts E) (readers : Readers.Ghosts L C S P A R E) (walk : WalkDirGeneric C S P A W R E) (given : Given R E) (fixed : Type 0) (below : List (Item Worth Worth)) (asked : Asked) (known : List Identity) (old new : Results) (before after : Option (List ℕ)) (counted : Counted)
+    → (fixed → IsSteady files process clone defaults (file_system_of walk) (callback_of walk) given) → (fixed → whole_walk (job_for files given walk) (root_of walk) (given.read_dir_state (state_of walk)) ≡ below)
+    → CountsWalk files process clone defaults readers walk asked known old before new after counted → CountsBelow fixed below asked known old before new after counted
+below_counted files process clone defaults readers walk given fixed below asked known old new before after counted steady is counts =
+    let o = subtotals_asked asked in
+    let shown = shown_asked asked in
+    record {
+      answered = map (counted_item given) counts.answered;
+      whole = λ always clean. counts.whole clean given (steady always) ∙ is always;
+      taken = subst (λ (rows : List Row). Takes rows old before new after)
+          (sym (ap (rows_of shown) (subtotals_same given.read_dir_state given.dir_entry_state o known counts.answered) ∙ rows_same given.read_dir_state given.dir_entry_state shown (subtotals_beside o known counts.answered)))
+          counts.taken;
+      tells =
+          counts.tells
+          ∙ sym (ap (list_all is_clean) (subtotals_same given.read_dir_state given.dir_entry_state o known counts.answered) ∙ all_clean given.read_dir_state given.dir_entry_state shown (subtotals_beside o known counts.answered));
+      remembered = λ i. counts.remembered i ∙ ap (λ (l : List Identity). is_among l i) (sym (files_same given.read_dir_state given.dir_entry_state o known counts.answered));
+    }
+
+-- So it is of what is known otherwise.
+pub below_as : {fixed fixed' : Type 0} {below below' : List (Item Worth Worth)} {asked : Asked} {known : List Identity} {old new : Results} {before after : Option (List ℕ)} {counted : Counted}
+    → (fixed → fixed') → below' ≡ below → CountsBelow fixed' below' asked known old before new after counted → CountsBelow fixed below asked known old before new after counted
+below_as always is counts = record {
+  answered = counts.answered;
+  whole = λ fixed clean. counts.whole (always fixed) clean ∙ is;
+  taken = counts.taken;
+  tells = counts.tells;
+  remembered = counts.remembered;
+}
+
+-- what is counted below a root, with ignore files and without
+pub kept_counted : (fs : Functions) (texts : Texts) (asked : Asked) (root : List ℕ) → asked.ignore ≡ true → kept_below fs texts asked root ≡ counted_below fs texts asked root
+kept_counted fs texts asked root is = ap (λ (b : Bool). if b then kept_below fs texts asked root else all_below fs asked root) (sym is)
+
+pub all_counted : (fs : Functions) (texts : Texts) (asked : Asked) (root : List ℕ) → asked.ignore ≡ false → all_below fs asked root ≡ counted_below fs texts asked root
+all_counted fs texts asked root is = ap (λ (b : Bool). if b then kept_below fs texts asked root else all_below fs asked root) (sym is)
+
+-- it doesn't matter whether a crew reads
+pub same_by_crew : (processed : Processing Worth Worth) (by_crew : Bool) (fs : Functions) (asked : Asked) (root : List ℕ) (state : Worth)
+    → whole_walk (job_with fs (options_by by_crew asked) processed) root state ≡ whole_walk (job_with fs (options_asked asked) processed) root state
+unfolding whole_walk
+same_by_crew processed true fs asked root state = refl
+same_by_crew processed false fs asked root state = refl
+
+pub hidden_by_crew : (processed : Processing Worth Worth) (by_crew : Bool) (fs : Functions) (asked : Asked) (root : List ℕ) (state : Worth)
+    → whole_walk (job_with fs (with_skip_hidden false (options_by by_crew asked)) processed) root state ≡ whole_walk (job_with fs (with_skip_hidden false (options_asked asked)) processed) root state
+unfolding whole_walk
+hidden_by_crew processed true fs asked root state = refl
+hidden_by_crew processed false fs asked root state = refl
+
+module _ {C S P A W L R E : Type 0} (files : FileSystem.Ghosts S) (process : ProcessReadDir.Ghosts P C A R E) (clone : Clone.Ghosts R) (defaults : Default.Ghosts E) (readers : Readers.Ghosts L C S P A R E) (walk : WalkDirGeneric C S P A W R E) (it : DirEntryIter C S P A L R E) where
+  -- what is taken of the subtotals of a walk, from its beginning until its end, is counted of it
+  pub walk_counted : (asked : Asked) (known : List Identity) (old new : Results) (before after : Option (List ℕ)) (counted : Counted) (start end : Subtotals C A (DirEntryIter C S P A L R E) R E) (shown : Shown) (why_not : Option NotStarted)
+      → Starts walk it → HoldsUnless files process clone defaults why_not walk it → StartsSteady files process clone defaults readers it
+      → IsFreshBeside known start → answers_of start ≡ it → options_of start ≡ subtotals_asked asked → shown ≡ shown_asked asked
+      → TakesAll (Gives (Answers files process clone defaults readers)) shown start end old before new after counted.clean → HaveSame (files_of counted.files) (held end).files
+      → CountsWalk files process clone defaults readers walk asked known old before new after counted
+  walk_counted asked known old new before after counted start end shown why_not starts holds steadily fresh same options shown_is took remembered =
+      let next = Answers files process clone defaults readers in
+      let o = subtotals_asked asked in
+      let all = all_yielded_beside next known start end took.yielded fresh took.calls took.goes_on in
+      let xs = all.0 in
+      let drains = subst (λ i. Drains next i xs) same all.1 in
+      let told : subtotals_beside o known (map item xs) ≡ flat_map value took.yielded = ap (λ s. subtotals_beside s known (map item xs)) (sym options) ∙ all.2 in
+      record {
+        answered = map item xs;
+        walked = (it, starts, xs, drains, refl);
+        whole = λ is given steady.
+            clean_whole files process clone defaults readers given walk it xs why_not holds (steady_begun files process clone defaults readers given walk it steadily starts steady) starts steady drains
+            (answers_ok o known xs (flat_map value took.yielded) told (sym took.tells ∙ is));
+        taken = subst (λ (rows : List Row). Takes rows old before new after) (ap₂ (λ s l. rows_of s l) shown_is (sym told)) took.taken;
+        tells = took.tells ∙ ap (list_all is_clean) (sym told);
+        remembered = λ i. remembered i ∙ all.3 i ∙ ap (λ s. is_among (files_after s known (map item xs)) i) options;
+      }

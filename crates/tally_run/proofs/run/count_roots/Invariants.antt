@@ -1,0 +1,14 @@
+use Rattle.std.proofs.Common.{take}
+use Rattle.std.specs.Arc.{arc_value}
+use Rattle.jwalk_subtotals.specs.Files.{files_of}
+use Rattle.tally_words.specs.Asks.{texts_of}
+use Rattle.tally_run.specs.Walks.{counted_below}
+use Rattle.tally_run.proofs.RootFacts.{RootsSoFar}
+use Rattle.tally_run.proofs.run.count_roots.Given as goal
+
+-- the roots so far are counted
+abbrev pub invariant-loop-root : goal.invariant-loop-root
+invariant-loop-root g l =
+    RootsSoFar (g.S.FileSystem.IsFixed (arc_value l.walks.disk) × g.X.Texts.IsFixed (arc_value l.walks.texts))
+    (counted_below (g.S.FileSystem.functions (arc_value l.walks.disk)) (g.X.Texts.functions (arc_value l.walks.texts)) l.walks.asked.now) l.walks.asked.now
+    l.fn.results (g.W.Write.contents l.fn.out) (texts_of (take l.root-index l.roots)) (files_of l.files) l.results (g.W.Write.contents l.out) l.clean

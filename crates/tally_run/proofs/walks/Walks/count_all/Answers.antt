@@ -1,0 +1,41 @@
+use Rattle.std.proofs.Common.{◌≡◌, ◌∙◌, ap, refl, subst, sym}
+use Rattle.std.specs.Prelude.{is_some}
+use Rattle.std.specs.Arc.{arc_value}
+use Rattle.std.proofs.lemmas.Result.{IfOk-weaker}
+use Rattle.jwalk.specs.jwalk_model.Counted.{blank}
+use Rattle.jwalk.specs.WalkDir.{callback_of, file_system_of, options_of, root_of}
+use Rattle.jwalk_ignore.specs.Callback.Excluding.{Excluded, excluded_by, excluded_of, excluding}
+use Rattle.jwalk_ignore.specs.Callback.Kept.{given_excluding}
+use Rattle.jwalk_ignore.proofs.KeptFacts.{whole_of}
+use Rattle.tally_words.specs.Asks.{texts_of}
+use Rattle.tally_run.specs.Walks.{excluded_asked, options_by}
+use Rattle.tally_run.proofs.WalkFacts.{below_counted, same_by_crew}
+use Rattle.tally_run.proofs.walks.Walks.count_all.Goals as goal
+
+pub returns : goal.returns
+returns g c =
+    let self = c.args.self.now in
+    let asked = self.asked.now in
+    let built = c.in_ok-walk.ensures in
+    let set = c.process_read_dir-walk.ensures in
+    let walk = c.process_read_dir-walk.result in
+    let excluded = excluded_asked asked c.args.root.now in
+    let over : arc_value (file_system_of walk) ≡ arc_value self.disk = ap arc_value (set.file_system ∙ built.file_system) ∙ c.in_ok-disk.ensures.cases in
+    let lines : excluded_of (callback_of walk) ≡ excluded
+    = ap excluded_of set.callback ∙ c.in_ok-excluding.ensures ∙ ap (λ l. excluded_by (texts_of l) c.args.root.now) c.as_slice.ensures.value in
+    let options : options_of walk ≡ options_by (is_some self.crew) asked = set.options ∙ built.options in
+    let root : root_of walk ≡ c.args.root.now = set.root ∙ built.root ∙ c.in_ok-root.ensures.ok in
+    IfOk-weaker c.count_walk.result _ _
+    (λ counted counts.
+    below_counted _ _ _ _ _ walk (given_excluding excluded) _ _ _ _ _ _ _ _ counted
+    (λ fixed. record {
+      file_system = subst g.S.FileSystem.IsFixed (sym over) fixed;
+      callback = λ depth path state list. ap (λ (x : Excluded). excluding x depth path state list) (sym lines);
+      clones = λ x y h. refl;
+      default = λ x h. refl;
+    })
+    (λ fixed.
+    whole_of (excluding excluded) (ap g.S.FileSystem.functions over) options root refl
+    ∙ same_by_crew (excluding excluded) (is_some self.crew) (g.S.FileSystem.functions (arc_value self.disk)) asked c.args.root.now blank)
+    counts)
+    c.count_walk.ensures

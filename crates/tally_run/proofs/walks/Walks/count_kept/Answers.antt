@@ -1,0 +1,42 @@
+use Rattle.std.proofs.Common.{◌≡◌, ◌∙◌, ap, subst, sym}
+use Rattle.std.specs.Prelude.{is_some}
+use Rattle.std.specs.Arc.{arc_value}
+use Rattle.std.proofs.lemmas.Result.{IfOk-weaker}
+use Rattle.jwalk.specs.jwalk_model.Counted.{blank, both}
+use Rattle.jwalk.specs.WalkDir.{file_system_of, state_of}
+use Rattle.jwalk_ignore.specs.Callback.Excluding.{excluded_by, excluded_of, excluding}
+use Rattle.jwalk_ignore.specs.Callback.Given.{no_rules_yet, rules_alone}
+use Rattle.jwalk_ignore.specs.Callback.IgnoreViews.{ignoring, next_of, settings_of, texts_of as texts_in}
+use Rattle.jwalk_ignore.specs.Rules.ChainWorth.{chain_worth}
+use Rattle.jwalk_ignore.specs.declared.callback.settings.Settings.{Settings}
+use Rattle.jwalk_ignore.proofs.KeptFacts.{ignoring_same}
+use Rattle.tally_words.specs.Asks.{texts_of}
+use Rattle.tally_run.specs.Walks.{excluded_asked, settings_asked}
+use Rattle.tally_run.proofs.WalkFacts.{below_as, hidden_by_crew}
+use Rattle.tally_run.proofs.walks.Walks.count_kept.Goals as goal
+
+pub returns : goal.returns
+returns g c =
+    let self = c.args.self.now in
+    let asked = self.asked.now in
+    let built = c.in_ok-walk.ensures in
+    let walk = c.in_ok-walk.walk in
+    let rules = c.then-rules.result in
+    let over : arc_value (file_system_of walk) ≡ arc_value self.disk = ap arc_value built.file_system ∙ c.in_ok-disk.ensures.cases in
+    let excluded = excluded_asked asked c.args.root.now in
+    let texts = g.X.Texts.functions (arc_value self.texts) in
+    let from : arc_value (texts_in rules) ≡ arc_value self.texts
+    = ap arc_value (c.then-rules.ensures.texts ∙ c.keep_hidden.ensures.texts ∙ c.new-2.ensures.texts) ∙ c.in_ok-clone.ensures.cases in
+    let settings : settings_of rules ≡ settings_asked asked
+    = c.then-rules.ensures.settings ∙ c.keep_hidden.ensures.settings ∙ ap (λ (s : Settings). record s { keeps_hidden = (settings_asked asked).keeps_hidden }) c.new-2.ensures.settings in
+    let lines : excluded_of (next_of rules) ≡ excluded
+    = ap excluded_of c.then-rules.ensures.next ∙ c.in_ok-excluding.ensures ∙ ap (λ l. excluded_by (texts_of l) c.args.root.now) c.as_slice.ensures.value in
+    let state : rules_alone (state_of walk) ≡ no_rules_yet = ap (λ chain. both (chain_worth chain) blank) built.state.0 in
+    IfOk-weaker c.count_ruled.result _ _
+    (λ counted counts.
+    below_as
+    (λ always. (subst g.S.FileSystem.IsFixed (sym over) always.0, subst g.X.Texts.IsFixed (sym from) always.1, state))
+    (ignoring_same (ap g.S.FileSystem.functions over) (ap g.X.Texts.functions from) settings lines built.options (built.root ∙ c.in_ok-root.ensures.ok)
+    ∙ hidden_by_crew (ignoring (settings_asked asked) texts (excluding excluded)) (is_some self.crew) (g.S.FileSystem.functions (arc_value self.disk)) asked c.args.root.now no_rules_yet)
+    counts)
+    c.count_ruled.ensures

@@ -1,0 +1,95 @@
+-- What is counted below a root, and how.
+use Rattle.std.specs.Prelude.{◌≡◌, ℕ, ◌-◌, ◌^◌, Bool, true, false, not, List, map, Option, Result, if◌then◌else◌}
+use Rattle.std.specs.Iterator.{Drains}
+use Rattle.std.specs.List.{list_all}
+use Rattle.std.specs.declared.clone.Clone as Clone
+use Rattle.std.specs.declared.default.Default as Default
+use Rattle.jwalk.specs.jwalk_model.Counted.{Worth, blank}
+use Rattle.jwalk.specs.jwalk_model.declared.metadata.Identity.{Identity}
+use Rattle.jwalk.specs.jwalk_model.Entry.{Item}
+use Rattle.jwalk.specs.jwalk_model.FileSystem.{Functions}
+use Rattle.jwalk.specs.jwalk_model.Options.{Options, crew, defaults, with_follow_links, with_keep_metadata, with_parallelism, with_same_file_system, with_skip_hidden, with_sort}
+use Rattle.jwalk.specs.jwalk_model.Walk.{whole_walk}
+use Rattle.jwalk.specs.jwalk_fs.declared.file_system.FileSystem as FileSystem
+use Rattle.jwalk.specs.jwalk_job.declared.process_read_dir.ProcessReadDir as ProcessReadDir
+use Rattle.jwalk.specs.jwalk_job.declared.dir_entry.DirEntry.{DirEntry}
+use Rattle.jwalk.specs.jwalk_job.declared.error.Error.{Error}
+use Rattle.jwalk.specs.jwalk_job.Entry.{item}
+use Rattle.jwalk.specs.jwalk_job.Given.{Given, counted_item}
+use Rattle.jwalk.specs.jwalk_job.Job.{IsSteady}
+use Rattle.jwalk.specs.jwalk_core.declared.dir_entry_iter.DirEntryIter.{DirEntryIter}
+use Rattle.jwalk.specs.jwalk_core.declared.readers.Readers as Readers
+use Rattle.jwalk.specs.jwalk_core.DirEntryIter.{Answers}
+use Rattle.jwalk.specs.WalkDir.{Starts, callback_of, file_system_of, job_for, root_of, state_of}
+use Rattle.jwalk.specs.declared.walk_dir.WalkDirGeneric.{WalkDirGeneric}
+use Rattle.jwalk_ignore.specs.Callback.Excluding.{Excluded, excluded_by, excluding}
+use Rattle.jwalk_ignore.specs.Callback.Kept.{ignoring_walk, job_with}
+use Rattle.jwalk_ignore.specs.Rules.Texts.{Texts}
+use Rattle.jwalk_ignore.specs.declared.callback.settings.Settings.{Settings}
+use Rattle.jwalk_subtotals.specs.Counted.{HaveSame, files_after}
+use Rattle.jwalk_subtotals.specs.Files.{files_of}
+use Rattle.jwalk_subtotals.specs.Subtotals.{subtotals_beside}
+use Rattle.jwalk_subtotals.specs.declared.options.SubtotalOptions.{SubtotalOptions}
+use Rattle.tally_words.specs.Asks.{texts_of}
+use Rattle.tally_words.specs.declared.asked.Asked.{Asked}
+use Rattle.tally_run.specs.Counting.{is_clean}
+use Rattle.tally_run.specs.Results.{Takes, rows_of}
+use Rattle.tally_run.specs.Shown.{shown_asked}
+use Rattle.tally_run.specs.declared.counting.Counted.{Counted}
+use Rattle.tally_run.specs.declared.results.Results.{Results}
+
+-- what of subtotals is asked for: all of them
+abbrev pub subtotals_asked : Asked → SubtotalOptions
+subtotals_asked asked = record { apparent = asked.apparent; each_name = asked.each_name; all = true; max_depth = 2 ^ 64 - 1 }
+
+-- the options of walks. Whether a crew reads makes no difference to what they yield.
+abbrev pub options_asked : Asked → Options
+options_asked asked =
+    with_keep_metadata true (with_same_file_system asked.one_file_system (with_follow_links asked.follow (with_skip_hidden asked.exclude_hidden (with_sort asked.sort defaults))))
+
+-- the same where a crew may read
+abbrev pub options_by : Bool → Asked → Options
+options_by by_crew asked = if by_crew then with_parallelism crew (options_asked asked) else options_asked asked
+
+-- what is left out below a root
+abbrev pub excluded_asked : Asked → List ℕ → Excluded
+excluded_asked asked root = excluded_by (texts_of asked.excludes.items) root
+
+-- how ignore files are used
+abbrev pub settings_asked : Asked → Settings
+settings_asked asked = record { keeps_hidden = not asked.exclude_hidden; anywhere = false }
+
+-- all that a walk below a root yields, whatever ignore files say
+abbrev pub all_below : Functions → Asked → List ℕ → List (Item Worth Worth)
+all_below fs asked root = whole_walk (job_with fs (options_asked asked) (excluding (excluded_asked asked root))) root blank
+
+-- what ignore files leave of it
+abbrev pub kept_below : Functions → Texts → Asked → List ℕ → List (Item Worth Worth)
+kept_below fs texts asked root = ignoring_walk fs texts (settings_asked asked) (excluded_asked asked root) (options_asked asked) root
+
+-- all that is counted below a root
+abbrev pub counted_below : Functions → Texts → Asked → List ℕ → List (Item Worth Worth)
+counted_below fs texts asked root = if asked.ignore then kept_below fs texts asked root else all_below fs asked root
+
+-- A walk was begun and yielded these answers until its end.
+abbrev pub WalkYields : {C S P A W L R E : Type 0} → FileSystem.Ghosts S → ProcessReadDir.Ghosts P C A R E → Clone.Ghosts R → Default.Ghosts E → Readers.Ghosts L C S P A R E → WalkDirGeneric C S P A W R E → List (Item R E) → Type 0
+WalkYields {C} {S} {P} {A} {W} {L} {R} {E} files process clone defaults readers walk answered =
+    (it : DirEntryIter C S P A L R E) × Starts walk it × (yielded : List (Result (DirEntry C A R E) (Error A))) × Drains (Answers files process clone defaults readers) it yielded × (map item yielded ≡ answered)
+
+-- A walk yielded answers until its end, and what is written of their subtotals is taken, beside the files that were counted before. It is known whether one has an error. If none has, and what the walk goes over always answers the same, the answers are the whole walk.
+pub record CountsWalk {C S P A W L R E : Type 0} (files : FileSystem.Ghosts S) (process : ProcessReadDir.Ghosts P C A R E) (clone : Clone.Ghosts R) (defaults : Default.Ghosts E) (readers : Readers.Ghosts L C S P A R E) (walk : WalkDirGeneric C S P A W R E) (asked : Asked) (known : List Identity) (old : Results) (before : Option (List ℕ)) (new : Results) (after : Option (List ℕ)) (counted : Counted) : Type 0 where
+  pub answered : List (Item R E)
+  pub walked : WalkYields files process clone defaults readers walk answered
+  pub whole : counted.clean ≡ true → (given : Given R E) → IsSteady files process clone defaults (file_system_of walk) (callback_of walk) given
+      → map (counted_item given) answered ≡ whole_walk (job_for files given walk) (root_of walk) (given.read_dir_state (state_of walk))
+  pub taken : Takes (rows_of (shown_asked asked) (subtotals_beside (subtotals_asked asked) known answered)) old before new after
+  pub tells : counted.clean ≡ list_all is_clean (subtotals_beside (subtotals_asked asked) known answered)
+  pub remembered : HaveSame (files_of counted.files) (files_after (subtotals_asked asked) known answered)
+
+-- What is written of the subtotals of answers is taken, beside the files that were counted before. It is known whether one has an error. If none has, and what the walk goes over always answers the same, the answers are all that is below a root, by value.
+pub record CountsBelow (fixed : Type 0) (below : List (Item Worth Worth)) (asked : Asked) (known : List Identity) (old : Results) (before : Option (List ℕ)) (new : Results) (after : Option (List ℕ)) (counted : Counted) : Type 0 where
+  pub answered : List (Item Worth Worth)
+  pub whole : fixed → counted.clean ≡ true → answered ≡ below
+  pub taken : Takes (rows_of (shown_asked asked) (subtotals_beside (subtotals_asked asked) known answered)) old before new after
+  pub tells : counted.clean ≡ list_all is_clean (subtotals_beside (subtotals_asked asked) known answered)
+  pub remembered : HaveSame (files_of counted.files) (files_after (subtotals_asked asked) known answered)

@@ -1,0 +1,82 @@
+//! How far a call is, on standard error.
+use std::io;
+use std::io::Write;
+use std::time::{Clock, Duration};
+
+/// What errors are reported to, and how far a call is.
+pub(crate) trait Report: Write {
+    /// Takes note of an entry that was read.
+    fn note(&mut self);
+
+    /// Wipes what tells how far the call is.
+    fn wipe(&mut self);
+}
+
+/// Standard error, with a line that tells how many entries were read. The line is written where more than a second has
+/// passed since the beginning, or since it was written last, and wiped before anything else is.
+#[derive(Drop)]
+pub(crate) struct Progress<'a, K, E> {
+    clock: &'a K,
+    err: &'a mut E,
+    read: u64,
+    /// When the line is written next, if it is.
+    due: Option<Duration>,
+    is_shown: bool,
+}
+
+/// Returns the time in a second, if a clock tells it.
+fn in_a_second<K: Clock>(clock: &K) -> Option<Duration> {
+    let now = clock.monotonic().ok()?;
+    Some(now.saturating_add(Duration::from_secs(1)))
+}
+
+impl<'a, K: Clock, E: Write> Progress<'a, K, E> {
+    /// Returns a standard error that nothing was written to. The line is written to it if `tells` says so.
+    pub(crate) fn new(clock: &'a K, err: &'a mut E, tells: bool) -> Self {
+        Progress {
+            clock,
+            err,
+            read: 0,
+            due: if tells { in_a_second(clock) } else { None },
+            is_shown: false,
+        }
+    }
+
+    /// Returns whether the line is to be written now.
+    fn is_due(&self) -> bool {
+        match (self.due, self.clock.monotonic()) {
+            (Some(due), Ok(now)) => now > due,
+            _ => false,
+        }
+    }
+}
+
+impl<'a, K: Clock, E: Write> Write for Progress<'a, K, E> {
+    fn write(&mut self, buf: &[u8]) -> io::Result<usize> {
+        self.wipe();
+        self.err.write(buf)
+    }
+
+    fn flush(&mut self) -> io::Result<()> {
+        self.err.flush()
+    }
+}
+
+impl<'a, K: Clock, E: Write> Report for Progress<'a, K, E> {
+    fn note(&mut self) {
+        self.read = self.read.saturating_add(1);
+        if self.due.is_some() && self.is_due() {
+            let _ = write!(self.err, "\rentries read: {}", self.read);
+            let _ = self.err.flush();
+            self.is_shown = true;
+            self.due = in_a_second(self.clock);
+        }
+    }
+
+    fn wipe(&mut self) {
+        if self.is_shown {
+            let _ = write!(self.err, "\r\u{1b}[K");
+            self.is_shown = false;
+        }
+    }
+}
