@@ -14,7 +14,7 @@ pub(crate) enum Step {
     /// A link: its text, and its path.
     Link(&'static str, &'static str),
     /// The time of modification of a file, as seconds since 1970 and nanoseconds, and its path.
-    Modified(u64, u32, &'static str),
+    Modified(u64, u64, &'static str),
     /// The permissions of a file, and its path.
     Mode(u32, &'static str),
 }
@@ -39,7 +39,7 @@ fn take(rt: &HostRuntime, folder: &str, step: Step) -> io::Result<()> {
         Step::Modified(seconds, nanoseconds, at) => set_modified(
             rt,
             path_in(rt, folder, at)?.as_str(),
-            Duration::new(seconds, nanoseconds),
+            Duration::from_secs(seconds).saturating_add(Duration::from_nanos(nanoseconds)),
         ),
         Step::Mode(mode, at) => fs::set_permissions(
             rt,

@@ -6,6 +6,7 @@ use crate::seek::runs::{Row, TREE, all_come, called_on, comes};
 use jwalk::file_system::{Details, FileType, Identity, Metadata, Moment, RealFs};
 use jwalk_ignore::real_texts::RealTexts;
 use seek_words::kinds::Kinds;
+use std::alloc::{AllocError, Global};
 use std::io;
 
 /// Files of known times, of which two are a nanosecond apart, and new files.
@@ -57,13 +58,23 @@ const FOUND: &[Found] = &[
     (&["-tx", "--type=dir"], &["d", "run"]),
 ];
 
+/// The words for all names below a root, in their order.
+fn sorted_below<'w>(
+    alloc: Global,
+    words: &[&'w str],
+    root: &'w str,
+) -> Result<Vec<&'w str>, AllocError> {
+    let mut all = with_root(alloc, words, ".")?;
+    all.push(root)?;
+    all.push("--sort")?;
+    Ok(all)
+}
+
 #[test]
 fn times_and_modes_on_the_disk(rt: HostRuntime) -> io::Result<()> {
     let folder = make(&rt, "kept", STEPS)?;
     for (words, names) in FOUND {
-        let mut all = with_root(rt.alloc(), words, ".")?;
-        all.push(folder.as_str())?;
-        all.push("--sort")?;
+        let all = sorted_below(rt.alloc(), words, folder.as_str())?;
         let lines = lines_of(rt.alloc(), folder.as_str(), names)?;
         let want = (lines.as_str(), "", 0);
         for threads in THREADS {
