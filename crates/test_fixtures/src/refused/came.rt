@@ -84,7 +84,8 @@ where
 {
     let mut came = before;
     'lines: for line in lines {
-        match what_came(alloc, &walk.next(), line) {
+        let met = what_came(alloc, &walk.next(), line);
+        match met {
             Met::Line => came = came.saturating_add(1),
             Met::Refusal => return if_over(walk, Came::Refused(came)),
             Met::Other => return Came::Wrong,

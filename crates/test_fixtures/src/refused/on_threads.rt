@@ -27,7 +27,8 @@ where
 {
     let mut came: usize = 0;
     'lines: for line in lines {
-        match what_came(alloc, &walk.next_on(rt), line) {
+        let met = what_came(alloc, &walk.next_on(rt), line);
+        match met {
             Met::Line => came = came.saturating_add(1),
             Met::Refusal => return if_over(walk, Came::Refused(came)),
             Met::Other => return Came::Wrong,

@@ -1,18 +1,14 @@
 //! Walks that a crew reads for, where each request for memory is refused, or all from each on.
-ghost use Rattle.std.specs.Prelude.{IfSome};
-ghost use Rattle.jwalk.specs.WalkDir.{callback_of};
-
 use crate::refused::rows::{GROUPS, HANDED_ON, MOVED, Row};
 use jwalk::file_system::{FileSystem, MemoryFs};
 use jwalk::read_dir::{NoProcess, ProcessReadDir};
 use jwalk::{ClientState, Crew, Error, Parallelism, WalkDirGeneric};
 use std::alloc::{Allocator, Global};
-use std::sync::{Arc, Wait};
+use std::sync::Arc;
 use std::thread;
-use std::thread::Threads;
-use std::time::{Clock, Duration};
+use std::time::Duration;
 use test_fixtures::host::Host;
-use test_fixtures::refused::callbacks::{Callback, Texts};
+use test_fixtures::refused::callbacks::Texts;
 use test_fixtures::refused::came::{Came, goes};
 use test_fixtures::refused::lines::Shown;
 use test_fixtures::refused::turns::MOST;
@@ -21,50 +17,6 @@ use test_fixtures::trees::tree;
 
 /// Memory that lives as long as the process, as a crew's threads may.
 type Memory = &'static Refusing<Global>;
-
-/// A walk that has not begun, for which a crew will read.
-type Builder<R, C, P> = WalkDirGeneric<C, Arc<MemoryFs>, P, Memory, Crew<R>>;
-
-type Plain<R> = Builder<R, ((), ()), NoProcess>;
-
-type Called<R> = Builder<R, Texts<Memory>, Callback>;
-
-/// A walk waits until the crew has a place.
-fn by_crew<R: Host>(pool: Arc<Crew<R>, Memory>) -> Parallelism<Crew<R>, Memory> {
-    Parallelism::RayonExistingPool {
-        pool,
-        busy_timeout: None,
-    }
-}
-
-/// Returns `None` if there is no memory for the root.
-fn plain<R: Host>(
-    memory: Memory,
-    fs: Arc<MemoryFs>,
-    pool: Arc<Crew<R>, Memory>,
-    row: &Row,
-) -> Option<Plain<R>> {
-    let root = String::from_str(memory, row.root).ok()?;
-    let walk = WalkDirGeneric::with_crew(fs, root)
-        .sort(true)
-        .follow_links(row.follow);
-    Some(walk.parallelism(by_crew(pool)))
-}
-
-/// Returns `None` if there is no memory for the root.
-fn called<R: Host>(
-    memory: Memory,
-    fs: Arc<MemoryFs>,
-    pool: Arc<Crew<R>, Memory>,
-    row: &Row,
-    callback: Callback,
-) -> Option<Called<R>> {
-    let root = String::from_str(memory, row.root).ok()?;
-    let walk = WalkDirGeneric::with_crew(fs, root)
-        .sort(true)
-        .follow_links(row.follow);
-    Some(walk.parallelism(by_crew(pool)).process_read_dir(callback))
-}
 
 /// A crew of which no thread could be started is busy.
 fn not_begun<A: Allocator + Copy>(error: &Error<A>) -> Came {
@@ -75,38 +27,47 @@ fn not_begun<A: Allocator + Copy>(error: &Error<A>) -> Came {
     }
 }
 
-/// Without a walk there was no memory for its root.
-fn comes_by<
-    R: Wait + Threads + Clock + Drop + Send + Sync + 'static,
+/// Returns how the walk of the row comes out with this callback. It waits until the crew has a place.
+fn comes_with<
+    R: Host,
     C: ClientState + Send + 'static,
     S: FileSystem + Send + Sync + 'static,
     P: ProcessReadDir<C, A> + Send + Sync + 'static,
     A: Allocator + Copy + Send + Sync + 'static,
->(alloc: Global, walk: Option<WalkDirGeneric<C, S, P, A, Crew<R>>>, row: &Row) -> Came
+>(alloc: Global, memory: A, fs: S, pool: Arc<Crew<R>, A>, row: &Row, process: P) -> Came
 where
     C::ReadDirState: Send + 'static,
     C::DirEntryState: Shown + Send + 'static,
-    requires { IfSome walk (λ w. P.IsLawful (callback_of w)) }
+    requires { P.IsLawful process }
 {
-    let Some(walk) = walk else {
+    let Ok(root) = String::from_str(memory, row.root) else {
         return Came::Refused(0);
     };
-    match walk.try_into_iter() {
+    let by_crew = Parallelism::RayonExistingPool {
+        pool,
+        busy_timeout: None,
+    };
+    let walk = WalkDirGeneric::<C, S, NoProcess, A, Crew<R>>::with_crew(fs, root)
+        .sort(true)
+        .follow_links(row.follow)
+        .parallelism(by_crew);
+    match walk.process_read_dir(process).try_into_iter() {
         Ok(walk) => goes(alloc, walk, row.lines),
         Err(error) => not_begun(&error),
     }
 }
 
-fn comes<R: Host>(
-    alloc: Global,
-    memory: Memory,
-    fs: Arc<MemoryFs>,
-    pool: Arc<Crew<R>, Memory>,
-    row: &Row,
-) -> Came {
+/// Returns how the walk of the row comes out with its callback.
+fn comes<
+    R: Host,
+    S: FileSystem + Send + Sync + 'static,
+    A: Allocator + Copy + Send + Sync + 'static,
+>(alloc: Global, memory: A, fs: S, pool: Arc<Crew<R>, A>, row: &Row) -> Came {
     match row.callback {
-        Some(callback) => comes_by(alloc, called(memory, fs, pool, row, callback), row),
-        None => comes_by(alloc, plain(memory, fs, pool, row), row),
+        Some(callback) => comes_with::<R, Texts<A>, _, _, _>(
+            alloc, memory, fs, pool, row, callback,
+        ),
+        None => comes_with::<R, ((), ()), _, _, _>(alloc, memory, fs, pool, row, NoProcess),
     }
 }
 

@@ -1,12 +1,14 @@
 //! Walks whose batches threads read, where each request for memory is refused, or all from each on.
 use crate::refused::goes::Play;
 use crate::refused::rows::{GROUPS, HANDED_ON, MOVED, Row};
+use jwalk::ClientState;
 use jwalk::file_system::{BuildError, MemoryFs};
-use jwalk::read_dir::NoProcess;
-use std::alloc::Global;
+use jwalk::read_dir::{NoProcess, ProcessReadDir};
+use std::alloc::{Allocator, Global};
 use std::thread::Threads;
-use test_fixtures::refused::callbacks::{Callback, Texts};
+use test_fixtures::refused::callbacks::Texts;
 use test_fixtures::refused::came::{Came, TAKEN, WAYS};
+use test_fixtures::refused::lines::Shown;
 use test_fixtures::refused::on_threads::comes;
 use test_fixtures::refused::turns::{MOST, Repeated, Run, run_of};
 use test_fixtures::refusing_alloc::Refusing;
@@ -28,28 +30,33 @@ fn wide(alloc: Global) -> Result<MemoryFs, BuildError> {
     Ok(fs)
 }
 
-fn plain_comes<R: Threads + Sync>(
-    rt: &R,
-    alloc: Global,
-    memory: &Refusing<Global>,
-    play: Play<'_>,
-) -> Came {
-    match play.builder::<((), ()), _, _>(memory, NoProcess) {
-        Some(walk) => comes(rt, alloc, memory, walk, play.taken, play.row.lines),
+/// Returns how the walk comes out with this memory and this callback.
+fn comes_with<
+    R: Threads + AllocGlobal + Sync,
+    C: ClientState + Send,
+    P: ProcessReadDir<C, A> + Send + Sync,
+    A: Allocator + Copy + Send + Sync,
+>(rt: &R, memory: A, play: Play<'_>, process: P) -> Came
+where
+    C::ReadDirState: Send,
+    C::DirEntryState: Shown + Send,
+    requires { P.IsLawful process }
+{
+    match play.builder::<C, P, A>(memory, process) {
+        Some(walk) => comes(rt, rt.alloc(), memory, walk, play.taken, play.row.lines),
         None => Came::Refused(0),
     }
 }
 
-fn called_comes<R: Threads + Sync>(
+/// Returns how the walk comes out with this memory and the row's callback.
+fn comes_over<R: Threads + AllocGlobal + Sync, A: Allocator + Copy + Send + Sync>(
     rt: &R,
-    alloc: Global,
-    memory: &Refusing<Global>,
+    memory: A,
     play: Play<'_>,
-    callback: Callback,
 ) -> Came {
-    match play.builder::<Texts<&Refusing<Global>>, _, _>(memory, callback) {
-        Some(walk) => comes(rt, alloc, memory, walk, play.taken, play.row.lines),
-        None => Came::Refused(0),
+    match play.row.callback {
+        Some(callback) => comes_with::<R, Texts<A>, _, _>(rt, memory, play, callback),
+        None => comes_with::<R, ((), ()), _, _>(rt, memory, play, NoProcess),
     }
 }
 
@@ -68,10 +75,7 @@ fn first_wrong<R: Threads + AllocGlobal + Sync>(
     let memory = Refusing::new(rt.alloc());
     for number in 1..MOST {
         memory.refuse(number, many);
-        let came = match play.row.callback {
-            Some(callback) => called_comes(rt, rt.alloc(), &memory, play, callback),
-            None => plain_comes(rt, rt.alloc(), &memory, play),
-        };
+        let came = comes_over(rt, &memory, play);
         match run_of(&memory, number, came, may_be_whole(play)) {
             Run::Refused => {}
             Run::Quiet => return None,

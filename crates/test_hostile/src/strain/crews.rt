@@ -1,7 +1,8 @@
 //! A thousand walks on one crew, and two crews at once.
-use crate::by_crew::{ByCrew, CrewWalk};
-use jwalk::Crew;
+use crate::by_crew::{ByCrew, Visit, WalkBy};
 use jwalk::file_system::{FileSystem, MemoryFs, RealFs};
+use jwalk::read_dir::NoProcess;
+use jwalk::{Crew, Readers};
 use std::alloc::Global;
 use std::fs::Files;
 use std::sync::Arc;
@@ -26,14 +27,22 @@ fn threads<R: Files + Drop>(alloc: Global, disk: &RealFs<R>) -> Option<usize> {
     Some(disk.read_dir(alloc, "/proc/self/task").ok()?.len())
 }
 
-fn begins_and_drops<R: Host>(walk: CrewWalk<R, MemoryFs>, count: usize) -> bool {
-    let mut walk = walk.into_iter();
-    for _ in 0..count {
-        if !matches!(walk.next(), Some(Ok(_))) {
-            return false;
+/// A visit that takes this number of answers.
+#[derive(Drop)]
+struct Takes(usize);
+
+impl<S: FileSystem> Visit<S> for Takes {
+    fn visit<L: Readers<((), ()), Arc<S>, NoProcess, Global>>(
+        &self,
+        walk: &mut WalkBy<S, L>,
+    ) -> bool {
+        for _ in 0..self.0 {
+            if !matches!(walk.next(), Some(Ok(_))) {
+                return false;
+            }
         }
+        true
     }
-    true
 }
 
 /// The walks follow one another on one crew.
@@ -41,8 +50,8 @@ fn begin_and_drop<R: Host>(rt: &R, walks: usize) -> Option<bool> {
     let asked = forked(rt.alloc())?;
     let pool = Arc::new(rt.alloc(), Crew::new(rt.clone().ok()?, 1, 2)).ok()?;
     for number in 0..walks {
-        let walk = asked.builder(rt.alloc(), pool.clone().ok()?).ok()?;
-        if !begins_and_drops(walk, number % 8) {
+        let takes = Takes(number % 8);
+        if !asked.lend(rt.alloc(), pool.clone().ok()?, &takes).ok()? {
             return Some(false);
         }
     }
