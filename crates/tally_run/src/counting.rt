@@ -58,7 +58,7 @@ fn take_error<A: Allocator + Copy, E: Write>(
     }
 }
 
-/// Takes what is yielded of subtotals. Returns whether it is no error.
+/// Returns whether it is no error.
 fn take_one<C: ClientState, A: Allocator + Copy, W: Write, E: Report>(
     alloc: Global,
     screen: Screen,
@@ -88,7 +88,7 @@ fn take_one<C: ClientState, A: Allocator + Copy, W: Write, E: Report>(
     }
 }
 
-/// Takes all that is yielded of subtotals. Returns whether none of it is an error.
+/// Returns whether none of it is an error.
 fn take_all<
     C: ClientState,
     A: Allocator + Copy,
@@ -116,7 +116,7 @@ fn take_all<
     Ok(clean)
 }
 
-/// Returns what is counted. All subtotals are taken, since the error of a directory comes with its own.
+/// All subtotals are taken, since the error of a directory comes with its own.
 fn options_of(asked: &Asked<'_>) -> SubtotalOptions
     ensures { result ≡ subtotals_asked asked.now }
 {
@@ -128,7 +128,7 @@ fn options_of(asked: &Asked<'_>) -> SubtotalOptions
     }
 }
 
-/// Begins a walk that a crew may read for, and counts what it yields beside the files that were counted before.
+/// Begins a walk that a crew may read for, and counts it beside the files that were counted before.
 pub(crate) fn count_walk<
     T: Host,
     C: ClientState + Send + 'static,

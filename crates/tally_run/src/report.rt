@@ -36,7 +36,6 @@ fn line_of<A: Allocator + Copy>(
     }
 }
 
-/// Reports an error of a walk on its own line.
 pub(crate) fn report_error<A: Allocator + Copy, E: Write>(
     alloc: Global,
     to_terminal: bool,
@@ -47,7 +46,7 @@ pub(crate) fn report_error<A: Allocator + Copy, E: Write>(
     write_line(alloc, to_terminal, line.as_str(), err)
 }
 
-/// Reports the error of a directory that could not be read. Returns whether there is none.
+/// Returns whether there is no error.
 pub(crate) fn report_entry<C: ClientState, A: Allocator + Copy, E: Write>(
     alloc: Global,
     to_terminal: bool,
@@ -66,7 +65,6 @@ pub(crate) fn report_entry<C: ClientState, A: Allocator + Copy, E: Write>(
     }
 }
 
-/// Reports a root that is left out.
 pub(crate) fn report_root<E: Write>(
     alloc: Global,
     to_terminal: bool,

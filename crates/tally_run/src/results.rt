@@ -33,7 +33,6 @@ pub(crate) enum Results {
     Trees(Nodes),
 }
 
-/// Returns the numbers of a subtotal.
 fn numbers_of(subtotal: &Subtotal) -> Numbers
     ensures { result ≡ numbers_of subtotal.now }
 {
@@ -48,7 +47,7 @@ fn numbers_of(subtotal: &Subtotal) -> Numbers
     }
 }
 
-/// Returns the name of an entry: of a root its path, as it was given.
+/// That of a root is its path, as it was given.
 fn name_of<C: ClientState, A: Allocator + Copy>(
     alloc: Global,
     found: &WithSubtotal<C, A>,
@@ -64,7 +63,6 @@ fn name_of<C: ClientState, A: Allocator + Copy>(
 impl Lines {
     ghost use Rattle.tally_run.specs.Results.{gathered_of, scale_of, style_of};
 
-    /// Returns no lines yet.
     pub(crate) fn new(alloc: Global, scale: Scale, style: Style) -> Result<Self, AllocError>
         ensures empty { IfOk result (λ lines. gathered_of lines ≡ []) }
         ensures scale { IfOk result (λ lines. scale_of lines ≡ scale) }
@@ -77,7 +75,6 @@ impl Lines {
         })
     }
 
-    /// Writes the lines that were gathered.
     fn write<W: Write>(&mut self, out: &mut W) -> Result<(), Failure>
         ensures written { OnOk result (Appends (W.contents out.old) (W.contents out.new) (gathered_of self.old)) }
         ensures empty { OnOk result (gathered_of self.new ≡ []) }
@@ -91,7 +88,6 @@ impl Lines {
         Ok(())
     }
 
-    /// Prints the line of a result.
     fn print<C: ClientState, A: Allocator + Copy, W: Write>(
         &mut self,
         found: &WithSubtotal<C, A>,
@@ -113,7 +109,6 @@ impl Lines {
         self.write(out)
     }
 
-    /// Writes the lines that are left.
     pub(crate) fn finish<W: Write>(&mut self, out: &mut W) -> Result<(), Failure>
         ensures { OnOk result (Appends (W.contents out.old) (W.contents out.new) (gathered_of self.old)) }
     {
@@ -122,7 +117,6 @@ impl Lines {
 }
 
 impl Results {
-    /// Takes a result.
     pub(crate) fn take<C: ClientState, A: Allocator + Copy, W: Write>(
         &mut self,
         alloc: Global,

@@ -14,7 +14,7 @@ pub(crate) struct Roots {
     one_file_system: bool,
 }
 
-/// Returns which directory is at a path, if it is one, and that is known.
+/// Returns `None` for what is no directory, and where its identity isn't known.
 fn directory_at<S: FileSystem>(disk: &S, path: &str) -> Result<Option<Identity>, AllocError> {
     match disk.metadata(path) {
         Ok(found) if found.file_type().is_dir() => Ok(found.identity()),
@@ -32,7 +32,6 @@ fn folder_of(path: &str) -> &str {
 }
 
 impl Roots {
-    /// Returns no roots.
     pub(crate) fn new(alloc: Global, one_file_system: bool) -> Self {
         Roots {
             counted: Vec::new(alloc),

@@ -38,7 +38,6 @@ use tally_words::form::Form;
 use tally_words::refusal::Refusal;
 use tally_words::words::read_words;
 
-/// Returns whether results are lines.
 fn are_lines(form: Form) -> bool
     ensures { result ≡ are_lines form }
 {
@@ -62,7 +61,6 @@ fn scale_of(asked: &Asked<'_>) -> Scale
     }
 }
 
-/// Returns what ends a line.
 fn separator_of(form: Form) -> u8
     ensures { result ≡ separator_of form }
 {
@@ -72,7 +70,6 @@ fn separator_of(form: Form) -> u8
     }
 }
 
-/// Returns how paths are written.
 fn style_of(asked: &Asked<'_>, screen: Screen) -> Style
     ensures { result ≡ style_asked asked.now screen }
 {
@@ -83,7 +80,6 @@ fn style_of(asked: &Asked<'_>, screen: Screen) -> Style
     }
 }
 
-/// Returns no results yet.
 fn results_of(alloc: Global, asked: &Asked<'_>, screen: Screen) -> Result<Results, AllocError>
     ensures { IfOk result (AreNone asked.now screen) }
 {
@@ -94,8 +90,7 @@ fn results_of(alloc: Global, asked: &Asked<'_>, screen: Screen) -> Result<Result
     Ok(Results::Trees(Nodes::new(alloc, asked.largest)))
 }
 
-/// Counts what is below a root, beside the files that were counted before. If it lies below one of the roots that are
-/// known, it is left out, and that is reported.
+/// A root that lies below one of those that are known is left out, and that is reported.
 fn count_root<
     T: Host,
     S: FileSystem + Send + Sync + 'static,
@@ -124,8 +119,7 @@ fn count_root<
     walks.count_below(alloc, files, root, results, out, err)
 }
 
-/// Counts what is below each of these roots, but for those that lie below an earlier one. Returns whether there was no
-/// error.
+/// Returns whether there was no error.
 fn count_roots<
     T: Host,
     S: FileSystem + Send + Sync + 'static,
@@ -156,7 +150,7 @@ fn count_roots<
     Ok(clean)
 }
 
-/// Counts what is below the roots that are asked for. Returns whether there was no error.
+/// Returns whether there was no error.
 fn count_asked<
     T: Host,
     S: FileSystem + Send + Sync + 'static,
@@ -193,7 +187,6 @@ fn width_of(screen: Screen) -> Option<usize>
     }
 }
 
-/// Returns the table of each tree.
 fn tables_of(
     alloc: Global,
     asked: &Asked<'_>,
@@ -210,7 +203,7 @@ fn tables_of(
     Ok(text)
 }
 
-/// Returns a document of trees, and a line feed.
+/// A line feed ends it.
 fn document_of(alloc: Global, trees: &[Node]) -> Result<Vec<u8, Global>, AllocError>
     ensures { IfOk result (λ text. text.items ≡ document_text trees.now) }
 {
@@ -221,7 +214,6 @@ fn document_of(alloc: Global, trees: &[Node]) -> Result<Vec<u8, Global>, AllocEr
     Ok(bytes)
 }
 
-/// Returns trees as they are written: a table of each, or one document.
 fn text_of(
     alloc: Global,
     asked: &Asked<'_>,
@@ -236,7 +228,6 @@ fn text_of(
     }
 }
 
-/// Writes trees.
 fn write_trees<W: Write>(
     alloc: Global,
     asked: &Asked<'_>,
@@ -255,7 +246,6 @@ fn write_trees<W: Write>(
     Ok(())
 }
 
-/// Writes what is left.
 fn write_rest<W: Write>(
     alloc: Global,
     asked: &Asked<'_>,
@@ -271,7 +261,6 @@ fn write_rest<W: Write>(
     }
 }
 
-/// Writes what is left, and flushes the output.
 fn finish<W: Write>(
     alloc: Global,
     asked: &Asked<'_>,
@@ -293,7 +282,7 @@ fn tells(asked: &Asked<'_>, screen: Screen) -> bool {
     screen.shows_errors && !(screen.is_terminal && are_lines(asked.form))
 }
 
-/// Counts as is asked for, and writes the results. Returns whether there was no error.
+/// Returns whether there was no error.
 fn tally<
     T: Host,
     S: FileSystem + Send + Sync + 'static,
@@ -335,7 +324,7 @@ fn refuse<W: Write, E: Write>(refusal: &Refusal, out: &mut W, err: &mut E) -> u8
     u8::from(write!(out, "{refusal}").is_err() || out.flush().is_err())
 }
 
-/// Returns the status of a call that ended so. What ended it before its end is reported.
+/// What ended the call before its end is reported.
 fn status_of<E: Write>(ended: Result<bool, Failure>, err: &mut E) -> u8
     ensures status { result ≤ 1 }
     ensures clean { result ≡ 0 → ended ≡ Ok true }

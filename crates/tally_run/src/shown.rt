@@ -28,7 +28,6 @@ fn any_depth(form: Form) -> usize
 }
 
 impl Shown {
-    /// Returns which results are asked for.
     pub(crate) fn of(asked: &Asked<'_>) -> Self
         ensures { result ≡ shown_asked asked.now }
     {
@@ -38,7 +37,6 @@ impl Shown {
         }
     }
 
-    /// Returns whether the result of an entry is written.
     pub(crate) fn has<C: ClientState, A: Allocator + Copy>(self, found: &DirEntry<C, A>) -> bool
         ensures { result ≡ is_shown self (entry found.now) }
     {

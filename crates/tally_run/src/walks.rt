@@ -43,7 +43,7 @@ fn threads_of<T: Threads>(rt: &T, asked: &Asked<'_>) -> usize {
     }
 }
 
-/// Returns the crew that reads, which is none for one thread.
+/// There is none for one thread.
 fn crew_of<T: Host>(
     rt: &T,
     alloc: Global,
@@ -56,8 +56,7 @@ fn crew_of<T: Host>(
     Ok(Some(Arc::new(alloc, Crew::new(rt.clone()?, 1, threads))?))
 }
 
-/// Returns the walk below a root that is asked for, without a callback. Its entries keep their metadata. If there is a
-/// crew, it reads the directories.
+/// Its entries keep their metadata.
 fn walk_of<C: ClientState, T: Host, S: FileSystem>(
     asked: &Asked<'_>,
     fs: S,
@@ -84,7 +83,6 @@ fn walk_of<C: ClientState, T: Host, S: FileSystem>(
     Ok(walk)
 }
 
-/// Counts what these rules leave of a walk.
 fn count_ruled<
     T: Host,
     S: FileSystem + Send + Sync + 'static,
@@ -156,26 +154,22 @@ impl<
         })
     }
 
-    /// Returns what is asked for.
     pub(crate) fn asked(&self) -> &Asked<'w>
         ensures { result.now ≡ self.now.asked.now }
     {
         self.asked
     }
 
-    /// Returns what errors are written to.
     pub(crate) fn screen(&self) -> Screen {
         self.screen
     }
 
-    /// Returns the disk.
     pub(crate) fn disk(&self) -> &S
         ensures { result.now ≡ arc_value self.now.disk }
     {
         &self.disk
     }
 
-    /// Counts what is below a root, whatever ignore files say.
     fn count_all<W: Write, E: Report>(
         &self,
         alloc: Global,
@@ -207,7 +201,6 @@ impl<
         )
     }
 
-    /// Counts what ignore files leave below a root.
     fn count_kept<W: Write, E: Report>(
         &self,
         alloc: Global,
@@ -242,7 +235,6 @@ impl<
         )
     }
 
-    /// Counts what is below a root, beside the files that were counted before.
     pub(crate) fn count_below<W: Write, E: Report>(
         &self,
         alloc: Global,
