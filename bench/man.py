@@ -97,7 +97,7 @@ def by_clap(path):
     statuses = table(read(page).split("\n"), "status")
     made.sections.append(("EXIT STATUS", [(f"`{row[0]}`", row[1]) for row in statuses], ""))
     head = section(page, f"# The program `{name}`")
-    made.paragraphs.append(paragraphs(head[head.index("```", 2) + 1 :])[0].split(". ")[0] + ".")
+    made.paragraphs.append(paragraphs(head[head.index("```", 2) + 1 :])[0].split(". ")[0].rstrip(".") + ".")
     made.paragraphs.append(f"{page} of its repository says more of each option, and what is proved.")
     return made
 
