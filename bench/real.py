@@ -4,6 +4,7 @@ crews beside the walk that reads a directory at a time, also over a tree in memo
 beside `du` and `find`.
 
     python3 bench/real.py [--save FILE] [--usage] [FOLDER [PROGRAM]]
+    python3 bench/real.py --tally [FOLDER [PROGRAM]]
 
 Build the program first: (cd crates/walk && rt run). FOLDER holds the trees that the script makes (a temporary folder where
 none is given). All of a tree's programs take turns, each with its output in a file, and the tree is warm: the first turn
@@ -22,6 +23,8 @@ of nine turns, and its ratio that of two such times. `find` prints the length of
 `gdu` and `dua` take their turns where they are installed. What `walk` counts is compared with what `find` counts of files,
 directories and links, and with its sum: `equal`, or the two lists of numbers. The tree in memory has 10,000 directories of 19
 files, and `walk --tree --usage` takes turns with `walk --tree`.
+With --tally it times `tally -s` beside `du -s`, on the same two trees, as totals are timed. PROGRAM is `tally` then, and what
+it adds up is compared with what `du` does.
 FILE gets the times of the trees on disk, a row for each tree, from which bench/figures.py draws its picture.
 """
 import argparse
@@ -34,7 +37,9 @@ import tempfile
 import time
 from statistics import median
 
-PROGRAM = os.path.join(os.path.dirname(os.path.abspath(__file__)), "..", "crates", "walk", "out", "walk")
+CRATES = os.path.join(os.path.dirname(os.path.abspath(__file__)), "..", "crates")
+PROGRAM = os.path.join(CRATES, "walk", "out", "walk")
+TALLY = os.path.join(CRATES, "tally", "out", "tally")
 TURNS = 5
 USAGE_TURNS = 9
 WIDTHS = (1, 4, 16, 64, 256)
@@ -226,6 +231,9 @@ def find_sum(root):
     return ["sh", "-c", FIND_SUM, "sh", root]
 
 
+# What `tally -s` is to take at most beside `du -s`: serial, and by a crew of 4; and `du` itself.
+TALLY_BOUNDS = (1.6, 0.7, None)
+
 # What `walk --usage` is to take at most beside `du`: serial, and by a crew of 4.
 USAGE_BOUNDS = {"flat": (1.6, 0.6), "/usr": (1.5, 0.62)}
 
@@ -307,6 +315,28 @@ def usages(folder, walk, output):
     add_up_in_memory(walk, output, filed(folder))
 
 
+def sum_up(tree, root, tally, output):
+    """The times of `tally` and `du` on a tree, and whether they add up the same."""
+    sums = [tally, "-s", "--plain", "-b"]
+    commands = [("serial", [*sums, "-j1", root]), ("crew 4", [*sums, "-j4", root]), ("du", ["du", "-s", "-B1", root])]
+    runs, _ = turns(commands, output, count=USAGE_TURNS)
+    for (name, _), most in zip(commands, TALLY_BOUNDS):
+        of = runs[name]
+        bound = f"  (at most {most})" if most else ""
+        print(f"{tree:<6}{name:<8}{middle(of) * 1e3:>10.1f}{middle(of) / middle(runs['du']):>8.2f}{of[-1][2] / 1024:>8.1f}{bound}")
+    serial, crew, wanted = (printed(words).split()[0] for _, words in commands)
+    print(f"{tree:<6}bytes:", "equal" if serial == crew == wanted else f"{serial}, {crew}, du {wanted}")
+
+
+def tallies(folder, tally, output):
+    """What is below the trees that totals are timed on, by `tally` and `du`."""
+    print(f"sums, medians of {USAGE_TURNS}")
+    print(f"{'tree':<6}{'program':<8}{'ms':>10}{'x du':>8}{'MiB':>8}")
+    for tree, root, _ in trees(folder):
+        if tree in ("flat", "/usr"):
+            sum_up(tree, root, tally, output)
+
+
 def save(path, rows):
     """Writes each tree's milliseconds, with a first line that says where they were taken."""
     columns = list(rows[0][1])
@@ -337,17 +367,22 @@ def listings(folder, walk, output):
 def main():
     parser = argparse.ArgumentParser()
     parser.add_argument("folder", nargs="?")
-    parser.add_argument("walk", nargs="?", default=PROGRAM, metavar="program")
+    parser.add_argument("program", nargs="?")
     parser.add_argument("--save", metavar="FILE")
     parser.add_argument("--usage", action="store_true", help="only the totals")
+    parser.add_argument("--tally", action="store_true", help="what tally adds up")
     asked = parser.parse_args()
     folder = asked.folder or tempfile.mkdtemp(prefix="walk-real-")
     output = os.path.join(folder, "out.txt")
-    if not asked.usage:
-        rows = listings(folder, asked.walk, output)
-        if asked.save:
-            save(asked.save, rows)
-    usages(folder, asked.walk, output)
+    walk = asked.program or PROGRAM
+    if asked.tally:
+        tallies(folder, asked.program or TALLY, output)
+    else:
+        if not asked.usage:
+            rows = listings(folder, walk, output)
+            if asked.save:
+                save(asked.save, rows)
+        usages(folder, walk, output)
     if not asked.folder:
         subprocess.run(["rm", "-rf", folder], check=True)
 

@@ -244,6 +244,10 @@ def speed(folder):
         ("/usr without ignore files, by a name", [[PROGRAM, "-HI", "-j4", "lib.*so", "/usr"], fd + ["-HI", "-j4", "lib.*so", "/usr"], ["find", "/usr", "-regex", ".*/[^/]*lib[^/]*so[^/]*"]]),
         ("20,000 directories with ignore files, 4 threads", [[PROGRAM, "-j4", ".", top], fd + ["-j4", ".", top], ["find", top]]),
         ("/usr without ignore files, one thread", [[PROGRAM, "-HI", "-j1", ".", "/usr"], fd + ["-HI", "-j1", ".", "/usr"], ["find", "/usr"]]),
+        ("/usr by size, 4 threads", [[PROGRAM, "-j4", "-S", "+1M", ".", "/usr"], fd + ["-j4", "-S", "+1M", ".", "/usr"], ["find", "/usr", "-type", "f", "-size", "+999999c"]]),
+        ("/usr by size without ignore files, 4 threads", [[PROGRAM, "-HI", "-j4", "-S", "+1M", ".", "/usr"], fd + ["-HI", "-j4", "-S", "+1M", ".", "/usr"], ["find", "/usr", "-type", "f", "-size", "+999999c"]]),
+        ("/usr by size, one thread", [[PROGRAM, "-HI", "-j1", "-S", "+1M", ".", "/usr"], fd + ["-HI", "-j1", "-S", "+1M", ".", "/usr"], ["find", "/usr", "-type", "f", "-size", "+999999c"]]),
+        ("/usr by time, 4 threads", [[PROGRAM, "-j4", "--changed-within", "1d", ".", "/usr"], fd + ["-j4", "--changed-within", "1d", ".", "/usr"], ["find", "/usr", "-mtime", "-1"]]),
     ]
     for name, rows in tables:
         rows = [words for words in rows if shutil.which(words[0])]
