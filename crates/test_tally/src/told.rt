@@ -14,7 +14,7 @@ use test_fixtures::host::Host;
 use test_fixtures::texts::texts;
 use walk_text::tree::build_tree;
 
-/// A runtime whose clock is some milliseconds further each time that it is read.
+/// A runtime whose clock goes on by some milliseconds each time that it is read.
 #[derive(Clone, Drop)]
 struct Hasty<R> {
     rt: R,
@@ -37,8 +37,8 @@ impl<R> Clock for Hasty<R> {
     }
 }
 
-/// Returns what a call over a tree of nine entries writes to standard error, by a clock that is so many milliseconds
-/// further each time that it is read.
+/// Returns what a call over a tree of nine entries writes to standard error, by a clock that goes on by `millis`
+/// milliseconds each time that it is read.
 fn errors_of(
     rt: &impl Host,
     screen: Screen,

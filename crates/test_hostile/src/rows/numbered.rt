@@ -15,7 +15,7 @@ use std::sync::atomic::{AtomicUsize, Ordering};
 use test_fixtures::host::Host;
 use test_fixtures::ways::{Asked, Setting, WAYS, Way};
 
-/// What the disk tells of a file's identity.
+/// How much of a file's identity the disk returns.
 #[derive(Clone, Copy)]
 pub enum Told {
     /// The numbers of its device and of its inode.
