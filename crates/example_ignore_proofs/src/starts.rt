@@ -29,7 +29,7 @@ pub fn walk_twice(
     directory: String,
 ) -> Result<(Vec<Found<Global>>, Vec<Found<Global>>), AllocError>
     ensures { IfOk result (λ both. NoneRefused both.0.items → NoneRefused both.1.items
-        → AreStarts (texts_of texts.now) (functions_of (tree_of fs.now)) first_options (string_bytes root) (string_bytes directory)
+        → AreStarts first_settings (texts_of texts.now) (functions_of (tree_of fs.now)) first_options (string_bytes root) (string_bytes directory)
         → SameBelow (string_bytes directory)
         (counted_list (ignoring_alone first_settings (texts_of texts.now)) both.0.items)
         (counted_list (ignoring_alone first_settings (texts_of texts.now)) both.1.items)) }

@@ -1,6 +1,6 @@
 -- What rules make of lists doesn't go by states.
 use Rattle.std.proofs.Common.{◌≡◌, ◌∙◌, ℕ, Bool, true, false, cond, List, [], ◌∷◌, map, length, reverse, Option, Some, None, Result, Ok, Err, ap, refl, sym}
-use Rattle.std.specs.Prelude.{find, fold, not, option_and_then, option_map, ◌&&◌}
+use Rattle.std.specs.Prelude.{find, fold, option_and_then, option_map}
 use Rattle.std.specs.List.{filter}
 use Rattle.std.specs.declared.io.ErrorKind.{ErrorKind}
 use Rattle.std.proofs.lemmas.List.{map-append}
@@ -9,13 +9,12 @@ use Rattle.jwalk.specs.jwalk_model.Entry.{Children, Item}
 use Rattle.jwalk.specs.jwalk_model.Counted.{children_by, item_by}
 use Rattle.jwalk.specs.jwalk_model.declared.file_type.FileType.{FileType}
 use Rattle.jwalk_ignore.specs.Rules.Chain.{Chain, below_root, entered, place_in}
-use Rattle.jwalk_ignore.specs.Callback.IgnoreFiles.{Made, Source, by_rules, counts, depth_of, entered_above, git_by, git_in, in_directory, is_git, is_kept, is_shown, kind_of, own_rules, path_of, root_of, rules_found, source_above, source_in, with_above, with_absolute, with_folder, with_found, with_item, with_listed, with_own, with_root, with_root_item, with_rules}
+use Rattle.jwalk_ignore.specs.Callback.IgnoreFiles.{Made, Source, all_kinds, by_rules, depth_of, entered_above, git_by, git_in, if_read, in_directory, is_git, is_kept, is_read, is_read_above, is_shown, kind_of, own_rules, path_of, root_of, rules_found, source_above, source_in, with_above, with_absolute, with_folder, with_found, with_item, with_listed, with_own, with_root, with_root_item, with_rules}
 use Rattle.jwalk_ignore.specs.Rules.Folder.{Folder, folders_above}
-use Rattle.jwalk_ignore.specs.Rules.Git.{is_git_dir, is_repository}
+use Rattle.jwalk_ignore.specs.Rules.Git.{is_repository}
 use Rattle.jwalk_ignore.specs.Pattern.{Pattern}
 use Rattle.jwalk_ignore.specs.Rules.Texts.{Texts}
 use Rattle.jwalk_ignore_rules.specs.declared.rules.rules_kind.RulesKind.{RulesKind}
-use Rattle.jwalk_ignore_rules.specs.declared.rules.rules_kind.RulesKind.TheVariants as rules
 use Rattle.jwalk_ignore.specs.declared.callback.settings.Settings.{Settings}
 use Rattle.jwalk_ignore.proofs.ListFacts.{filter_by, fold_by}
 
@@ -38,14 +37,14 @@ module _ {R E V W : Type 0} (view : R → V) (mark : E → W) where
   by_source : (texts : Texts) (source : Source) (made : Made R E) → with_rules texts source (made_by made) ≡ made_by (with_rules texts source made)
   by_source texts source made = by_found source (rules_found texts source.kind source.may_miss (path_of source)) made
 
-  by_own : (texts : Texts) (counted excluded : Bool) (directory : List ℕ) (before : ℕ) (kind : Option RulesKind) (depth : ℕ) (made : Made R E)
-      → with_own texts counted excluded directory before kind depth (made_by made) ≡ made_by (with_own texts counted excluded directory before kind depth made)
-  by_own texts counted excluded directory before None depth made = refl
-  by_own texts counted excluded directory before (Some kind) depth made = by_source texts (source_in directory before kind depth) made
+  by_own : (texts : Texts) (reads : RulesKind → Bool) (directory : List ℕ) (before : ℕ) (kind : Option RulesKind) (depth : ℕ) (made : Made R E)
+      → with_own texts reads directory before kind depth (made_by made) ≡ made_by (with_own texts reads directory before kind depth made)
+  by_own texts reads directory before None depth made = refl
+  by_own texts reads directory before (Some kind) depth made = by_source texts (source_in directory before kind depth) made
 
-  kind_by : (counted excluded : Bool) (x : Item R E) → kind_of counted excluded (item_by view mark x) ≡ kind_of counted excluded x
-  kind_by counted excluded (Ok e) = refl
-  kind_by counted excluded (Err f) = refl
+  kind_by : (x : Item R E) → kind_of (item_by view mark x) ≡ kind_of x
+  kind_by (Ok e) = refl
+  kind_by (Err f) = refl
 
   depth_by : (x : Item R E) → depth_of (item_by view mark x) ≡ depth_of x
   depth_by (Ok e) = refl
@@ -86,26 +85,26 @@ module _ {R E V W : Type 0} (view : R → V) (mark : E → W) where
       ap (λ (b : Bool). option_and_then (git_by texts directory) (cond b (Some (item_by view mark x)) (find is_git (map (item_by view mark) list)))) (named_git x)
       ∙ git_or texts directory x list (is_git x) (git_all texts directory list)
 
-  by_listed : (texts : Texts) (counted excluded : Bool) (directory : List ℕ) (before : ℕ) (made : Made R E) (x : Item R E)
-      → with_listed texts counted excluded directory before (made_by made) (item_by view mark x) ≡ made_by (with_listed texts counted excluded directory before made x)
-  by_listed texts counted excluded directory before made x =
-      let kind : Option RulesKind = kind_of counted excluded x in
-      ap (λ (k : Option RulesKind). with_own texts counted excluded directory before k (depth_of (item_by view mark x)) (with_item (item_by view mark x) (made_by made))) (kind_by counted excluded x)
-      ∙ ap (λ (d : ℕ). with_own texts counted excluded directory before kind d (with_item (item_by view mark x) (made_by made))) (depth_by x)
-      ∙ ap (with_own texts counted excluded directory before kind (depth_of x)) (one_more made x)
-      ∙ by_own texts counted excluded directory before kind (depth_of x) (with_item x made)
+  by_listed : (texts : Texts) (reads : RulesKind → Bool) (directory : List ℕ) (before : ℕ) (made : Made R E) (x : Item R E)
+      → with_listed texts reads directory before (made_by made) (item_by view mark x) ≡ made_by (with_listed texts reads directory before made x)
+  by_listed texts reads directory before made x =
+      let kind : Option RulesKind = if_read reads (kind_of x) in
+      ap (λ (k : Option RulesKind). with_own texts reads directory before (if_read reads k) (depth_of (item_by view mark x)) (with_item (item_by view mark x) (made_by made))) (kind_by x)
+      ∙ ap (λ (d : ℕ). with_own texts reads directory before kind d (with_item (item_by view mark x) (made_by made))) (depth_by x)
+      ∙ ap (with_own texts reads directory before kind (depth_of x)) (one_more made x)
+      ∙ by_own texts reads directory before kind (depth_of x) (with_item x made)
 
   own_by : (settings : Settings) (texts : Texts) (directory : List ℕ) (chain : Chain) (list : List (Item R E))
       → own_rules settings texts directory chain (map (item_by view mark) list) ≡ made_by (own_rules settings texts directory chain list)
   own_by settings texts directory chain list =
       let inside : Option FileType → Chain = λ git. entered (is_repository git) chain in
-      let from : Option FileType → Made V W = λ git. fold (with_listed texts (counts settings (inside git)) (is_git_dir git) directory (length (place_in (inside git) directory))) (with_list (inside git) []) (map (item_by view mark) list) in
+      let from : Option FileType → Made V W = λ git. fold (with_listed texts (is_read settings (inside git).in_repository git) directory (length (place_in (inside git) directory))) (with_list (inside git) []) (map (item_by view mark) list) in
       let is : Option FileType = git_in texts directory list in
-      let counted : Bool = counts settings (inside is) in
+      let reads : RulesKind → Bool = is_read settings (inside is).in_repository is in
       let before : ℕ = length (place_in (inside is) directory) in
       ap from (git_all texts directory list)
-      ∙ fold_by (with_listed texts counted (is_git_dir is) directory before) (with_listed texts counted (is_git_dir is) directory before)
-      made_by (item_by view mark) (by_listed texts counted (is_git_dir is) directory before) (record { chain = inside is; list = [] }) list
+      ∙ fold_by (with_listed texts reads directory before) (with_listed texts reads directory before)
+      made_by (item_by view mark) (by_listed texts reads directory before) (record { chain = inside is; list = [] }) list
 
   left_by : (settings : Settings) (directory : List ℕ) (own : Made R E)
       → filter (is_kept own.chain (place_in own.chain directory)) (filter (is_shown settings) (map (item_by view mark) own.list))
@@ -126,15 +125,17 @@ module _ {R E V W : Type 0} (view : R → V) (mark : E → W) where
     by_above folder true kind made = by_source texts (source_above folder kind) made
     by_above folder false kind made = refl
 
+    by_kinds : (folder : Folder) (reads : RulesKind → Bool) (made : Made R E) (kinds : List RulesKind)
+        → fold (λ m kind. with_above settings texts folder (reads kind) kind m) (made_by made) kinds ≡ made_by (fold (λ m kind. with_above settings texts folder (reads kind) kind m) made kinds)
+    by_kinds folder reads made [] = refl
+    by_kinds folder reads made (kind ∷ kinds) =
+        ap (λ (m : Made V W). fold (λ n k. with_above settings texts folder (reads k) k n) m kinds) (by_above folder (reads kind) kind made)
+        ∙ by_kinds folder reads (with_above settings texts folder (reads kind) kind made) kinds
+
     by_folder : (made : Made R E) (folder : Folder) → with_folder settings texts (made_by made) folder ≡ made_by (with_folder settings texts made folder)
     by_folder made folder =
         let inside : Made R E = entered_above settings texts folder made in
-        let counted : Bool = not folder.is_outer && counts settings inside.chain in
-        let first : Made R E = with_above settings texts folder (is_git_dir folder.git) rules.Exclude inside in
-        let second : Made R E = with_above settings texts folder counted rules.Gitignore first in
-        ap (λ (m : Made V W). with_above settings texts folder true rules.Ignore (with_above settings texts folder counted rules.Gitignore m)) (by_above folder (is_git_dir folder.git) rules.Exclude inside)
-        ∙ ap (with_above settings texts folder true rules.Ignore) (by_above folder counted rules.Gitignore first)
-        ∙ by_above folder true rules.Ignore second
+        by_kinds folder (is_read_above settings folder inside.chain.in_repository) inside all_kinds
 
     all_folders : (made : Made R E) (folders : List Folder) → fold (with_folder settings texts) (made_by made) folders ≡ made_by (fold (with_folder settings texts) made folders)
     all_folders made [] = refl

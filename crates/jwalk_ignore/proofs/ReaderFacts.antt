@@ -7,8 +7,8 @@ use Rattle.jwalk.specs.jwalk_model.Entry.{AtDepth, Item}
 use Rattle.jwalk.specs.jwalk_model.FileType.{is_dir}
 use Rattle.jwalk.specs.jwalk_model.declared.file_type.FileType.{FileType}
 use Rattle.jwalk_ignore.specs.Rules.Chain.{Chain, entered, has_rules, place_in}
-use Rattle.jwalk_ignore.specs.Callback.IgnoreFiles.{Made, counts, git_in, in_directory, is_kept, is_shown, own_rules, with_listed}
-use Rattle.jwalk_ignore.specs.Rules.Git.{is_git_dir, is_repository}
+use Rattle.jwalk_ignore.specs.Callback.IgnoreFiles.{Made, git_in, in_directory, is_kept, is_read, is_shown, own_rules, with_listed}
+use Rattle.jwalk_ignore.specs.Rules.Git.{is_repository}
 use Rattle.jwalk_ignore.specs.Callback.MadeDepths.{filter_at}
 use Rattle.jwalk_ignore.specs.Rules.Texts.{Texts}
 use Rattle.jwalk_ignore.specs.declared.callback.settings.Settings.{Settings}
@@ -28,17 +28,16 @@ module _ {R E : Type 0} where
 
   module _ (settings : Settings) (texts : Texts) (directory : List ℕ) (chain : Chain) (list : List (Item R E)) where
     -- all of a list is gone over in the directory that was entered
-    pub own_from : (git : Option FileType) (inside : Chain) (counted excluded : Bool) (before : ℕ) (start : List (Item R E))
-        → git ≡ git_in texts directory list → inside ≡ entered (is_repository git) chain → counted ≡ counts settings inside → excluded ≡ is_git_dir git
+    pub own_from : (git : Option FileType) (inside : Chain) (in_repository : Bool) (before : ℕ) (start : List (Item R E))
+        → git ≡ git_in texts directory list → inside ≡ entered (is_repository git) chain → in_repository ≡ inside.in_repository
         → before ≡ length (place_in inside directory) → start ≡ []
-        → fold (with_listed texts counted excluded directory before) (begun inside start) list ≡ own_rules settings texts directory chain list
-    own_from git inside counted excluded before start git_is is counts_is excluded_is before_is none =
-        ap (λ (b : Bool). fold (with_listed texts b excluded directory before) (begun inside start) list) counts_is
-        ∙ ap (λ (b : Bool). fold (with_listed texts (counts settings inside) b directory before) (begun inside start) list) excluded_is
-        ∙ ap (λ (n : ℕ). fold (with_listed texts (counts settings inside) (is_git_dir git) directory n) (begun inside start) list) before_is
-        ∙ ap (λ (l : List (Item R E)). fold (with_listed texts (counts settings inside) (is_git_dir git) directory (length (place_in inside directory))) (begun inside l) list) none
-        ∙ ap (λ (i : Chain). fold (with_listed texts (counts settings i) (is_git_dir git) directory (length (place_in i directory))) (begun i []) list) is
-        ∙ ap (λ (found : Option FileType). fold (with_listed texts (counts settings (entered (is_repository found) chain)) (is_git_dir found) directory (length (place_in (entered (is_repository found) chain) directory)))
+        → fold (with_listed texts (is_read settings in_repository git) directory before) (begun inside start) list ≡ own_rules settings texts directory chain list
+    own_from git inside in_repository before start git_is is entered_is before_is none =
+        ap (λ (b : Bool). fold (with_listed texts (is_read settings b git) directory before) (begun inside start) list) entered_is
+        ∙ ap (λ (n : ℕ). fold (with_listed texts (is_read settings inside.in_repository git) directory n) (begun inside start) list) before_is
+        ∙ ap (λ (l : List (Item R E)). fold (with_listed texts (is_read settings inside.in_repository git) directory (length (place_in inside directory))) (begun inside l) list) none
+        ∙ ap (λ (i : Chain). fold (with_listed texts (is_read settings i.in_repository git) directory (length (place_in i directory))) (begun i []) list) is
+        ∙ ap (λ (found : Option FileType). fold (with_listed texts (is_read settings (entered (is_repository found) chain).in_repository found) directory (length (place_in (entered (is_repository found) chain) directory)))
         (begun (entered (is_repository found) chain) []) list) git_is
 
     -- of what its own rules make of a list, what is hidden or ignored is dropped

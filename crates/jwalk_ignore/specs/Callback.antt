@@ -2,6 +2,7 @@
 pub mod Given
 pub mod IgnoreFiles
 pub mod IgnoreViews
+mod SettingsRows
 pub mod MadeDepths
 pub mod Places
 pub mod Sources

@@ -106,6 +106,7 @@ pub record Alike (p q : List ℕ) (a b : Chain) : Type 0 where
   pub links : (kind : RulesKind) → LinksAlike p q (links_in kind a) (links_in kind b)
 
 entered_links : (p q : List ℕ) (holds : Bool) (a b : Chain) → Alike p q a b → (kind : RulesKind) → LinksAlike p q (links_in kind (entered holds a)) (links_in kind (entered holds b))
+entered_links p q true a b alike rules.Fdignore = alike.links rules.Fdignore
 entered_links p q true a b alike rules.Ignore = alike.links rules.Ignore
 entered_links p q true a b alike rules.Gitignore = tt
 entered_links p q true a b alike rules.Exclude = tt
@@ -151,9 +152,11 @@ pub says_alike : (p q rest : List ℕ) (is_dir : Bool) (a b : Chain) → Alike p
 says_alike p q rest is_dir a b alike =
     let at_p : List ℕ = p ++ 47 ∷ rest in
     let at_q : List ℕ = q ++ 47 ∷ rest in
-    ap (λ (d : Decision). or_else d (or_else (links_say a.gitignore at_p is_dir) (links_say a.exclude at_p is_dir))) (links_alike p q rest is_dir a.ignore b.ignore (alike.links rules.Ignore))
-    ∙ ap (λ (d : Decision). or_else (links_say b.ignore at_q is_dir) (or_else d (links_say a.exclude at_p is_dir))) (links_alike p q rest is_dir a.gitignore b.gitignore (alike.links rules.Gitignore))
-    ∙ ap (λ (d : Decision). or_else (links_say b.ignore at_q is_dir) (or_else (links_say b.gitignore at_q is_dir) d)) (links_alike p q rest is_dir a.exclude b.exclude (alike.links rules.Exclude))
+    let first : Decision = links_say b.fdignore at_q is_dir in
+    ap (λ (d : Decision). or_else d (or_else (links_say a.ignore at_p is_dir) (or_else (links_say a.gitignore at_p is_dir) (links_say a.exclude at_p is_dir)))) (links_alike p q rest is_dir a.fdignore b.fdignore (alike.links rules.Fdignore))
+    ∙ ap (λ (d : Decision). or_else first (or_else d (or_else (links_say a.gitignore at_p is_dir) (links_say a.exclude at_p is_dir)))) (links_alike p q rest is_dir a.ignore b.ignore (alike.links rules.Ignore))
+    ∙ ap (λ (d : Decision). or_else first (or_else (links_say b.ignore at_q is_dir) (or_else d (links_say a.exclude at_p is_dir)))) (links_alike p q rest is_dir a.gitignore b.gitignore (alike.links rules.Gitignore))
+    ∙ ap (λ (d : Decision). or_else first (or_else (links_say b.ignore at_q is_dir) (or_else (links_say b.gitignore at_q is_dir) d))) (links_alike p q rest is_dir a.exclude b.exclude (alike.links rules.Exclude))
 
 -- they have the same patterns
 pub patterns_same : (p q : List ℕ) (ls ms : List Link) → LinksAlike p q ls ms → map (λ l. l.patterns) ls ≡ map (λ m. m.patterns) ms

@@ -36,7 +36,7 @@ below_push directory (n ∷ names) name = below_push (join directory n) names na
 same_depths : (greatest levels n m : ℕ) → n ≡ m + levels → nat_le greatest n ≡ nat_le (greatest - levels) m
 same_depths greatest levels n m is = grind (arith, is)
 
-module _ (settings : Settings) (texts : Texts) (fs : Functions) (options : Options) (root : List ℕ) (agree : AgreeBelow texts fs options root) (no_links : options.follow_links ≡ false) where
+module _ (settings : Settings) (texts : Texts) (fs : Functions) (options : Options) (root : List ℕ) (agree : AgreeBelow texts fs options root) (no_links : options.follow_links ≡ false) (from_above : settings.above_the_root ≡ true) where
   -- the walk's job, from a least to a greatest depth
   abbrev pub job : ℕ → ℕ → Job Worth Worth
   job least greatest = job_ignoring settings texts fs (record options { min_depth = least; max_depth = greatest })
@@ -67,7 +67,7 @@ module _ (settings : Settings) (texts : Texts) (fs : Functions) (options : Optio
         path_is = ap (λ (p : List ℕ). join p name) fits.path_is ∙ sym (below_push root fits.names name);
         some = not_nil settings texts spec.path next fits.some go.2;
         parents = λ other is_other. parent_joined spec.path name other is is_other;
-        alike = subst (AlikeAt settings texts next) (sym (chain_back own)) (step_alike settings texts spec.path name (rules_of spec.state) list fits.some is (fits.parents name is) agrees fits.alike);
+        alike = subst (AlikeAt settings texts next) (sym (chain_back own)) (step_alike settings texts from_above spec.path name (rules_of spec.state) list fits.some is (fits.parents name is) agrees fits.alike);
       }
 
   -- what is listed in a directory that fits has proper names, and agrees with the texts
@@ -170,7 +170,7 @@ module _ (settings : Settings) (texts : Texts) (fs : Functions) (options : Optio
           let plain = plain_ordered (job other (greatest - levels)) no_links t items (names_fit t fits_t items is) in
           let left : List (Item Worth Worth) = (in_directory settings texts t.path (rules_of t.state) list).list in
           let match = items_match s t fits_s fits_t list agrees (t.depth + 1) left (plain_left settings texts t.path (t.depth + 1) t.path (rules_of t.state) list plain) in
-          let same_left = left_same settings texts t.path levels (rules_of s.state) (rules_of t.state) list agrees fits_s.alike fits_t.alike in
+          let same_left = left_same settings texts t.path levels (rules_of s.state) (rules_of t.state) list from_above agrees fits_s.alike fits_t.alike in
           subst (λ (l : List (Item Worth Worth)). OutcomesMatch levels these those Same (Ok ((job least greatest).processed (Some s.depth) t.path s.state l)) (Ok ((job other (greatest - levels)).processed (Some t.depth) t.path t.state list)))
           (sym (ordered_deep (job least greatest) no_links other (greatest - levels) levels (moved s t) t deeper refl items))
           (subst (λ (l : List (Item Worth Worth)). ItemsMatch levels these those Same (state_in (moved s t) (map (item_deeper levels) list)) (state_in t list) l left) (sym same_left) match)

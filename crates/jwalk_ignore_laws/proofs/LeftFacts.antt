@@ -1,7 +1,7 @@
 -- What rules leave of a list, at two depths.
 use Rattle.std.proofs.Common.{◌≡◌, ◌∙◌, ◌+◌, ℕ, suc, Bool, true, false, cond, List, [], ◌∷◌, ◌++◌, map, filter, flat_map, length, Option, Some, None, Result, Ok, Err, ap, ap₂, subst, refl, sym, append_assoc, append-nil, drop, ◌≤◌}
 use Rattle.std.proofs.lemmas.List.{map-append}
-use Rattle.std.specs.Prelude.{◌||◌, find, fold, not, option_and_then}
+use Rattle.std.specs.Prelude.{find, fold, not, option_and_then}
 use Rattle.std.specs.declared.io.ErrorKind.{ErrorKind}
 use Rattle.jwalk_model.specs.Counted.{Worth}
 use Rattle.jwalk_model.specs.Entry.{Item}
@@ -9,18 +9,18 @@ use Rattle.jwalk_model.specs.Error.{Failure, io, unnamed, looped, busy, memory, 
 use Rattle.jwalk_model.specs.FileType.{is_dir}
 use Rattle.jwalk_model.specs.Paths.{join}
 use Rattle.jwalk_model.specs.declared.file_type.FileType.{FileType}
-use Rattle.jwalk_ignore.specs.Callback.IgnoreFiles.{Made, Source, counts, depth_of, file_of, git_by, git_in, in_directory, is_git, is_kept, is_shown, kind_of, own_rules, own_kind, path_of, rules_found, source_in, with_found, with_item, with_listed, with_own}
+use Rattle.jwalk_ignore.specs.Callback.IgnoreFiles.{Made, Source, depth_of, file_of, git_by, git_in, if_read, in_directory, is_git, is_kept, is_read, is_shown, kind_of, own_rules, own_kind, path_of, rules_found, source_in, with_found, with_item, with_listed, with_own}
 use Rattle.jwalk_ignore.specs.Pattern.{Pattern}
 use Rattle.jwalk_ignore.specs.Rules.Chain.{Chain, entered, ignored, is_ignored, may_miss, place_in}
 use Rattle.jwalk_ignore.specs.Rules.Folder.{folder_at}
-use Rattle.jwalk_ignore.specs.Rules.Git.{is_git_dir, is_repository}
+use Rattle.jwalk_ignore.specs.Rules.Git.{is_repository}
 use Rattle.jwalk_ignore.specs.Rules.Texts.{Texts}
 use Rattle.jwalk_ignore.specs.declared.callback.settings.Settings.{Settings}
 use Rattle.jwalk_ignore.specs.jwalk_ignore_rules.declared.rules.rules_kind.RulesKind.{RulesKind}
 use Rattle.jwalk_ignore.specs.jwalk_ignore_rules.declared.rules.rules_kind.RulesKind.TheVariants as rules
 use Rattle.jwalk_ignore.specs.jwalk_ignore_rules.declared.rules.decision.Decision.{Decision}
 use Rattle.jwalk_ignore_laws.specs.Deeper.{item_deeper}
-use Rattle.jwalk_ignore_laws.specs.Starts.{Agrees, begun, is_of}
+use Rattle.jwalk_ignore_laws.specs.Starts.{Agrees, begun, is_of, number_in}
 use Rattle.jwalk_ignore_laws.proofs.DeeperFacts.{Each, IsPlain, each_filter, each_flat}
 use Rattle.jwalk_ignore_laws.proofs.AlikeFacts.{Alike, entered_alike, says_alike}
 use Rattle.jwalk_ignore_laws.proofs.StartFacts.{put_folder}
@@ -39,7 +39,7 @@ module _ {R E : Type 0} where
   found_list source (Ok None) made = sym (append-nil made.list)
   found_list source (Err k) made = refl
 
-  module _ (texts : Texts) (counted excluded : Bool) (directory : List ℕ) where
+  module _ (texts : Texts) (reads : RulesKind → Bool) (directory : List ℕ) where
     -- the error of the rules of a kind, if there are any
     abbrev errors_own : ℕ → Option RulesKind → List (Item R E)
     errors_own depth None = []
@@ -47,18 +47,18 @@ module _ {R E : Type 0} where
 
     -- an item with the error of the rules that are read for it
     abbrev pub with_errors : Item R E → List (Item R E)
-    with_errors x = x ∷ errors_own (depth_of x) (kind_of counted excluded x)
+    with_errors x = x ∷ errors_own (depth_of x) (if_read reads (kind_of x))
 
-    own_list : (before depth : ℕ) (kind : Option RulesKind) (made : Made R E) → (with_own texts counted excluded directory before kind depth made).list ≡ made.list ++ errors_own depth kind
+    own_list : (before depth : ℕ) (kind : Option RulesKind) (made : Made R E) → (with_own texts reads directory before kind depth made).list ≡ made.list ++ errors_own depth kind
     own_list before depth None made = sym (append-nil made.list)
     own_list before depth (Some kind) made = found_list (source_in directory before kind depth) (rules_found texts kind (may_miss kind) (join directory (file_of kind))) made
 
     -- the list with the errors of its rules
-    pub all_list : (before : ℕ) (made : Made R E) (list : List (Item R E)) → (fold (with_listed texts counted excluded directory before) made list).list ≡ made.list ++ flat_map with_errors list
+    pub all_list : (before : ℕ) (made : Made R E) (list : List (Item R E)) → (fold (with_listed texts reads directory before) made list).list ≡ made.list ++ flat_map with_errors list
     all_list before made [] = sym (append-nil made.list)
     all_list before made (x ∷ list) =
-        all_list before (with_listed texts counted excluded directory before made x) list
-        ∙ ap (λ (l : List (Item R E)). l ++ flat_map with_errors list) (own_list before (depth_of x) (kind_of counted excluded x) (with_item x made) ∙ append_assoc made.list (x ∷ []) (errors_own (depth_of x) (kind_of counted excluded x)))
+        all_list before (with_listed texts reads directory before made x) list
+        ∙ ap (λ (l : List (Item R E)). l ++ flat_map with_errors list) (own_list before (depth_of x) (if_read reads (kind_of x)) (with_item x made) ∙ append_assoc made.list (x ∷ []) (errors_own (depth_of x) (if_read reads (kind_of x))))
         ∙ append_assoc made.list (with_errors x) (flat_map with_errors list)
 
     errors_deeper : (levels depth : ℕ) (kind : Option RulesKind) → errors_own (depth + levels) kind ≡ map (item_deeper levels) (errors_own depth kind)
@@ -70,13 +70,13 @@ module _ {R E : Type 0} where
         by (Err k) = refl
 
     item_errors : (levels : ℕ) (x : Item R E) → with_errors (item_deeper levels x) ≡ map (item_deeper levels) (with_errors x)
-    item_errors levels (Ok e) = ap (λ (l : List (Item R E)). item_deeper levels (Ok e) ∷ l) (errors_deeper levels e.depth (kind_of {R = R} {E = E} counted excluded (Ok e)))
+    item_errors levels (Ok e) = ap (λ (l : List (Item R E)). item_deeper levels (Ok e) ∷ l) (errors_deeper levels e.depth (if_read reads (kind_of {R = R} {E = E} (Ok e))))
     item_errors levels (Err f) = failed f
       where
         failed : (g : Failure) → with_errors (item_deeper levels (Err g)) ≡ map (item_deeper levels) (with_errors (Err g))
-        failed (io depth path kind) = ap (λ (l : List (Item R E)). item_deeper levels (Err (io depth path kind)) ∷ l) (errors_deeper levels depth (kind_of {R = R} {E = E} counted excluded (Err (io depth path kind))))
+        failed (io depth path kind) = ap (λ (l : List (Item R E)). item_deeper levels (Err (io depth path kind)) ∷ l) (errors_deeper levels depth (if_read reads (kind_of {R = R} {E = E} (Err (io depth path kind)))))
         failed (unnamed depth path kind) = refl
-        failed (looped depth ancestor path) = ap (λ (l : List (Item R E)). item_deeper levels (Err (looped depth ancestor path)) ∷ l) (errors_deeper levels depth (kind_of {R = R} {E = E} counted excluded (Err (looped depth ancestor path))))
+        failed (looped depth ancestor path) = ap (λ (l : List (Item R E)). item_deeper levels (Err (looped depth ancestor path)) ∷ l) (errors_deeper levels depth (if_read reads (kind_of {R = R} {E = E} (Err (looped depth ancestor path)))))
         failed busy = refl
         failed memory = refl
         failed lost = refl
@@ -101,9 +101,9 @@ module _ {R E : Type 0} (levels : ℕ) where
       failed memory = refl
       failed lost = refl
 
-  own_deeper : (counted : Bool) (x : Item R E) → own_kind counted (item_deeper levels x) ≡ own_kind counted x
-  own_deeper counted (Ok e) = refl
-  own_deeper counted (Err f) = refl
+  own_deeper : (x : Item R E) → own_kind (item_deeper levels x) ≡ own_kind x
+  own_deeper (Ok e) = refl
+  own_deeper (Err f) = refl
 
   shown_deeper : (settings : Settings) (x : Item R E) → is_shown settings (item_deeper levels x) ≡ is_shown settings x
   shown_deeper settings (Ok e) = refl
@@ -126,6 +126,9 @@ module _ {R E : Type 0} (levels : ℕ) where
   number_deeper : (test other : Item R E → Bool) → ((x : Item R E) → test (item_deeper levels x) ≡ other x) → (list : List (Item R E)) → length (filter test (map (item_deeper levels) list)) ≡ length (filter other list)
   number_deeper test other same list = ap length (filter_deeper test other same list) ∙ length_deeper (filter other list)
 
+  own_number : (kind : RulesKind) (list : List (Item R E)) → number_in kind (map (item_deeper levels) list) ≡ number_in kind list
+  own_number kind list = number_deeper (λ x. is_of kind (own_kind x)) (λ x. is_of kind (own_kind x)) (λ x. ap (is_of kind) (own_deeper x)) list
+
   module _ (texts : Texts) (directory : List ℕ) where
     found_deeper : (list : List (Item R E)) → option_and_then (git_by texts directory) (find is_git (map (item_deeper levels) list)) ≡ option_and_then (git_by texts directory) (find is_git list)
     found_deeper [] = refl
@@ -145,8 +148,9 @@ module _ {R E : Type 0} (levels : ℕ) where
     -- a list agrees with the texts at any depth
     pub agrees_deeper : (list : List (Item R E)) → Agrees texts directory list → Agrees texts directory (map (item_deeper levels) list)
     agrees_deeper list agrees = record {
-      ignore = number_deeper (λ x. is_of rules.Ignore (own_kind true x)) (λ x. is_of rules.Ignore (own_kind true x)) (λ x. ap (is_of rules.Ignore) (own_deeper true x)) list ∙ agrees.ignore;
-      gitignore = number_deeper (λ x. is_of rules.Gitignore (own_kind true x)) (λ x. is_of rules.Gitignore (own_kind true x)) (λ x. ap (is_of rules.Gitignore) (own_deeper true x)) list ∙ agrees.gitignore;
+      fdignore = own_number rules.Fdignore list ∙ agrees.fdignore;
+      ignore = own_number rules.Ignore list ∙ agrees.ignore;
+      gitignore = own_number rules.Gitignore list ∙ agrees.gitignore;
       git = git_in_deeper list ∙ agrees.git;
       once = subst (λ (n : ℕ). n ≤ 1) (sym (number_deeper is_git is_git git_deeper list)) agrees.once;
     }
@@ -156,11 +160,11 @@ module _ {R E : Type 0} (levels : ℕ) where
 module _ (settings : Settings) (texts : Texts) (directory : List ℕ) where
   -- the list of a directory with the errors of its rules, of rules that are in force in it
   own_is : {R E : Type 0} (chain : Chain) (list : List (Item R E))
-      → (own_rules settings texts directory chain list).list ≡ flat_map (with_errors texts (counts settings (entered (is_repository (git_in texts directory list)) chain)) (is_git_dir (git_in texts directory list)) directory) list
+      → (own_rules settings texts directory chain list).list ≡ flat_map (with_errors texts (is_read settings (entered (is_repository (git_in texts directory list)) chain).in_repository (git_in texts directory list)) directory) list
   own_is {R} {E} chain list =
       let git : Option FileType = git_in texts directory list in
       let inside : Chain = entered (is_repository git) chain in
-      all_list texts (counts settings inside) (is_git_dir git) directory (length (place_in inside directory)) (record { chain = inside; list = [] }) list
+      all_list texts (is_read settings inside.in_repository git) directory (length (place_in inside directory)) (record { chain = inside; list = [] }) list
 
   module _ (levels : ℕ) (a b : Chain) (list : List (Item Worth Worth)) where
     abbrev deeper : List (Item Worth Worth)
@@ -172,24 +176,24 @@ module _ (settings : Settings) (texts : Texts) (directory : List ℕ) where
     abbrev own_b : Chain
     own_b = (own_rules settings texts directory b list).chain
 
-    module _ (agrees : Agrees texts directory list) (alike_a : AlikeAt settings texts directory a) (alike_b : AlikeAt settings texts directory b) where
+    module _ (from_above : settings.above_the_root ≡ true) (agrees : Agrees texts directory list) (alike_a : AlikeAt settings texts directory a) (alike_b : AlikeAt settings texts directory b) where
       agrees_a : Agrees texts directory deeper
       agrees_a = agrees_deeper levels texts directory list agrees
 
-      counts_same : (holds : Bool) → counts settings (entered holds a) ≡ counts settings (entered holds b)
-      counts_same holds =
+      entered_same : (holds : Bool) → (entered holds a).in_repository ≡ (entered holds b).in_repository
+      entered_same holds =
           let first : Chain = begun settings texts directory in
           let left = entered_alike (place_in a directory) directory holds a first alike_a.1 in
           let right = entered_alike (place_in b directory) directory holds b first alike_b.1 in
-          ap (λ (r : Bool). settings.anywhere || r) (left.repository ∙ sym right.repository)
+          left.repository ∙ sym right.repository
 
       own_lists : (own_rules settings texts directory a deeper).list ≡ map (item_deeper levels) (own_rules settings texts directory b list).list
       own_lists =
           let git : Option FileType = git_in texts directory list in
           own_is a deeper
-          ∙ ap (λ (g : Option FileType). flat_map (with_errors texts (counts settings (entered (is_repository g) a)) (is_git_dir g) directory) deeper) (git_in_deeper levels texts directory list)
-          ∙ ap (λ (c : Bool). flat_map (with_errors texts c (is_git_dir git) directory) deeper) (counts_same (is_repository git))
-          ∙ list_errors texts (counts settings (entered (is_repository git) b)) (is_git_dir git) directory levels list
+          ∙ ap (λ (g : Option FileType). flat_map (with_errors texts (is_read settings (entered (is_repository g) a).in_repository g) directory) deeper) (git_in_deeper levels texts directory list)
+          ∙ ap (λ (r : Bool). flat_map (with_errors texts (is_read settings r git) directory) deeper) (entered_same (is_repository git))
+          ∙ list_errors texts (is_read settings (entered (is_repository git) b).in_repository git) directory levels list
           ∙ ap (map (item_deeper levels)) (sym (own_is b list))
 
       -- the rules that a walk has that starts here, in it
@@ -210,9 +214,9 @@ module _ (settings : Settings) (texts : Texts) (directory : List ℕ) where
 
       kept_same : (x : Item Worth Worth) → is_kept own_a (place_in own_a directory) (item_deeper levels x) ≡ is_kept own_b (place_in own_b directory) x
       kept_same x =
-          kept_by a own_a (place_of a deeper) (own_alike settings texts directory a deeper agrees_a alike_a.1) (item_deeper levels x)
+          kept_by a own_a (place_of a deeper) (own_alike settings texts from_above directory a deeper agrees_a alike_a.1) (item_deeper levels x)
           ∙ at_depth x
-          ∙ sym (kept_by b own_b (place_of b list) (own_alike settings texts directory b list agrees alike_b.1) x)
+          ∙ sym (kept_by b own_b (place_of b list) (own_alike settings texts from_above directory b list agrees alike_b.1) x)
         where
           at_depth : (y : Item Worth Worth) → is_kept there directory (item_deeper levels y) ≡ is_kept there directory y
           at_depth (Ok e) = refl
@@ -231,14 +235,14 @@ module _ (settings : Settings) (texts : Texts) (directory : List ℕ) where
   plain_depth depth path (Ok e) h = h.0
   plain_depth depth path (Err f) h = h
 
-  plain_errors : {R E : Type 0} (counted excluded : Bool) (depth : ℕ) (path : List ℕ) (x : Item R E) → IsPlain depth path x → Each (IsPlain depth path) (with_errors texts counted excluded directory x)
-  plain_errors {R} {E} counted excluded depth path x h = (h, own (kind_of counted excluded x))
+  plain_errors : {R E : Type 0} (reads : RulesKind → Bool) (depth : ℕ) (path : List ℕ) (x : Item R E) → IsPlain depth path x → Each (IsPlain depth path) (with_errors texts reads directory x)
+  plain_errors {R} {E} reads depth path x h = (h, own (if_read reads (kind_of x)))
     where
       found : (own_path : List ℕ) (read : Result (Option (List Pattern)) ErrorKind) → Each (IsPlain {R = R} {E = E} depth path) (errors_found (depth_of x) own_path read)
       found own_path (Ok some) = tt
       found own_path (Err k) = (plain_depth depth path x h, tt)
 
-      own : (kind : Option RulesKind) → Each (IsPlain {R = R} {E = E} depth path) (errors_own texts counted excluded directory (depth_of x) kind)
+      own : (kind : Option RulesKind) → Each (IsPlain {R = R} {E = E} depth path) (errors_own texts reads directory (depth_of x) kind)
       own None = tt
       own (Some kind) = found (join directory (file_of kind)) (rules_found texts kind (may_miss kind) (join directory (file_of kind)))
 
@@ -246,6 +250,6 @@ module _ (settings : Settings) (texts : Texts) (directory : List ℕ) where
   plain_left {R} {E} depth path chain list h =
       let own : Made R E = own_rules settings texts directory chain list in
       let git : Option FileType = git_in texts directory list in
-      let counted : Bool = counts settings (entered (is_repository git) chain) in
-      let all : Each (IsPlain depth path) own.list = subst (Each (IsPlain depth path)) (sym (own_is chain list)) (each_flat (IsPlain depth path) (with_errors texts counted (is_git_dir git) directory) (plain_errors counted (is_git_dir git) depth path) list h) in
+      let reads : RulesKind → Bool = is_read settings (entered (is_repository git) chain).in_repository git in
+      let all : Each (IsPlain depth path) own.list = subst (Each (IsPlain depth path)) (sym (own_is chain list)) (each_flat (IsPlain depth path) (with_errors texts reads directory) (plain_errors reads depth path) list h) in
       each_filter (IsPlain depth path) (is_kept own.chain (place_in own.chain directory)) (filter (is_shown settings) own.list) (each_filter (IsPlain depth path) (is_shown settings) own.list all)

@@ -9,7 +9,7 @@ use Rattle.jwalk_model.specs.Entry.{Item}
 use Rattle.jwalk_model.specs.FileType.{is_file}
 use Rattle.jwalk_model.specs.Paths.{join}
 use Rattle.jwalk_model.specs.declared.file_type.FileType.{FileType}
-use Rattle.jwalk_ignore.specs.Callback.IgnoreFiles.{Made, Source, depth_of, file_of, git_by, git_in, is_git, is_missing, kind_of, kind_of_file, own_kind, rules_found, rules_read, rules_typed, source_in, with_item, with_listed, with_own}
+use Rattle.jwalk_ignore.specs.Callback.IgnoreFiles.{Made, Source, depth_of, file_of, git_by, git_in, if_read, is_git, is_missing, kind_of, kind_of_file, own_kind, rules_found, rules_read, rules_typed, source_in, with_item, with_listed, with_own}
 use Rattle.jwalk_ignore.specs.Rules.Git.{git, is_git_dir}
 use Rattle.jwalk_ignore_laws.specs.Starts.{Agrees, is_of, is_regular, links_in, same_kind}
 use Rattle.jwalk_ignore.specs.Pattern.{Pattern}
@@ -26,12 +26,19 @@ found_links before (Ok None) = []
 found_links before (Err k) = []
 
 link_links : (kind other : RulesKind) (link : Link) (chain : Chain) → links_in kind (with_link other link chain) ≡ links_in kind chain ++ cond (same_kind kind other) (link ∷ []) []
+link_links rules.Fdignore rules.Fdignore link chain = refl
+link_links rules.Fdignore rules.Ignore link chain = sym (append-nil chain.fdignore)
+link_links rules.Fdignore rules.Gitignore link chain = sym (append-nil chain.fdignore)
+link_links rules.Fdignore rules.Exclude link chain = sym (append-nil chain.fdignore)
+link_links rules.Ignore rules.Fdignore link chain = sym (append-nil chain.ignore)
 link_links rules.Ignore rules.Ignore link chain = refl
 link_links rules.Ignore rules.Gitignore link chain = sym (append-nil chain.ignore)
 link_links rules.Ignore rules.Exclude link chain = sym (append-nil chain.ignore)
+link_links rules.Gitignore rules.Fdignore link chain = sym (append-nil chain.gitignore)
 link_links rules.Gitignore rules.Ignore link chain = sym (append-nil chain.gitignore)
 link_links rules.Gitignore rules.Gitignore link chain = refl
 link_links rules.Gitignore rules.Exclude link chain = sym (append-nil chain.gitignore)
+link_links rules.Exclude rules.Fdignore link chain = sym (append-nil chain.exclude)
 link_links rules.Exclude rules.Ignore link chain = sym (append-nil chain.exclude)
 link_links rules.Exclude rules.Gitignore link chain = sym (append-nil chain.exclude)
 link_links rules.Exclude rules.Exclude link chain = refl
@@ -47,6 +54,7 @@ put_links kind source (Ok None) chain = no_links (same_kind kind source.kind) (l
 put_links kind source (Err k) chain = no_links (same_kind kind source.kind) (links_in kind chain)
 
 link_repository : (kind : RulesKind) (link : Link) (chain : Chain) → (with_link kind link chain).in_repository ≡ chain.in_repository
+link_repository rules.Fdignore link chain = refl
 link_repository rules.Ignore link chain = refl
 link_repository rules.Gitignore link chain = refl
 link_repository rules.Exclude link chain = refl
@@ -57,6 +65,7 @@ put_repository source (Ok None) chain = refl
 put_repository source (Err k) chain = refl
 
 link_front : (kind : RulesKind) (link : Link) (chain : Chain) → ((with_link kind link chain).front ≡ chain.front) × ((with_link kind link chain).root_len ≡ chain.root_len)
+link_front rules.Fdignore link chain = (refl, refl)
 link_front rules.Ignore link chain = (refl, refl)
 link_front rules.Gitignore link chain = (refl, refl)
 link_front rules.Exclude link chain = (refl, refl)
@@ -96,84 +105,104 @@ module _ {X L : Type 0} where
 
 -- ---- which items have rules of which kind
 
-named : (own : List ℕ) (kind : RulesKind) (counted : Bool) (name : List ℕ) → bytes_eq name own ≡ true → is_of kind (kind_of_file counted name) ≡ is_of kind (kind_of_file counted own)
-named own kind counted name is = ap (λ (n : List ℕ). is_of kind (kind_of_file counted n)) ((bytes_eq-Decides name own).0 is)
-
--- which of the kinds that a list leads to are read
-abbrev pub reads : Bool → Bool → RulesKind → Bool
-reads counted excluded rules.Ignore = true
-reads counted excluded rules.Gitignore = counted
-reads counted excluded rules.Exclude = excluded
-
 -- whether an item has rules of a kind itself, or those beside `.git`
-abbrev has : {R E : Type 0} → RulesKind → Item R E → Bool
+abbrev pub has : {R E : Type 0} → RulesKind → Item R E → Bool
 has rules.Exclude x = is_git x
-has kind x = is_of kind (own_kind true x)
-
-file_by : (kind : RulesKind) (counted excluded a b : Bool)
-    → is_of kind (cond a (Some rules.Ignore) (cond (counted && b) (Some rules.Gitignore) None)) ≡ (reads counted false kind && is_of kind (cond a (Some rules.Ignore) (cond (true && b) (Some rules.Gitignore) None)))
-file_by rules.Ignore counted excluded true b = refl
-file_by rules.Ignore true excluded false true = refl
-file_by rules.Ignore true excluded false false = refl
-file_by rules.Ignore false excluded false true = refl
-file_by rules.Ignore false excluded false false = refl
-file_by rules.Gitignore true excluded a b = refl
-file_by rules.Gitignore false excluded true b = refl
-file_by rules.Gitignore false excluded false b = refl
-file_by rules.Exclude counted excluded true b = refl
-file_by rules.Exclude true excluded false true = refl
-file_by rules.Exclude true excluded false false = refl
-file_by rules.Exclude false excluded false true = refl
-file_by rules.Exclude false excluded false false = refl
+has kind x = is_of kind (own_kind x)
 
 abbrev has_by : RulesKind → Bool → Option RulesKind → Bool
 has_by rules.Exclude is_git own = is_git
 has_by kind is_git own = is_of kind own
 
-no_file : (kind : RulesKind) (counted excluded g : Bool) → is_of kind (cond g (cond excluded (Some rules.Exclude) None) None) ≡ (reads counted excluded kind && has_by kind g None)
-no_file rules.Ignore counted true true = refl
-no_file rules.Ignore counted false true = refl
-no_file rules.Ignore counted excluded false = refl
-no_file rules.Gitignore true true true = refl
-no_file rules.Gitignore false true true = refl
-no_file rules.Gitignore true false true = refl
-no_file rules.Gitignore false false true = refl
-no_file rules.Gitignore true excluded false = refl
-no_file rules.Gitignore false excluded false = refl
-no_file rules.Exclude counted true true = refl
-no_file rules.Exclude counted false true = refl
-no_file rules.Exclude counted true false = refl
-no_file rules.Exclude counted false false = refl
-
-plain_file : (kind : RulesKind) (counted excluded : Bool) (name : List ℕ) → is_of kind (kind_of_file counted name) ≡ (reads counted excluded kind && has_by kind false (kind_of_file true name))
-plain_file rules.Ignore counted excluded name = file_by rules.Ignore counted excluded (bytes_eq name (codes ".ignore")) (bytes_eq name (codes ".gitignore"))
-plain_file rules.Gitignore counted excluded name = file_by rules.Gitignore counted excluded (bytes_eq name (codes ".ignore")) (bytes_eq name (codes ".gitignore"))
-plain_file rules.Exclude counted true name = file_by rules.Exclude counted true (bytes_eq name (codes ".ignore")) (bytes_eq name (codes ".gitignore"))
-plain_file rules.Exclude counted false name = file_by rules.Exclude counted false (bytes_eq name (codes ".ignore")) (bytes_eq name (codes ".gitignore"))
+named_by : (kind : RulesKind) (g : Bool) (own : Option RulesKind) → (g ≡ true → is_of kind own ≡ false) → is_of rules.Exclude own ≡ false
+    → is_of kind (cond g (Some rules.Exclude) own) ≡ has_by kind g own
+named_by rules.Fdignore true own none other = sym (none refl)
+named_by rules.Fdignore false own none other = refl
+named_by rules.Ignore true own none other = sym (none refl)
+named_by rules.Ignore false own none other = refl
+named_by rules.Gitignore true own none other = sym (none refl)
+named_by rules.Gitignore false own none other = refl
+named_by rules.Exclude true own none other = refl
+named_by rules.Exclude false own none other = other
 
 -- `.git` is no name of a file of rules
-git_file : (kind : RulesKind) (name : List ℕ) → bytes_eq name git ≡ true → has_by kind true (kind_of_file true name) ≡ has_by kind true None
-git_file kind name is = ap (λ (n : List ℕ). has_by kind true (kind_of_file true n)) ((bytes_eq-Decides name git).0 is)
+git_file : (kind : RulesKind) (regular : Bool) (name : List ℕ) → bytes_eq name git ≡ true → is_of kind (cond regular (kind_of_file name) None) ≡ false
+git_file kind true name is = ap (λ (n : List ℕ). is_of kind (kind_of_file n)) ((bytes_eq-Decides name git).0 is)
+git_file kind false name is = refl
 
-item_has : (kind : RulesKind) (counted excluded g r : Bool) (name : List ℕ) → bytes_eq name git ≡ g
-    → is_of kind (cond g (cond excluded (Some rules.Exclude) None) (cond r (kind_of_file counted name) None)) ≡ (reads counted excluded kind && has_by kind g (cond r (kind_of_file true name) None))
-item_has kind counted excluded g false name is = no_file kind counted excluded g
-item_has kind counted excluded false true name is = plain_file kind counted excluded name
-item_has kind counted excluded true true name is =
-    no_file kind counted excluded true ∙ ap (λ (b : Bool). reads counted excluded kind && b) (sym (git_file kind name is))
+-- no name of a file is that of the rules beside `.git`
+file_by : (a b c : Bool) → is_of rules.Exclude (cond a (Some rules.Fdignore) (cond b (Some rules.Ignore) (cond c (Some rules.Gitignore) None))) ≡ false
+file_by true b c = refl
+file_by false true c = refl
+file_by false false true = refl
+file_by false false false = refl
 
-by_kind : {R E : Type 0} (kind : RulesKind) (x : Item R E) → has_by kind (is_git x) (own_kind true x) ≡ has kind x
+no_file : (regular : Bool) (name : List ℕ) → is_of rules.Exclude (cond regular (kind_of_file name) None) ≡ false
+no_file true name = file_by (bytes_eq name (codes ".fdignore")) (bytes_eq name (codes ".ignore")) (bytes_eq name (codes ".gitignore"))
+no_file false name = refl
+
+by_kind : {R E : Type 0} (kind : RulesKind) (x : Item R E) → has_by kind (is_git x) (own_kind x) ≡ has kind x
+by_kind rules.Fdignore x = refl
 by_kind rules.Ignore x = refl
 by_kind rules.Gitignore x = refl
 by_kind rules.Exclude x = refl
 
--- an item leads to rules of a kind where it has them and they are read
-has_read : {R E : Type 0} (kind : RulesKind) (counted excluded : Bool) (x : Item R E) → is_of kind (kind_of counted excluded x) ≡ (reads counted excluded kind && has kind x)
-has_read kind counted excluded (Ok e) =
-    item_has kind counted excluded (bytes_eq e.file_name git) (is_file e.file_type && not e.through_link) e.file_name refl
-    ∙ ap (λ (b : Bool). reads counted excluded kind && b) (by_kind kind (Ok e))
-has_read {R} {E} kind counted excluded (Err f) =
-    no_file kind counted excluded (is_git {R = R} {E = E} (Err f)) ∙ ap (λ (b : Bool). reads counted excluded kind && b) (by_kind {R = R} {E = E} kind (Err f))
+-- an item leads to rules of a kind where it has them
+leads : {R E : Type 0} (kind : RulesKind) (x : Item R E) → is_of kind (kind_of x) ≡ has kind x
+leads kind (Ok e) =
+    let regular : Bool = is_file e.file_type && not e.through_link in
+    named_by kind (bytes_eq e.file_name git) (cond regular (kind_of_file e.file_name) None) (git_file kind regular e.file_name) (no_file regular e.file_name) ∙ by_kind kind (Ok e)
+leads {R} {E} kind (Err f) = named_by kind (is_git {R = R} {E = E} (Err f)) None (λ is. refl) refl ∙ by_kind {R = R} {E = E} kind (Err f)
+
+-- what two kinds lead to is the same if they are
+swap : {X : Type 0} (kind other : RulesKind) (of : RulesKind → X) (x : X) → cond (same_kind kind other) (of other) x ≡ cond (same_kind kind other) (of kind) x
+swap rules.Fdignore rules.Fdignore of x = refl
+swap rules.Fdignore rules.Ignore of x = refl
+swap rules.Fdignore rules.Gitignore of x = refl
+swap rules.Fdignore rules.Exclude of x = refl
+swap rules.Ignore rules.Fdignore of x = refl
+swap rules.Ignore rules.Ignore of x = refl
+swap rules.Ignore rules.Gitignore of x = refl
+swap rules.Ignore rules.Exclude of x = refl
+swap rules.Gitignore rules.Fdignore of x = refl
+swap rules.Gitignore rules.Ignore of x = refl
+swap rules.Gitignore rules.Gitignore of x = refl
+swap rules.Gitignore rules.Exclude of x = refl
+swap rules.Exclude rules.Fdignore of x = refl
+swap rules.Exclude rules.Ignore of x = refl
+swap rules.Exclude rules.Gitignore of x = refl
+swap rules.Exclude rules.Exclude of x = refl
+
+kept_true : (b : Bool) → b ≡ cond b true false
+kept_true true = refl
+kept_true false = refl
+
+both_ways : (a b : Bool) → cond a b false ≡ (b && a)
+both_ways true true = refl
+both_ways true false = refl
+both_ways false true = refl
+both_ways false false = refl
+
+no_kind : (b : Bool) → false ≡ (b && false)
+no_kind true = refl
+no_kind false = refl
+
+never : (b : Bool) → false ≡ cond b false false
+never true = refl
+never false = refl
+
+if_by : (kind other : RulesKind) (read : Bool) → is_of kind (cond read (Some other) None) ≡ cond (same_kind kind other) read false
+if_by kind other true = kept_true (same_kind kind other)
+if_by kind other false = never (same_kind kind other)
+
+-- a kind that is read
+read_of : (kind : RulesKind) (reads : RulesKind → Bool) (found : Option RulesKind) → is_of kind (if_read reads found) ≡ (reads kind && is_of kind found)
+read_of kind reads None = no_kind (reads kind)
+read_of kind reads (Some other) = if_by kind other (reads other) ∙ swap kind other reads false ∙ both_ways (same_kind kind other) (reads kind)
+
+-- an item leads to rules of a kind that are read where it has them and they count
+has_read : {R E : Type 0} (kind : RulesKind) (reads : RulesKind → Bool) (x : Item R E) → is_of kind (if_read reads (kind_of x)) ≡ (reads kind && has kind x)
+has_read kind reads x = read_of kind reads (kind_of x) ∙ ap (λ (b : Bool). reads kind && b) (leads kind x)
 
 -- ---- the links of a list
 
@@ -214,22 +243,11 @@ typed_links : (before : ℕ) (type : Result FileType ErrorKind) (bytes : Result 
 typed_links before (Ok type) bytes = cond_read (is_file type) before (rules_read bytes)
 typed_links before (Err k) bytes = missing_links before k (is_missing k)
 
-swap : (kind other : RulesKind) (links : RulesKind → List Link) → cond (same_kind kind other) (links other) [] ≡ cond (same_kind kind other) (links kind) []
-swap rules.Ignore rules.Ignore links = refl
-swap rules.Ignore rules.Gitignore links = refl
-swap rules.Ignore rules.Exclude links = refl
-swap rules.Gitignore rules.Ignore links = refl
-swap rules.Gitignore rules.Gitignore links = refl
-swap rules.Gitignore rules.Exclude links = refl
-swap rules.Exclude rules.Ignore links = refl
-swap rules.Exclude rules.Gitignore links = refl
-swap rules.Exclude rules.Exclude links = refl
-
 by_reads : {X : Type 0} (test : X → Bool) (ls ms : List Link) (xs : List X) (b : Bool) → (b ≡ true → times (length (filter test xs)) ls ≡ ms) → flat_map (λ y. cond (b && test y) ls []) xs ≡ cond b ms []
 by_reads test ls ms xs true is = by_number test ls xs ∙ is refl
 by_reads test ls ms xs false is = no_test test ls xs
 
-module _ (texts : Texts) (counted excluded : Bool) (directory : List ℕ) (before : ℕ) where
+module _ (texts : Texts) (reads : RulesKind → Bool) (directory : List ℕ) (before : ℕ) where
   -- what a list's file of rules has, and one that is looked for
   abbrev listed_file : RulesKind → Result (Option (List Pattern)) ErrorKind
   listed_file kind = rules_found texts kind (may_miss kind) (join directory (file_of kind))
@@ -245,7 +263,7 @@ module _ (texts : Texts) (counted excluded : Bool) (directory : List ℕ) (befor
   own_links kind None chain = sym (append-nil (links_in kind chain))
   own_links kind (Some other) chain =
       put_links kind (source_in directory before other 0) (listed_file other) chain
-      ∙ ap (λ (l : List Link). links_in kind chain ++ l) (swap kind other (λ k. found_links before (listed_file k)))
+      ∙ ap (λ (l : List Link). links_in kind chain ++ l) (swap kind other (λ k. found_links before (listed_file k)) [])
 
   own_repository : (own : Option RulesKind) (chain : Chain) → (put_own own chain).in_repository ≡ chain.in_repository
   own_repository None chain = refl
@@ -257,41 +275,45 @@ module _ (texts : Texts) (counted excluded : Bool) (directory : List ℕ) (befor
 
   module _ {R E : Type 0} where
     abbrev put_item : Chain → Item R E → Chain
-    put_item chain x = put_own (kind_of counted excluded x) chain
+    put_item chain x = put_own (if_read reads (kind_of x)) chain
 
-    own_put : (kind : Option RulesKind) (depth : ℕ) (made : Made R E) → (with_own texts counted excluded directory before kind depth made).chain ≡ put_own kind made.chain
+    own_put : (kind : Option RulesKind) (depth : ℕ) (made : Made R E) → (with_own texts reads directory before kind depth made).chain ≡ put_own kind made.chain
     own_put None depth made = refl
     own_put (Some kind) depth made = found_put (source_in directory before kind depth) (listed_file kind) made
 
-    all_put : (made : Made R E) (list : List (Item R E)) → (fold (with_listed texts counted excluded directory before) made list).chain ≡ fold put_item made.chain list
+    all_put : (made : Made R E) (list : List (Item R E)) → (fold (with_listed texts reads directory before) made list).chain ≡ fold put_item made.chain list
     all_put made [] = refl
     all_put made (x ∷ list) =
-        all_put (with_listed texts counted excluded directory before made x) list
-        ∙ ap (λ (c : Chain). fold put_item c list) (own_put (kind_of counted excluded x) (depth_of x) (with_item x made))
+        all_put (with_listed texts reads directory before made x) list
+        ∙ ap (λ (c : Chain). fold put_item c list) (own_put (if_read reads (kind_of x)) (depth_of x) (with_item x made))
 
     all_links : (kind : RulesKind) (chain : Chain) (list : List (Item R E))
-        → links_in kind (fold put_item chain list) ≡ links_in kind chain ++ flat_map (λ x. cond (is_of kind (kind_of counted excluded x)) (found_links before (listed_file kind)) []) list
+        → links_in kind (fold put_item chain list) ≡ links_in kind chain ++ flat_map (λ x. cond (is_of kind (if_read reads (kind_of x))) (found_links before (listed_file kind)) []) list
     all_links kind chain [] = sym (append-nil (links_in kind chain))
     all_links kind chain (x ∷ list) =
-        let first : List Link = cond (is_of kind (kind_of counted excluded x)) (found_links before (listed_file kind)) [] in
-        let others : List Link = flat_map (λ y. cond (is_of kind (kind_of counted excluded y)) (found_links before (listed_file kind)) []) list in
-        all_links kind (put_item chain x) list ∙ ap (λ (l : List Link). l ++ others) (own_links kind (kind_of counted excluded x) chain)
+        let first : List Link = cond (is_of kind (if_read reads (kind_of x))) (found_links before (listed_file kind)) [] in
+        let others : List Link = flat_map (λ y. cond (is_of kind (if_read reads (kind_of y))) (found_links before (listed_file kind)) []) list in
+        all_links kind (put_item chain x) list ∙ ap (λ (l : List Link). l ++ others) (own_links kind (if_read reads (kind_of x)) chain)
         ∙ append_assoc (links_in kind chain) first others
 
     all_repository : (chain : Chain) (list : List (Item R E)) → (fold put_item chain list).in_repository ≡ chain.in_repository
     all_repository chain [] = refl
-    all_repository chain (x ∷ list) = all_repository (put_item chain x) list ∙ own_repository (kind_of counted excluded x) chain
+    all_repository chain (x ∷ list) = all_repository (put_item chain x) list ∙ own_repository (if_read reads (kind_of x)) chain
 
     all_front : (chain : Chain) (list : List (Item R E)) → ((fold put_item chain list).front ≡ chain.front) × ((fold put_item chain list).root_len ≡ chain.root_len)
     all_front chain [] = (refl, refl)
     all_front chain (x ∷ list) =
         let rest = all_front (put_item chain x) list in
-        let first = own_front (kind_of counted excluded x) chain in
+        let first = own_front (if_read reads (kind_of x)) chain in
         (rest.0 ∙ first.0, rest.1 ∙ first.1)
 
     -- what a list leads to of a kind
-    number_read : (kind : RulesKind) (list : List (Item R E)) → Agrees texts directory list → (is_git_dir (git_in texts directory list) ≡ excluded) → reads counted excluded kind ≡ true
+    number_read : (kind : RulesKind) (list : List (Item R E)) → Agrees texts directory list → (reads rules.Exclude ≡ true → is_git_dir (git_in texts directory list) ≡ true) → reads kind ≡ true
         → times (length (filter (has kind) list)) (found_links before (listed_file kind)) ≡ found_links before (looked_for kind)
+    number_read rules.Fdignore list agrees git_is is =
+        let path : List ℕ = join directory (file_of rules.Fdignore) in
+        ap (λ (n : ℕ). times n (found_links before (listed_file rules.Fdignore))) agrees.fdignore
+        ∙ once_or_not (is_regular (texts.type_of path)) (found_links before (listed_file rules.Fdignore)) ∙ typed_links before (texts.type_of path) (texts.bytes_of path)
     number_read rules.Ignore list agrees git_is is =
         let path : List ℕ = join directory (file_of rules.Ignore) in
         ap (λ (n : ℕ). times n (found_links before (listed_file rules.Ignore))) agrees.ignore
@@ -301,21 +323,21 @@ module _ (texts : Texts) (counted excluded : Bool) (directory : List ℕ) (befor
         ap (λ (n : ℕ). times n (found_links before (listed_file rules.Gitignore))) agrees.gitignore
         ∙ once_or_not (is_regular (texts.type_of path)) (found_links before (listed_file rules.Gitignore)) ∙ typed_links before (texts.type_of path) (texts.bytes_of path)
     number_read rules.Exclude list agrees git_is is =
-        ap (λ (n : ℕ). times n (found_links before (listed_file rules.Exclude))) (one_git texts directory list (git_is ∙ is) agrees.once) ∙ append-nil (found_links before (listed_file rules.Exclude))
+        ap (λ (n : ℕ). times n (found_links before (listed_file rules.Exclude))) (one_git texts directory list (git_is is) agrees.once) ∙ append-nil (found_links before (listed_file rules.Exclude))
 
-    pub list_links : (kind : RulesKind) (chain : Chain) (list : List (Item R E)) → Agrees texts directory list → (is_git_dir (git_in texts directory list) ≡ excluded)
-        → links_in kind (fold (with_listed texts counted excluded directory before) (record { chain = chain; list = [] }) list).chain ≡ links_in kind chain ++ cond (reads counted excluded kind) (found_links before (looked_for kind)) []
+    pub list_links : (kind : RulesKind) (chain : Chain) (list : List (Item R E)) → Agrees texts directory list → (reads rules.Exclude ≡ true → is_git_dir (git_in texts directory list) ≡ true)
+        → links_in kind (fold (with_listed texts reads directory before) (record { chain = chain; list = [] }) list).chain ≡ links_in kind chain ++ cond (reads kind) (found_links before (looked_for kind)) []
     list_links kind chain list agrees git_is =
         ap (links_in kind) (all_put (record { chain = chain; list = [] }) list) ∙ all_links kind chain list
         ∙ ap (λ (l : List Link). links_in kind chain ++ l)
-        (same_tests (λ x. is_of kind (kind_of counted excluded x)) (λ x. reads counted excluded kind && has kind x) (found_links before (listed_file kind)) (has_read kind counted excluded) list
-        ∙ by_reads (has kind) (found_links before (listed_file kind)) (found_links before (looked_for kind)) list (reads counted excluded kind) (number_read kind list agrees git_is))
+        (same_tests (λ x. is_of kind (if_read reads (kind_of x))) (λ x. reads kind && has kind x) (found_links before (listed_file kind)) (has_read kind reads) list
+        ∙ by_reads (has kind) (found_links before (listed_file kind)) (found_links before (looked_for kind)) list (reads kind) (number_read kind list agrees git_is))
 
-    pub list_repository : (chain : Chain) (list : List (Item R E)) → (fold (with_listed texts counted excluded directory before) (record { chain = chain; list = [] }) list).chain.in_repository ≡ chain.in_repository
+    pub list_repository : (chain : Chain) (list : List (Item R E)) → (fold (with_listed texts reads directory before) (record { chain = chain; list = [] }) list).chain.in_repository ≡ chain.in_repository
     list_repository chain list = ap (λ (c : Chain). c.in_repository) (all_put (record { chain = chain; list = [] }) list) ∙ all_repository chain list
 
     pub list_front : (chain : Chain) (list : List (Item R E))
-        → (let left : Chain = (fold (with_listed texts counted excluded directory before) (record { chain = chain; list = [] }) list).chain in (left.front ≡ chain.front) × (left.root_len ≡ chain.root_len))
+        → (let left : Chain = (fold (with_listed texts reads directory before) (record { chain = chain; list = [] }) list).chain in (left.front ≡ chain.front) × (left.root_len ≡ chain.root_len))
     list_front chain list =
         let same = all_put (record { chain = chain; list = [] }) list in
         let all = all_front chain list in

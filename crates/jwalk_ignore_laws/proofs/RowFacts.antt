@@ -11,6 +11,7 @@ use Rattle.jwalk_model.specs.Metadata.{metadata}
 use Rattle.jwalk_model.specs.PathTexts.{IsName}
 use Rattle.jwalk_model.specs.Paths.{dot, dots}
 use Rattle.jwalk_model.specs.declared.file_type.FileType.TheVariants as type
+use Rattle.jwalk_ignore.specs.Callback.Given.{first_settings}
 use Rattle.jwalk_ignore_laws.specs.Rows.{fs, in_a, in_root, in_s, list_of, options, texts}
 use Rattle.jwalk_ignore_laws.specs.Starts.{Agrees, below}
 use Rattle.jwalk_ignore_laws.specs.Walks.{AgreeBelow, AreStarts, HasName, list_at}
@@ -55,13 +56,13 @@ abbrev ListAgrees : List ℕ → List Listed → Type 0
 ListAgrees path items = Agrees texts path (list_at fs options path items)
 
 root_agrees : ListAgrees (codes "/r") in_root
-root_agrees = record { ignore = refl; gitignore = refl; git = refl; once = omega arith }
+root_agrees = record { fdignore = refl; ignore = refl; gitignore = refl; git = refl; once = omega arith }
 
 a_agrees : ListAgrees (codes "/r/a") in_a
-a_agrees = record { ignore = refl; gitignore = refl; git = refl; once = omega arith }
+a_agrees = record { fdignore = refl; ignore = refl; gitignore = refl; git = refl; once = omega arith }
 
 s_agrees : ListAgrees (codes "/r/a/s") in_s
-s_agrees = record { ignore = refl; gitignore = refl; git = refl; once = omega arith }
+s_agrees = record { fdignore = refl; ignore = refl; gitignore = refl; git = refl; once = omega arith }
 
 root_named : All HasName in_root
 root_named = three _ _ _ ignore_name (name_by (codes "a") refl refl refl tt) (name_by (codes "z.o") refl refl refl tt)
@@ -81,9 +82,10 @@ agree = record {
 }
 
 -- walks can start at the root and at a directory below it
-starts_at_a : AreStarts texts fs options (codes "/r") (codes "/r/a")
+starts_at_a : AreStarts first_settings texts fs options (codes "/r") (codes "/r/a")
 starts_at_a = record {
   no_links = refl;
+  from_above = refl;
   agree = agree;
   first = record { some = differs (codes "/r") [] refl; absolute = refl; is_there = (metadata type.Dir 0, refl, refl) };
   second = record { some = differs (codes "/r/a") [] refl; absolute = refl; is_there = (metadata type.Dir 0, refl, refl) };

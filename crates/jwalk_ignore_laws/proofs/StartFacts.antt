@@ -1,16 +1,16 @@
 -- The folders above a path, and the rules that they have.
 use Prim.Native.Nat.{zero}
-use Rattle.std.proofs.Common.{◌≡◌, ◌∙◌, ◌<◌, ◌≤◌, ◌+◌, ◌⊎◌, inl, inr, ℕ, suc, Bool, true, false, List, [], ◌∷◌, ◌++◌, length, reverse, Option, Some, None, Result, Ok, Err, ap, refl, sym, arith, length-append}
+use Rattle.std.proofs.Common.{◌≡◌, ◌∙◌, ◌<◌, ◌≤◌, ◌+◌, ◌⊎◌, inl, inr, ℕ, suc, Bool, true, false, cond, List, [], ◌∷◌, ◌++◌, length, reverse, Option, Some, None, Result, Ok, Err, ap, refl, sym, arith, length-append}
 use Rattle.std.proofs.lemmas.List.{reverse-append, take_all}
 use Rattle.std.proofs.lemmas.Paths.{path_components_parent, take_parent}
 use Rattle.std.specs.Path.{path_components, path_parent}
 use Rattle.jwalk_model.specs.Paths.{parent}
 use Rattle.jwalk_model.proofs.PathParents.{path_parent_is}
-use Rattle.std.specs.Prelude.{◌&&◌, fold, not}
+use Rattle.std.specs.Prelude.{fold}
 use Rattle.std.specs.declared.io.ErrorKind.{ErrorKind}
-use Rattle.jwalk_ignore.specs.Callback.IgnoreFiles.{Made, Source, counts, entered_above, path_of, rules_found, source_above, with_above, with_folder, with_found}
+use Rattle.jwalk_ignore.specs.Callback.IgnoreFiles.{Made, Source, all_kinds, entered_above, goes_on, is_read_above, path_of, rules_found, source_above, with_above, with_folder, with_found}
 use Rattle.jwalk_ignore.specs.Rules.Folder.{Folder, ends_git, folder_at, folders_above}
-use Rattle.jwalk_ignore.specs.Rules.Git.{is_git_dir, is_repository}
+use Rattle.jwalk_ignore.specs.Rules.Git.{is_repository}
 use Rattle.jwalk_ignore_laws.specs.Starts.{FoldersAreAbove, RulesComeFromAbove, begun, in_folder, unplaced}
 use Rattle.jwalk_ignore.specs.Pattern.{Pattern}
 use Rattle.jwalk_ignore.specs.Rules.Chain.{Chain, Link, below_root, entered, no_rules, with_link}
@@ -87,6 +87,7 @@ abbrev pub put : Source → Result (Option (List Pattern)) ErrorKind → Chain �
 put source found chain = put_at source.kind source.before found chain
 
 link_unplaced : (kind : RulesKind) (link : Link) (chain : Chain) → unplaced (with_link kind link chain) ≡ with_link kind link (unplaced chain)
+link_unplaced rules.Fdignore link chain = refl
 link_unplaced rules.Ignore link chain = refl
 link_unplaced rules.Gitignore link chain = refl
 link_unplaced rules.Exclude link chain = refl
@@ -123,10 +124,13 @@ module _ (settings : Settings) (texts : Texts) where
   put_above folder true kind chain = put (source_above folder kind) (rules_found texts kind true (path_of (source_above folder kind))) chain
   put_above folder false kind chain = chain
 
+  -- with the rules of these kinds in a folder that is in a repository or not
+  abbrev pub put_kinds : Folder → Bool → List RulesKind → Chain → Chain
+  put_kinds folder in_repository kinds chain = fold (λ c kind. put_above folder (is_read_above settings folder in_repository kind) kind c) chain kinds
+
   -- with all that a folder has that is entered
   abbrev pub put_inside : Folder → Chain → Chain
-  put_inside folder inside =
-      put_above folder true rules.Ignore (put_above folder (not folder.is_outer && counts settings inside) rules.Gitignore (put_above folder (is_git_dir folder.git) rules.Exclude inside))
+  put_inside folder inside = put_kinds folder inside.in_repository all_kinds inside
 
   abbrev pub put_folder : Chain → Folder → Chain
   put_folder chain folder = put_inside folder (entered (is_repository folder.git) chain)
@@ -135,14 +139,17 @@ module _ (settings : Settings) (texts : Texts) where
   above_put folder true kind made = found_put (source_above folder kind) (rules_found texts kind true (path_of (source_above folder kind))) made
   above_put folder false kind made = refl
 
+  kinds_put : {R E : Type 0} (folder : Folder) (in_repository : Bool) (kinds : List RulesKind) (made : Made R E)
+      → (fold (λ m kind. with_above settings texts folder (is_read_above settings folder in_repository kind) kind m) made kinds).chain ≡ put_kinds folder in_repository kinds made.chain
+  kinds_put folder in_repository [] made = refl
+  kinds_put folder in_repository (kind ∷ kinds) made =
+      let read : Bool = is_read_above settings folder in_repository kind in
+      kinds_put folder in_repository kinds (with_above settings texts folder read kind made) ∙ ap (put_kinds folder in_repository kinds) (above_put folder read kind made)
+
   pub folder_put : {R E : Type 0} (made : Made R E) (folder : Folder) → (with_folder settings texts made folder).chain ≡ put_folder made.chain folder
   folder_put {R} {E} made folder =
       let inside : Made R E = entered_above settings texts folder made in
-      let counted : Bool = not folder.is_outer && counts settings inside.chain in
-      let first : Made R E = with_above settings texts folder (is_git_dir folder.git) rules.Exclude inside in
-      let second : Made R E = with_above settings texts folder counted rules.Gitignore first in
-      above_put folder true rules.Ignore second
-      ∙ ap (put_above folder true rules.Ignore) (above_put folder counted rules.Gitignore first ∙ ap (put_above folder counted rules.Gitignore) (above_put folder (is_git_dir folder.git) rules.Exclude inside))
+      kinds_put folder inside.chain.in_repository all_kinds inside
 
   pub folders_put : {R E : Type 0} (made : Made R E) (folders : List Folder) → (fold (with_folder settings texts) made folders).chain ≡ fold put_folder made.chain folders
   folders_put made [] = refl
@@ -153,53 +160,71 @@ module _ (settings : Settings) (texts : Texts) where
   above_unplaced folder true kind chain = put_unplaced (source_above folder kind) (rules_found texts kind true (path_of (source_above folder kind))) chain
   above_unplaced folder false kind chain = refl
 
+  kinds_unplaced : (folder : Folder) (in_repository : Bool) (kinds : List RulesKind) (chain : Chain)
+      → unplaced (put_kinds folder in_repository kinds chain) ≡ put_kinds folder in_repository kinds (unplaced chain)
+  kinds_unplaced folder in_repository [] chain = refl
+  kinds_unplaced folder in_repository (kind ∷ kinds) chain =
+      let read : Bool = is_read_above settings folder in_repository kind in
+      kinds_unplaced folder in_repository kinds (put_above folder read kind chain) ∙ ap (put_kinds folder in_repository kinds) (above_unplaced folder read kind chain)
+
   folder_unplaced : (chain : Chain) (folder : Folder) → unplaced (put_folder chain folder) ≡ put_folder (unplaced chain) folder
   folder_unplaced chain folder =
       let inside : Chain = entered (is_repository folder.git) chain in
-      let counted : Bool = not folder.is_outer && counts settings inside in
-      let first : Chain = put_above folder (is_git_dir folder.git) rules.Exclude inside in
-      let second : Chain = put_above folder counted rules.Gitignore first in
-      above_unplaced folder true rules.Ignore second
-      ∙ ap (put_above folder true rules.Ignore) (above_unplaced folder counted rules.Gitignore first ∙ ap (put_above folder counted rules.Gitignore) (above_unplaced folder (is_git_dir folder.git) rules.Exclude inside))
-      ∙ ap (put_inside folder) (entered_unplaced (is_repository folder.git) chain)
+      kinds_unplaced folder inside.in_repository all_kinds inside ∙ ap (put_inside folder) (entered_unplaced (is_repository folder.git) chain)
 
   all_unplaced : (chain : Chain) (folders : List Folder) → unplaced (fold put_folder chain folders) ≡ fold put_folder (unplaced chain) folders
   all_unplaced chain [] = refl
   all_unplaced chain (folder ∷ folders) = all_unplaced (put_folder chain folder) folders ∙ ap (λ (c : Chain). fold put_folder c folders) (folder_unplaced chain folder)
 
-  -- into another repository a folder's rules go on by its `.ignore` alone
-  no_gitignore : (folder : Folder) (found : Result (Option (List Pattern)) ErrorKind) (chain : Chain) → closed (put (source_above folder rules.Gitignore) found chain) ≡ closed chain
-  no_gitignore folder (Ok (Some patterns)) chain = refl
-  no_gitignore folder (Ok None) chain = refl
-  no_gitignore folder (Err k) chain = refl
+  either_way : {X : Type 0} (b : Bool) (x : X) → x ≡ cond b x x
+  either_way true x = refl
+  either_way false x = refl
 
-  no_exclude : (folder : Folder) (found : Result (Option (List Pattern)) ErrorKind) (chain : Chain) → closed (put (source_above folder rules.Exclude) found chain) ≡ closed chain
-  no_exclude folder (Ok (Some patterns)) chain = refl
-  no_exclude folder (Ok None) chain = refl
-  no_exclude folder (Err k) chain = refl
+  -- of a folder's rules some kinds go on in another repository
+  link_closed : (kind : RulesKind) (link : Link) (chain : Chain) → closed (with_link kind link chain) ≡ cond (goes_on kind) (with_link kind link (closed chain)) (closed chain)
+  link_closed rules.Fdignore link chain = refl
+  link_closed rules.Ignore link chain = refl
+  link_closed rules.Gitignore link chain = refl
+  link_closed rules.Exclude link chain = refl
 
-  ignore_stays : (folder : Folder) (found : Result (Option (List Pattern)) ErrorKind) (chain : Chain) → closed (put (source_above folder rules.Ignore) found chain) ≡ put (source_above folder rules.Ignore) found (closed chain)
-  ignore_stays folder (Ok (Some patterns)) chain = refl
-  ignore_stays folder (Ok None) chain = refl
-  ignore_stays folder (Err k) chain = refl
+  found_closed : (kind : RulesKind) (before : ℕ) (found : Result (Option (List Pattern)) ErrorKind) (chain : Chain) → closed (put_at kind before found chain) ≡ cond (goes_on kind) (put_at kind before found (closed chain)) (closed chain)
+  found_closed kind before (Ok (Some patterns)) chain = link_closed kind (record { before = before; patterns = patterns }) chain
+  found_closed kind before (Ok None) chain = either_way (goes_on kind) (closed chain)
+  found_closed kind before (Err k) chain = either_way (goes_on kind) (closed chain)
 
-  without_gitignore : (folder : Folder) (read : Bool) (chain : Chain) → closed (put_above folder read rules.Gitignore chain) ≡ closed chain
-  without_gitignore folder true chain = no_gitignore folder (rules_found texts rules.Gitignore true (path_of (source_above folder rules.Gitignore))) chain
-  without_gitignore folder false chain = refl
+  above_closed : (folder : Folder) (read : Bool) (kind : RulesKind) (chain : Chain) → closed (put_above folder read kind chain) ≡ cond (goes_on kind) (put_above folder read kind (closed chain)) (closed chain)
+  above_closed folder true kind chain = found_closed kind (length folder.path) (rules_found texts kind true (path_of (source_above folder kind))) chain
+  above_closed folder false kind chain = either_way (goes_on kind) (closed chain)
 
-  without_exclude : (folder : Folder) (read : Bool) (chain : Chain) → closed (put_above folder read rules.Exclude chain) ≡ closed chain
-  without_exclude folder true chain = no_exclude folder (rules_found texts rules.Exclude true (path_of (source_above folder rules.Exclude))) chain
-  without_exclude folder false chain = refl
+  -- a folder at a path that is in no repository
+  abbrev plain_at : List ℕ → Folder
+  plain_at path = record { path = path; git = None; is_outer = false }
 
-  closed_folder : (chain : Chain) (folder : Folder) → closed (put_folder chain folder) ≡ put_above folder true rules.Ignore (closed chain)
+  -- with the rules of a kind at a path, if it goes on
+  abbrev put_on : List ℕ → RulesKind → Chain → Chain
+  put_on path kind chain = cond (goes_on kind) (put_above (plain_at path) (is_read_above settings (plain_at path) false kind) kind chain) chain
+
+  -- what goes on is the same of an outer folder
+  kind_closed : (folder : Folder) (in_repository : Bool) (kind : RulesKind) (chain : Chain)
+      → closed (put_above folder (is_read_above settings folder in_repository kind) kind chain) ≡ put_on folder.path kind (closed chain)
+  kind_closed folder in_repository rules.Fdignore chain = above_closed folder (is_read_above settings folder in_repository rules.Fdignore) rules.Fdignore chain
+  kind_closed folder in_repository rules.Ignore chain = above_closed folder (is_read_above settings folder in_repository rules.Ignore) rules.Ignore chain
+  kind_closed folder in_repository rules.Gitignore chain = above_closed folder (is_read_above settings folder in_repository rules.Gitignore) rules.Gitignore chain
+  kind_closed folder in_repository rules.Exclude chain = above_closed folder (is_read_above settings folder in_repository rules.Exclude) rules.Exclude chain
+
+  abbrev put_on_all : List ℕ → List RulesKind → Chain → Chain
+  put_on_all path kinds chain = fold (λ c kind. put_on path kind c) chain kinds
+
+  kinds_closed : (folder : Folder) (in_repository : Bool) (kinds : List RulesKind) (chain : Chain) → closed (put_kinds folder in_repository kinds chain) ≡ put_on_all folder.path kinds (closed chain)
+  kinds_closed folder in_repository [] chain = refl
+  kinds_closed folder in_repository (kind ∷ kinds) chain =
+      kinds_closed folder in_repository kinds (put_above folder (is_read_above settings folder in_repository kind) kind chain)
+      ∙ ap (put_on_all folder.path kinds) (kind_closed folder in_repository kind chain)
+
+  closed_folder : (chain : Chain) (folder : Folder) → closed (put_folder chain folder) ≡ put_on_all folder.path all_kinds (closed chain)
   closed_folder chain folder =
       let inside : Chain = entered (is_repository folder.git) chain in
-      let counted : Bool = not folder.is_outer && counts settings inside in
-      let first : Chain = put_above folder (is_git_dir folder.git) rules.Exclude inside in
-      let second : Chain = put_above folder counted rules.Gitignore first in
-      ignore_stays folder (rules_found texts rules.Ignore true (path_of (source_above folder rules.Ignore))) second
-      ∙ ap (put_above folder true rules.Ignore)
-      (without_gitignore folder counted first ∙ without_exclude folder (is_git_dir folder.git) inside ∙ closed_entered (is_repository folder.git) chain)
+      kinds_closed folder inside.in_repository all_kinds inside ∙ ap (put_on_all folder.path all_kinds) (closed_entered (is_repository folder.git) chain)
 
   -- the rules of folders, the nearest of which is the first
   abbrev pub put_all : Chain → List Folder → Chain
@@ -220,7 +245,7 @@ module _ (settings : Settings) (texts : Texts) where
       let firsts : List Folder = folders_above texts (ends_git first) n above in
       let others : List Folder = folders_above texts (ends_git other) n above in
       ap closed (one_more chain first firsts) ∙ closed_folder (put_all chain firsts) first
-      ∙ ap (put_above first true rules.Ignore) (rest (ends_git first) (ends_git other) above)
+      ∙ ap (put_on_all above all_kinds) (rest (ends_git first) (ends_git other) above)
       ∙ sym (closed_folder (put_all chain others) other) ∙ ap closed (sym (one_more chain other others))
 
   same_closed : (chain : Chain) (n : ℕ) (a b : Bool) (path : List ℕ) → closed (put_all chain (folders_above texts a n path)) ≡ closed (put_all chain (folders_above texts b n path))

@@ -1,7 +1,7 @@
 -- Walks from a root and from a directory below it.
 use Rattle.std.proofs.Common.{◌≡◌, ◌≢◌, ◌∙◌, ◌≤◌, ◌<◌, ◌+◌, ◌-◌, ℕ, nat_le, Bool, true, false, cond, List, [], ◌∷◌, ◌++◌, map, flat_map, length, reverse, Option, Some, None, Result, Ok, Err, ap, ap₂, subst, refl, sym, arith}
 use Rattle.std.proofs.lemmas.List.Elements.{All-nil, All-weaker}
-use Rattle.std.specs.Prelude.{◌&&◌, All, fold, not}
+use Rattle.std.specs.Prelude.{All, fold}
 use Rattle.std.specs.declared.io.ErrorKind.{ErrorKind}
 use Rattle.jwalk_model.specs.Counted.{Worth}
 use Rattle.jwalk_model.specs.Entry.{Children, Entry, Item}
@@ -18,16 +18,14 @@ use Rattle.jwalk_model.specs.Walk.{whole_walk}
 use Rattle.jwalk_model.specs.declared.file_type.FileType.TheVariants.{Dir}
 use Rattle.jwalk_model.specs.declared.metadata.Metadata.{Metadata}
 use Rattle.jwalk_ignore.specs.Callback.Given.{no_rules_yet}
-use Rattle.jwalk_ignore.specs.Callback.IgnoreFiles.{Made, Source as Rules, at_root, counts, depth_of, entered_above, path_of, root_of, rules_found, source_above, with_above, with_absolute, with_folder, with_found, with_root}
+use Rattle.jwalk_ignore.specs.Callback.IgnoreFiles.{Made, Source as Rules, all_kinds, at_root, depth_of, entered_above, is_read_above, path_of, root_of, rules_found, source_above, with_above, with_absolute, with_folder, with_found, with_root}
 use Rattle.jwalk_ignore.specs.Pattern.{Pattern}
 use Rattle.jwalk_ignore.specs.Rules.Chain.{Chain, below_root}
 use Rattle.jwalk_ignore.specs.Rules.ChainWorth.{rules_of, with_chain}
 use Rattle.jwalk_ignore.specs.Rules.Folder.{Folder, folders_above}
-use Rattle.jwalk_ignore.specs.Rules.Git.{is_git_dir}
 use Rattle.jwalk_ignore.specs.Rules.Texts.{Texts}
 use Rattle.jwalk_ignore.specs.declared.callback.settings.Settings.{Settings}
 use Rattle.jwalk_ignore.specs.jwalk_ignore_rules.declared.rules.rules_kind.RulesKind.{RulesKind}
-use Rattle.jwalk_ignore.specs.jwalk_ignore_rules.declared.rules.rules_kind.RulesKind.TheVariants as rules
 use Rattle.jwalk_ignore_rules.proofs.WorthFacts.{chain_back}
 use Rattle.jwalk_ignore_laws.specs.Deeper.{below_first, deeper_than, item_deeper}
 use Rattle.jwalk_ignore_laws.specs.Starts.{begun, below as names_below}
@@ -64,15 +62,17 @@ module _ {R E : Type 0} (x : Item R E) where
     grown_above folder true kind made grown = grown_found (source_above folder kind) (rules_found texts kind true (path_of (source_above folder kind))) made refl grown
     grown_above folder false kind made grown = grown
 
+    grown_kinds : (folder : Folder) (reads : RulesKind → Bool) (kinds : List RulesKind) (made : Made R E) → Grown x made.list
+        → Grown x (fold (λ m kind. with_above settings texts folder (reads kind) kind m) made kinds).list
+    grown_kinds folder reads [] made grown = grown
+    grown_kinds folder reads (kind ∷ kinds) made grown =
+        grown_kinds folder reads kinds (with_above settings texts folder (reads kind) kind made) (grown_above folder (reads kind) kind made grown)
+
     grown_folders : (folders : List Folder) (made : Made R E) → Grown x made.list → Grown x (fold (with_folder settings texts) made folders).list
     grown_folders [] made grown = grown
     grown_folders (folder ∷ folders) made grown =
         let inside : Made R E = entered_above settings texts folder made in
-        let counted : Bool = not folder.is_outer && counts settings inside.chain in
-        let first : Made R E = with_above settings texts folder (is_git_dir folder.git) rules.Exclude inside in
-        let second : Made R E = with_above settings texts folder counted rules.Gitignore first in
-        grown_folders folders (with_folder settings texts made folder)
-        (grown_above folder true rules.Ignore second (grown_above folder counted rules.Gitignore first (grown_above folder (is_git_dir folder.git) rules.Exclude inside grown)))
+        grown_folders folders (with_folder settings texts made folder) (grown_kinds folder (is_read_above settings folder inside.chain.in_repository) all_kinds inside grown)
 
     grown_root : (chain : Chain) (path : List ℕ) → root_of x ≡ Some path → texts.absolute_of path ≡ Ok path → Grown x (at_root settings texts chain (x ∷ [])).list
     grown_root chain path is absolute =
@@ -119,15 +119,15 @@ module _ {R E : Type 0} (read : Spec R → Outcome R E) (greatest : ℕ) (state 
 not_at : (greatest depth : ℕ) → depth < greatest → nat_le greatest depth ≡ false
 not_at greatest depth less = grind (arith, less)
 
-module _ (settings : Settings) (texts : Texts) (fs : Functions) (options : Options) (root : List ℕ) (agree : AgreeBelow texts fs options root) (no_links : options.follow_links ≡ false) where
+module _ (settings : Settings) (texts : Texts) (fs : Functions) (options : Options) (root : List ℕ) (agree : AgreeBelow texts fs options root) (no_links : options.follow_links ≡ false) (from_above : settings.above_the_root ≡ true) where
   abbrev job_at : ℕ → ℕ → Job Worth Worth
-  job_at = job settings texts fs options root agree no_links
+  job_at = job settings texts fs options root agree no_links from_above
 
   abbrev read_at : ℕ → ℕ → Spec Worth → Outcome Worth Worth
   read_at least greatest = reading (job_at least greatest)
 
   abbrev FitsHere : Spec Worth → Type 0
-  FitsHere = Fits settings texts fs options root agree no_links
+  FitsHere = Fits settings texts fs options root agree no_links from_above
 
   -- ---- what a walk yields from a start
 
@@ -199,7 +199,7 @@ module _ (settings : Settings) (texts : Texts) (fs : Functions) (options : Optio
   below_start greatest path s fits =
       let inside : List (Item Worth Worth) = below (read_at 0 greatest) greatest (unread (start_spec path)) in
       let first : Item Worth Worth = stands (read_at 0 greatest) (Ok s.e) (unread (start_spec path)) in
-      let deep = below_from (read_at 0 greatest) FitsHere (opens settings texts fs options root agree no_links 0 greatest) greatest 0 (unread (start_spec path)) (refl, fits) in
+      let deep = below_from (read_at 0 greatest) FitsHere (opens settings texts fs options root agree no_links from_above 0 greatest) greatest 0 (unread (start_spec path)) (refl, fits) in
       ap below_first (walk_listed 0 greatest path s)
       ∙ ap (λ (b : Bool). below_first (cond b (first ∷ answers 0 (inside ++ s.errors)) (answers 0 (inside ++ s.errors)))) (answered_deep 0 first (omega arith))
       ∙ answered_deeper 0 0 inside s.errors (omega arith) deep.0 (steps_errors 0 s.errors s.each)
@@ -211,7 +211,7 @@ module _ (settings : Settings) (texts : Texts) (fs : Functions) (options : Optio
         → Found (read_at least greatest) FitsHere greatest e c back
     found s back front' is dir =
         let state : Worth = (root_list (job_at least greatest) root no_rules_yet).state in
-        let opened = opens settings texts fs options root agree no_links least greatest in
+        let opened = opens settings texts fs options root agree no_links from_above least greatest in
         let all : greatest + 0 ≡ greatest = omega arith in
         let fits : FitsHere (start_spec root) = start_fits root [] (All-nil IsName) refl start.some agree.parents in
         let items : ItemsFit (read_at least greatest) FitsHere 0 state (Ok s.e ∷ s.errors) = (s.depth_is, subst (DirectoryFits (read_at least greatest) FitsHere) (sym s.spec_is) fits, errors_fit least greatest state s.errors s.each) in
@@ -236,13 +236,13 @@ module _ (settings : Settings) (texts : Texts) (fs : Functions) (options : Optio
         let s : Started 0 upper c.path = started 0 upper c.path there in
         let inside : List (Item Worth Worth) = below here it.levels (unread it.spec) in
         let fits : FitsHere (start_spec c.path) = fits_there back it in
-        let deep = below_from here FitsHere (opens settings texts fs options root agree no_links least greatest) it.levels e.depth (unread it.spec) (it.depth_is, it.fits) in
+        let deep = below_from here FitsHere (opens settings texts fs options root agree no_links from_above least greatest) it.levels e.depth (unread it.spec) (it.depth_is, it.fits) in
         let levels : it.levels ≡ upper = omega (arith, it.levels_are, it.depth_is) in
         let at : it.spec.depth ≡ 0 + e.depth = omega (arith, it.depth_is) in
         ap (λ (l : List (Item Worth Worth)). deeper_than e.depth (answers least l)) it.back_is
         ∙ answered_deeper least e.depth inside it.rest less deep.0 it.closes
         ∙ ap (λ (n : ℕ). below here n (unread it.spec)) levels
-        ∙ same_below e.depth here (read_at 0 upper) (Same settings texts fs options root agree no_links e.depth) (same_outcomes settings texts fs options root agree no_links e.depth least greatest 0) upper (Some it.spec) (Some (start_spec c.path))
+        ∙ same_below e.depth here (read_at 0 upper) (Same settings texts fs options root agree no_links from_above e.depth) (same_outcomes settings texts fs options root agree no_links from_above e.depth least greatest 0) upper (Some it.spec) (Some (start_spec c.path))
         (at, it.path_is, it.fits, fits)
         ∙ ap (map (item_deeper e.depth)) (sym (below_start upper c.path s fits))
 
@@ -289,7 +289,7 @@ module _ (settings : Settings) (texts : Texts) (fs : Functions) (options : Optio
       let inside : List (Item Worth Worth) = below (read_at 0 greatest) greatest (unread (start_spec path)) in
       let first : Item Worth Worth = stands (read_at 0 greatest) (Ok s.e) (unread (start_spec path)) in
       let all : Each (λ x. depth_of x < limit) (first ∷ (inside ++ s.errors)) = subst (Each (λ x. depth_of x < limit)) (walk_whole greatest path s) each in
-      let opened = opens settings texts fs options root agree no_links 0 greatest in
+      let opened = opens settings texts fs options root agree no_links from_above 0 greatest in
       let same = shallow limit (read_at 0 greatest) (read_at 0 limit) FitsHere (read_same greatest limit less) opened limit greatest 0 (omega arith) less (unread (start_spec path)) (refl, fits)
       (omega (arith, start_depth greatest path s, all.0)) (each_front (λ x. depth_of x < limit) inside s.errors all.1) in
       below_start limit path t fits ∙ sym same ∙ sym (below_start greatest path s fits)
@@ -307,7 +307,7 @@ pub walks_are_the_same : WalksAreTheSame
 walks_are_the_same settings texts fs options root directory e behind starts it =
     let second : IsStart texts fs it.child.path = subst (IsStart texts fs) (sym it.path_is) starts.second in
     subst (λ (path : List ℕ). AreTheSameBelow e behind (walk_ignoring settings texts fs (options_below e.depth options) path)) it.path_is
-    (walks_same settings texts fs options root starts.agree starts.no_links options.min_depth options.max_depth it.front e it.child behind starts.first second it.list_is it.reads)
+    (walks_same settings texts fs options root starts.agree starts.no_links starts.from_above options.min_depth options.max_depth it.front e it.child behind starts.first second it.list_is it.reads)
 
 pub depths_may_be_the_same : DepthsMayBeTheSame
 depths_may_be_the_same settings texts fs options root directory e behind starts it all =
@@ -316,5 +316,5 @@ depths_may_be_the_same settings texts fs options root directory e behind starts 
     let second : IsStart texts fs it.child.path = subst (IsStart texts fs) (sym it.path_is) starts.second in
     let lower : All (λ x. depth_of x < limit) (walk directory) = All-weaker (λ (x : Item Worth Worth). depth_of x + e.depth < options.max_depth) (λ (x : Item Worth Worth). depth_of x < limit) (λ x h. omega (arith, h)) (walk directory) all in
     subst (λ (path : List ℕ). AreTheSameBelow e behind (walk path)) it.path_is
-    (one_depth settings texts fs options root starts.agree starts.no_links options.min_depth options.max_depth it.front e it.child behind starts.first second it.list_is it.reads
+    (one_depth settings texts fs options root starts.agree starts.no_links starts.from_above options.min_depth options.max_depth it.front e it.child behind starts.first second it.list_is it.reads
     (subst (λ (path : List ℕ). Each (λ x. depth_of x < limit) (walk path)) (sym it.path_is) (each_of_all (λ (x : Item Worth Worth). depth_of x < limit) (walk directory) lower)))

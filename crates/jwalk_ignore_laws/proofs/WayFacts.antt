@@ -1,14 +1,14 @@
 -- The rules on the way to a directory.
 use Prim.Native.Nat.{zero}
 use Rattle.std.proofs.Common.{◌≡◌, ◌≢◌, ◌∙◌, ◌≤◌, ◌⊎◌, inl, inr, ℕ, suc, Bool, true, false, cond, List, [], ◌∷◌, ◌++◌, length, drop, reverse, Option, Some, None, Result, ap, subst, refl, sym, arith, eqb-true, append_assoc, append-nil, length-append}
-use Rattle.std.specs.Prelude.{◌&&◌, ◌||◌, ◌==◌, fold, not}
+use Rattle.std.specs.Prelude.{◌&&◌, ◌||◌, ◌==◌, flat_map, fold}
 use Rattle.std.specs.declared.io.ErrorKind.{ErrorKind}
 use Rattle.jwalk_model.specs.Counted.{Worth}
 use Rattle.jwalk_model.specs.Entry.{Item}
 use Rattle.jwalk_model.specs.declared.file_type.FileType.{FileType}
 use Rattle.jwalk_model.specs.PathTexts.{IsName}
 use Rattle.jwalk_model.specs.Paths.{join, parent, with_slash}
-use Rattle.jwalk_ignore.specs.Callback.IgnoreFiles.{Made, counts, file_of, git_in, own_rules, rules_found, source_above, with_absolute, with_root}
+use Rattle.jwalk_ignore.specs.Callback.IgnoreFiles.{Made, all_kinds, file_of, git_in, goes_on as kind_goes_on, is_read, is_read_above, own_rules, rules_found, source_above, with_absolute, with_root}
 use Rattle.jwalk_ignore.specs.Rules.Folder.{Folder, ends_git, folder_at, folders_above}
 use Rattle.jwalk_ignore.specs.Rules.Git.{is_git_dir, is_repository}
 use Rattle.jwalk_ignore_laws.specs.Starts.{Agrees, AreTheSame, IsWay, Lists, RulesAreTheSame, WalksBeginSo, begun, below, come_to, links_in, same_kind, unplaced}
@@ -20,8 +20,8 @@ use Rattle.jwalk_ignore.specs.jwalk_ignore_rules.declared.rules.rules_kind.Rules
 use Rattle.jwalk_ignore.specs.jwalk_ignore_rules.declared.rules.rules_kind.RulesKind.TheVariants as rules
 use Rattle.jwalk_ignore_laws.proofs.AlikeFacts.{Alike, LinksAlike, Within, drop_whole, entered_alike, keeps_all, keeps_slash, links_go, links_keep, more_alike, patterns_same, says_alike, within_alike, within_if, within_more}
 use Rattle.jwalk_ignore_laws.proofs.NameFacts.{Goes, drop_front, goes_behind, goes_on, joined, one_name}
-use Rattle.jwalk_ignore_laws.proofs.OwnFacts.{found_links, list_front, list_links, list_repository, put_front, put_links, put_repository, reads}
-use Rattle.jwalk_ignore_laws.proofs.StartFacts.{folder_put, folders_put, one_more, put_above, put_all, put_folder, put_inside, rules_come_from_above, shorter}
+use Rattle.jwalk_ignore_laws.proofs.OwnFacts.{found_links, list_front, list_links, list_repository, put_front, put_links, put_repository}
+use Rattle.jwalk_ignore_laws.proofs.StartFacts.{folder_put, folders_put, one_more, put_above, put_all, put_folder, put_inside, put_kinds, rules_come_from_above, shorter}
 
 -- ---- the links of a folder above
 
@@ -33,8 +33,13 @@ and_false : (b : Bool) → (b && false) ≡ false
 and_false true = refl
 and_false false = refl
 
-no_more : {X : Type 0} (xs ys : List X) → xs ≡ ys ++ [] → xs ≡ ys
-no_more xs ys is = is ∙ append-nil ys
+or_true : (b : Bool) → (b || true) ≡ true
+or_true true = refl
+or_true false = refl
+
+second_of : (a b : Bool) → (a && b) ≡ true → b ≡ true
+second_of true b is = is
+second_of false b is = absurd (cc)
 
 -- what a folder's file of a kind has
 abbrev in_file : Texts → List ℕ → RulesKind → List Link
@@ -49,31 +54,31 @@ module _ (settings : Settings) (texts : Texts) where
   above_links kind folder false other chain =
       sym (append-nil (links_in kind chain)) ∙ ap (λ (b : Bool). links_in kind chain ++ cond b (in_file texts folder.path other) []) (sym (and_false (same_kind kind other)))
 
+  -- what a folder has of a kind, by each of the kinds that are read
+  abbrev links_by : RulesKind → Folder → Bool → RulesKind → List Link
+  links_by kind folder in_repository other = cond (same_kind kind other && is_read_above settings folder in_repository other) (in_file texts folder.path other) []
+
+  kinds_links : (kind : RulesKind) (folder : Folder) (in_repository : Bool) (kinds : List RulesKind) (chain : Chain)
+      → links_in kind (put_kinds settings texts folder in_repository kinds chain) ≡ links_in kind chain ++ flat_map (links_by kind folder in_repository) kinds
+  kinds_links kind folder in_repository [] chain = sym (append-nil (links_in kind chain))
+  kinds_links kind folder in_repository (other ∷ kinds) chain =
+      let read : Bool = is_read_above settings folder in_repository other in
+      kinds_links kind folder in_repository kinds (put_above settings texts folder read other chain)
+      ∙ ap (λ (l : List Link). l ++ flat_map (links_by kind folder in_repository) kinds) (above_links kind folder read other chain)
+      ∙ append_assoc (links_in kind chain) (links_by kind folder in_repository other) (flat_map (links_by kind folder in_repository) kinds)
+
+  one_kind : (kind : RulesKind) (folder : Folder) (in_repository : Bool)
+      → flat_map (links_by kind folder in_repository) all_kinds ≡ cond (is_read_above settings folder in_repository kind) (in_file texts folder.path kind) []
+  one_kind rules.Fdignore folder in_repository = append-nil (links_by rules.Fdignore folder in_repository rules.Fdignore)
+  one_kind rules.Ignore folder in_repository = append-nil (links_by rules.Ignore folder in_repository rules.Ignore)
+  one_kind rules.Gitignore folder in_repository = append-nil (links_by rules.Gitignore folder in_repository rules.Gitignore)
+  one_kind rules.Exclude folder in_repository = append-nil (links_by rules.Exclude folder in_repository rules.Exclude)
+
   folder_links : (kind : RulesKind) (folder : Folder) (inside : Chain)
       → links_in kind (put_inside settings texts folder inside)
-      ≡ links_in kind inside ++ cond (reads (not folder.is_outer && counts settings inside) (is_git_dir folder.git) kind) (in_file texts folder.path kind) []
-  folder_links rules.Ignore folder inside =
-      let first : Chain = put_above settings texts folder (is_git_dir folder.git) rules.Exclude inside in
-      let second : Chain = put_above settings texts folder (not folder.is_outer && counts settings inside) rules.Gitignore first in
-      above_links rules.Ignore folder true rules.Ignore second
-      ∙ ap (λ (l : List Link). l ++ in_file texts folder.path rules.Ignore)
-      (no_more (links_in rules.Ignore second) (links_in rules.Ignore first) (above_links rules.Ignore folder (not folder.is_outer && counts settings inside) rules.Gitignore first)
-      ∙ no_more (links_in rules.Ignore first) (links_in rules.Ignore inside) (above_links rules.Ignore folder (is_git_dir folder.git) rules.Exclude inside))
-  folder_links rules.Gitignore folder inside =
-      let counted : Bool = not folder.is_outer && counts settings inside in
-      let first : Chain = put_above settings texts folder (is_git_dir folder.git) rules.Exclude inside in
-      let second : Chain = put_above settings texts folder counted rules.Gitignore first in
-      no_more (links_in rules.Gitignore (put_above settings texts folder true rules.Ignore second)) (links_in rules.Gitignore second) (above_links rules.Gitignore folder true rules.Ignore second)
-      ∙ above_links rules.Gitignore folder counted rules.Gitignore first
-      ∙ ap (λ (l : List Link). l ++ cond counted (in_file texts folder.path rules.Gitignore) [])
-      (no_more (links_in rules.Gitignore first) (links_in rules.Gitignore inside) (above_links rules.Gitignore folder (is_git_dir folder.git) rules.Exclude inside))
-  folder_links rules.Exclude folder inside =
-      let counted : Bool = not folder.is_outer && counts settings inside in
-      let first : Chain = put_above settings texts folder (is_git_dir folder.git) rules.Exclude inside in
-      let second : Chain = put_above settings texts folder counted rules.Gitignore first in
-      no_more (links_in rules.Exclude (put_above settings texts folder true rules.Ignore second)) (links_in rules.Exclude second) (above_links rules.Exclude folder true rules.Ignore second)
-      ∙ no_more (links_in rules.Exclude second) (links_in rules.Exclude first) (above_links rules.Exclude folder counted rules.Gitignore first)
-      ∙ above_links rules.Exclude folder (is_git_dir folder.git) rules.Exclude inside
+      ≡ links_in kind inside ++ cond (is_read_above settings folder inside.in_repository kind) (in_file texts folder.path kind) []
+  folder_links kind folder inside =
+      kinds_links kind folder inside.in_repository all_kinds inside ∙ ap (λ (l : List Link). links_in kind inside ++ l) (one_kind kind folder inside.in_repository)
 
   -- what stays in a folder: whether a repository is entered, and where the root is
   abbrev Stays : Chain → Chain → Type 0
@@ -89,13 +94,15 @@ module _ (settings : Settings) (texts : Texts) where
   both_stay : (a b c : Chain) → Stays a b → Stays b c → Stays a c
   both_stay a b c h k = (k.0 ∙ h.0, k.1 ∙ h.1, k.2 ∙ h.2)
 
+  kinds_stay : (folder : Folder) (in_repository : Bool) (kinds : List RulesKind) (chain : Chain) → Stays chain (put_kinds settings texts folder in_repository kinds chain)
+  kinds_stay folder in_repository [] chain = (refl, refl, refl)
+  kinds_stay folder in_repository (kind ∷ kinds) chain =
+      let read : Bool = is_read_above settings folder in_repository kind in
+      let next : Chain = put_above settings texts folder read kind chain in
+      both_stay chain next (put_kinds settings texts folder in_repository kinds next) (above_stays folder read kind chain) (kinds_stay folder in_repository kinds next)
+
   inside_stays : (folder : Folder) (inside : Chain) → Stays inside (put_inside settings texts folder inside)
-  inside_stays folder inside =
-      let counted : Bool = not folder.is_outer && counts settings inside in
-      let first : Chain = put_above settings texts folder (is_git_dir folder.git) rules.Exclude inside in
-      let second : Chain = put_above settings texts folder counted rules.Gitignore first in
-      both_stay inside second (put_above settings texts folder true rules.Ignore second)
-      (both_stay inside first second (above_stays folder (is_git_dir folder.git) rules.Exclude inside) (above_stays folder counted rules.Gitignore first)) (above_stays folder true rules.Ignore second)
+  inside_stays folder inside = kinds_stay folder inside.in_repository all_kinds inside
 
   entered_front : (holds : Bool) (chain : Chain) → ((entered holds chain).front ≡ chain.front) × ((entered holds chain).root_len ≡ chain.root_len)
   entered_front true chain = (refl, refl)
@@ -147,6 +154,7 @@ module _ (settings : Settings) (texts : Texts) where
   folders_short (suc n) is_outer path = above_short is_outer n path (parent path) refl (λ b above. folders_short n b above)
 
   entered_within : (n : ℕ) (holds : Bool) (kind : RulesKind) (chain : Chain) → Within n (links_in kind chain) → Within n (links_in kind (entered holds chain))
+  entered_within n true rules.Fdignore chain h = h
   entered_within n true rules.Ignore chain h = h
   entered_within n true rules.Gitignore chain h = tt
   entered_within n true rules.Exclude chain h = tt
@@ -155,12 +163,13 @@ module _ (settings : Settings) (texts : Texts) where
   folder_within : (n : ℕ) (kind : RulesKind) (chain : Chain) (folder : Folder) → length folder.path ≤ n → Within n (links_in kind chain) → Within n (links_in kind (put_folder settings texts chain folder))
   folder_within n kind chain folder less h =
       let inside : Chain = entered (is_repository folder.git) chain in
-      let read : Bool = reads (not folder.is_outer && counts settings inside) (is_git_dir folder.git) kind in
+      let read : Bool = is_read_above settings folder inside.in_repository kind in
       let found = rules_found texts kind true (join folder.path (file_of kind)) in
       subst (λ (l : List Link). Within n l) (sym (folder_links kind folder inside))
       (within_more n (links_in kind inside) (cond read (in_file texts folder.path kind) []) (entered_within n (is_repository folder.git) kind chain h) (within_if n (length folder.path) read found less))
 
   no_links_within : (n : ℕ) (kind : RulesKind) (path : List ℕ) → Within n (links_in kind (below_root path path))
+  no_links_within n rules.Fdignore path = tt
   no_links_within n rules.Ignore path = tt
   no_links_within n rules.Gitignore path = tt
   no_links_within n rules.Exclude path = tt
@@ -256,16 +265,22 @@ module _ (settings : Settings) (texts : Texts) where
   entered_place true chain d = refl
   entered_place false chain d = refl
 
-  pub own_alike : (d : List ℕ) (chain : Chain) (list : List (Item Worth Worth)) → Agrees texts d list → Alike (place_in chain d) d chain (begun settings texts d)
+  -- a folder's rules are read where those of a directory are
+  read_above : settings.above_the_root ≡ true → (path : List ℕ) (git : Option FileType) (in_repository : Bool) (kind : RulesKind)
+      → is_read_above settings (record { path = path; git = git; is_outer = false }) in_repository kind ≡ is_read settings in_repository git kind
+  read_above counted path git in_repository kind =
+      let read : Bool = is_read settings in_repository git kind in
+      ap (λ (b : Bool). b && (kind_goes_on kind || true) && read) counted ∙ ap (λ (b : Bool). true && b && read) (or_true (kind_goes_on kind))
+
+  pub own_alike : settings.above_the_root ≡ true → (d : List ℕ) (chain : Chain) (list : List (Item Worth Worth)) → Agrees texts d list → Alike (place_in chain d) d chain (begun settings texts d)
       → Alike (place_in chain d) d (own_rules settings texts d chain list).chain (put_folder settings texts (begun settings texts d) (folder_at texts false d))
-  own_alike d chain list agrees alike =
+  own_alike counted d chain list agrees alike =
       let p : List ℕ = place_in chain d in
       let git : Option FileType = git_in texts d list in
       let first : Chain = begun settings texts d in
       let inside : Chain = entered (is_repository git) chain in
       let other : Chain = entered (is_repository git) first in
-      let counted : Bool = counts settings inside in
-      let excluded : Bool = is_git_dir git in
+      let reads : RulesKind → Bool = is_read settings inside.in_repository git in
       let before : ℕ = length (place_in inside d) in
       let folder : Folder = record { path = d; git = git; is_outer = false } in
       let own : Chain = (own_rules settings texts d chain list).chain in
@@ -273,21 +288,23 @@ module _ (settings : Settings) (texts : Texts) where
       let both : Alike p d inside other = entered_alike p d (is_repository git) chain first alike in
       let same : put_folder settings texts first folder ≡ put_folder settings texts first (folder_at texts false d) =
       ap (λ (g : Option FileType). let f : Folder = record { path = d; git = g; is_outer = false } in put_folder settings texts first f) agrees.git in
-      let own_links : (kind : RulesKind) → links_in kind own ≡ links_in kind inside ++ cond (reads counted excluded kind) (found_links (length p) (found kind)) [] =
-      λ kind. list_links texts counted excluded d before kind inside list agrees refl
-      ∙ ap (λ (q : List ℕ). links_in kind inside ++ cond (reads counted excluded kind) (found_links (length q) (found kind)) []) (entered_place (is_repository git) chain d) in
-      let other_links : (kind : RulesKind) → links_in kind (put_folder settings texts first folder) ≡ links_in kind other ++ cond (reads counted excluded kind) (found_links (length d) (found kind)) [] =
+      let own_links : (kind : RulesKind) → links_in kind own ≡ links_in kind inside ++ cond (reads kind) (found_links (length p) (found kind)) [] =
+      λ kind. list_links texts reads d before kind inside list agrees (second_of settings.version_control (is_git_dir git))
+      ∙ ap (λ (q : List ℕ). links_in kind inside ++ cond (reads kind) (found_links (length q) (found kind)) []) (entered_place (is_repository git) chain d) in
+      let other_links : (kind : RulesKind) → links_in kind (put_folder settings texts first folder) ≡ links_in kind other ++ cond (reads kind) (found_links (length d) (found kind)) [] =
       λ kind. folder_links settings texts kind folder other
-      ∙ ap (λ (r : Bool). links_in kind other ++ cond (reads (settings.anywhere || r) excluded kind) (found_links (length d) (found kind)) []) (sym both.repository) in
+      ∙ ap (λ (r : Bool). links_in kind other ++ cond (is_read_above settings folder r kind) (found_links (length d) (found kind)) []) (sym both.repository)
+      ∙ ap (λ (b : Bool). links_in kind other ++ cond b (found_links (length d) (found kind)) []) (read_above counted d git inside.in_repository kind) in
       let left : Alike p d own (put_folder settings texts first folder) = record {
-        repository = list_repository texts counted excluded d before inside list ∙ both.repository ∙ sym (inside_stays settings texts folder other).0;
+        repository = list_repository texts reads d before inside list ∙ both.repository ∙ sym (inside_stays settings texts folder other).0;
         links = λ kind. subst (λ (ls : List Link). LinksAlike p d ls (links_in kind (put_folder settings texts first folder))) (sym (own_links kind))
-            (subst (λ (ms : List Link). LinksAlike p d (links_in kind inside ++ cond (reads counted excluded kind) (found_links (length p) (found kind)) []) ms) (sym (other_links kind))
-            (more_alike p d (reads counted excluded kind) (found kind) (links_in kind inside) (links_in kind other) (both.links kind)));
+            (subst (λ (ms : List Link). LinksAlike p d (links_in kind inside ++ cond (reads kind) (found_links (length p) (found kind)) []) ms) (sym (other_links kind))
+            (more_alike p d (reads kind) (found kind) (links_in kind inside) (links_in kind other) (both.links kind)));
       } in
       subst (λ (c : Chain). Alike p d own c) same left
 
   links_unplaced : (kind : RulesKind) (chain : Chain) → links_in kind (unplaced chain) ≡ links_in kind chain
+  links_unplaced rules.Fdignore chain = refl
   links_unplaced rules.Ignore chain = refl
   links_unplaced rules.Gitignore chain = refl
   links_unplaced rules.Exclude chain = refl
@@ -303,20 +320,20 @@ module _ (settings : Settings) (texts : Texts) where
   own_front d chain list =
       let git : Option FileType = git_in texts d list in
       let inside : Chain = entered (is_repository git) chain in
-      let left = list_front texts (counts settings inside) (is_git_dir git) d (length (place_in inside d)) inside list in
+      let left = list_front texts (is_read settings inside.in_repository git) d (length (place_in inside d)) inside list in
       let here = entered_front settings texts (is_repository git) chain in
       (left.0 ∙ here.0, left.1 ∙ here.1)
 
   -- one directory farther
-  pub step_alike : (d n : List ℕ) (chain : Chain) (list : List (Item Worth Worth)) → d ≢ [] → IsName n → parent (join d n) ≡ Some d → Agrees texts d list → AlikeAt d chain
+  pub step_alike : settings.above_the_root ≡ true → (d n : List ℕ) (chain : Chain) (list : List (Item Worth Worth)) → d ≢ [] → IsName n → parent (join d n) ≡ Some d → Agrees texts d list → AlikeAt d chain
       → AlikeAt (join d n) (own_rules settings texts d chain list).chain
-  step_alike d n chain list some is above agrees (rooted, alike) =
+  step_alike counted d n chain list some is above agrees (rooted, alike) =
       let next : List ℕ = join d n in
       let own : Chain = (own_rules settings texts d chain list).chain in
       let inside : Chain = put_folder settings texts (begun settings texts d) (folder_at texts false d) in
       let front = own_front d chain list in
       let go = both_go chain d n some is rooted in
-      let mine : Alike (place_in chain d) d own inside = own_alike d chain list agrees alike in
+      let mine : Alike (place_in chain d) d own inside = own_alike counted d chain list agrees alike in
       let place : place_in own next ≡ place_in chain next = ap (λ (f : List ℕ). f ++ drop own.root_len next) front.0 ∙ ap (λ (l : ℕ). chain.front ++ drop l next) front.1 in
       let above_is = from_above next d above in
       let begun_links : (kind : RulesKind) → links_in kind (begun settings texts next) ≡ links_in kind inside =
@@ -334,12 +351,12 @@ module _ (settings : Settings) (texts : Texts) where
   not_nil [] next some less = absurd (some refl)
   not_nil (c ∷ cs) next some less = λ is. let none : length next ≡ 0 = ap length is in absurd (omega arith)
 
-  way_alike : (lists : Lists) (d : List ℕ) (chain : Chain) (names : List (List ℕ)) → d ≢ [] → IsWay settings texts lists d names → AlikeAt d chain
+  way_alike : settings.above_the_root ≡ true → (lists : Lists) (d : List ℕ) (chain : Chain) (names : List (List ℕ)) → d ≢ [] → IsWay settings texts lists d names → AlikeAt d chain
       → AlikeAt (below d names) (come_to settings texts lists chain d names)
-  way_alike lists d chain [] some way alike = alike
-  way_alike lists d chain (n ∷ names) some (is, above, agrees, way) alike =
+  way_alike counted lists d chain [] some way alike = alike
+  way_alike counted lists d chain (n ∷ names) some (is, above, agrees, way) alike =
       let go = both_go chain d n some is alike.0 in
-      way_alike lists (join d n) (own_rules settings texts d chain (lists d)).chain names (not_nil d (join d n) some go.2) way (step_alike d n chain (lists d) some is above agrees alike)
+      way_alike counted lists (join d n) (own_rules settings texts d chain (lists d)).chain names (not_nil d (join d n) some go.2) way (step_alike counted d n chain (lists d) some is above agrees alike)
 
   -- ---- where it begins
 
@@ -377,9 +394,9 @@ module _ (settings : Settings) (texts : Texts) where
       }
 
 pub rules_are_the_same : RulesAreTheSame
-rules_are_the_same settings texts lists root names some way =
+rules_are_the_same settings texts lists root names counted some way =
     alike_same settings texts (below root names) (come_to settings texts lists (begun settings texts root) root names)
-    (way_alike settings texts lists root (begun settings texts root) names some way (begun_alike settings texts root))
+    (way_alike settings texts counted lists root (begun settings texts root) names some way (begun_alike settings texts root))
 
 pub walks_begin_so : WalksBeginSo
 walks_begin_so settings texts chain root path root_is absolute_is =

@@ -51,6 +51,7 @@ RulesComeFromAbove = (settings : Settings) (texts : Texts) (path above : List �
 
 -- whether two kinds are the same
 abbrev pub same_kind : RulesKind → RulesKind → Bool
+same_kind rules.Fdignore rules.Fdignore = true
 same_kind rules.Ignore rules.Ignore = true
 same_kind rules.Gitignore rules.Gitignore = true
 same_kind rules.Exclude rules.Exclude = true
@@ -68,7 +69,7 @@ is_regular (Err k) = false
 
 -- how many items of a list are files of rules of this kind: regular files of its name, and no links to one
 abbrev pub number_in : {R E : Type 0} → RulesKind → List (Item R E) → ℕ
-number_in kind list = length (filter (λ x. is_of kind (own_kind true x)) list)
+number_in kind list = length (filter (λ x. is_of kind (own_kind x)) list)
 
 -- how many are to be in the list of a directory: one where the texts have a regular file there
 abbrev pub number_at : Texts → RulesKind → List ℕ → ℕ
@@ -76,6 +77,7 @@ number_at texts kind directory = if is_regular (texts.type_of (join directory (f
 
 -- The list of a directory agrees with the texts: it has a file of rules just where they have one, and once, and its `.git`, of which it has one at most, leads where theirs does.
 pub record Agrees {R E : Type 0} (texts : Texts) (directory : List ℕ) (list : List (Item R E)) : Type 0 where
+  pub fdignore : number_in rules.Fdignore list ≡ number_at texts rules.Fdignore directory
   pub ignore : number_in rules.Ignore list ≡ number_at texts rules.Ignore directory
   pub gitignore : number_in rules.Gitignore list ≡ number_at texts rules.Gitignore directory
   pub git : git_in texts directory list ≡ git_at texts directory
@@ -106,6 +108,7 @@ module _ (settings : Settings) (texts : Texts) (lists : Lists) where
 
 -- the links of a kind
 abbrev pub links_in : RulesKind → Chain → List Link
+links_in rules.Fdignore chain = chain.fdignore
 links_in rules.Ignore chain = chain.ignore
 links_in rules.Gitignore chain = chain.gitignore
 links_in rules.Exclude chain = chain.exclude
@@ -120,8 +123,8 @@ pub record AreTheSame (directory : List ℕ) (a b : Chain) : Type 0 where
   pub patterns : (kind : RulesKind) → patterns_in kind a ≡ patterns_in kind b
   pub says : (rest : List ℕ) (is_dir : Bool) → chain_says a (place_in a directory ++ 47 ∷ rest) is_dir ≡ chain_says b (place_in b directory ++ 47 ∷ rest) is_dir
 
--- The rules with which a walk comes to a directory are those with which a walk begins that starts there, whatever lies between.
+-- Where rules above the root count, those with which a walk comes to a directory are those with which a walk begins that starts there, whatever lies between.
 abbrev pub RulesAreTheSame : Type 0
 RulesAreTheSame = (settings : Settings) (texts : Texts) (lists : Lists) (root : List ℕ) (names : List (List ℕ))
-    → root ≢ [] → IsWay settings texts lists root names
+    → settings.above_the_root ≡ true → root ≢ [] → IsWay settings texts lists root names
     → AreTheSame (below root names) (come_to settings texts lists (begun settings texts root) root names) (begun settings texts (below root names))

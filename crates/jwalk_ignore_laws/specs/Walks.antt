@@ -1,5 +1,5 @@
 -- Walks that honour ignore files, from a root and from a directory below it.
-use Rattle.std.specs.Prelude.{◌≡◌, ◌≢◌, ℕ, ◌+◌, ◌-◌, ◌<◌, false, All, List, [], ◌∷◌, ◌++◌, map, Some, Ok, Err}
+use Rattle.std.specs.Prelude.{◌≡◌, ◌≢◌, ℕ, ◌+◌, ◌-◌, ◌<◌, true, false, All, List, [], ◌∷◌, ◌++◌, map, Some, Ok, Err}
 use Rattle.jwalk_model.specs.Counted.{Worth, blank}
 use Rattle.jwalk_model.specs.Entry.{Children, Entry, Item}
 use Rattle.jwalk_model.specs.FileSystem.{Functions, Listed}
@@ -51,10 +51,11 @@ pub record AgreeBelow (texts : Texts) (fs : Functions) (options : Options) (root
   pub named : (names : List (List ℕ)) (items : List Listed) → All IsName names → fs.list_of (below root names) ≡ Ok items → All HasName items
   pub lists : (names : List (List ℕ)) (items : List Listed) → All IsName names → fs.list_of (below root names) ≡ Ok items → Agrees texts (below root names) (list_at fs options (below root names) items)
 
--- Walks that follow no links can start at a root and at a directory, and the disk below the root agrees with the texts.
-pub record AreStarts (texts : Texts) (fs : Functions) (options : Options) (root directory : List ℕ) : Type 0 where
+-- Walks that follow no links can start at a root and at a directory, the disk below the root agrees with the texts, and rules above the root count.
+pub record AreStarts (settings : Settings) (texts : Texts) (fs : Functions) (options : Options) (root directory : List ℕ) : Type 0 where
   pub no_links : options.follow_links ≡ false
   pub agree : AgreeBelow texts fs options root
+  pub from_above : settings.above_the_root ≡ true
   pub first : IsStart texts fs root
   pub second : IsStart texts fs directory
 
@@ -75,12 +76,12 @@ AreTheSameBelow e behind list = deeper_than e.depth behind ≡ map (item_deeper 
 -- Where a walk comes to a directory, it yields below it what a walk yields that starts there.
 abbrev pub WalksAreTheSame : Type 0
 WalksAreTheSame = (settings : Settings) (texts : Texts) (fs : Functions) (options : Options) (root directory : List ℕ) (e : Entry Worth Worth) (behind : List (Item Worth Worth))
-    → AreStarts texts fs options root directory → IsIn (walk_ignoring settings texts fs options root) directory e behind
+    → AreStarts settings texts fs options root directory → IsIn (walk_ignoring settings texts fs options root) directory e behind
     → AreTheSameBelow e behind (walk_ignoring settings texts fs (options_below e.depth options) directory)
 
 -- The walk that starts there may have the greatest depth of the other, if nothing that it yields would be at it in the other.
 abbrev pub DepthsMayBeTheSame : Type 0
 DepthsMayBeTheSame = (settings : Settings) (texts : Texts) (fs : Functions) (options : Options) (root directory : List ℕ) (e : Entry Worth Worth) (behind : List (Item Worth Worth))
-    → AreStarts texts fs options root directory → IsIn (walk_ignoring settings texts fs options root) directory e behind
+    → AreStarts settings texts fs options root directory → IsIn (walk_ignoring settings texts fs options root) directory e behind
     → All (λ x. depth_of x + e.depth < options.max_depth) (walk_ignoring settings texts fs (without_least_depth options) directory)
     → AreTheSameBelow e behind (walk_ignoring settings texts fs (without_least_depth options) directory)

@@ -16,7 +16,7 @@ pub fn rules_come_from_above()
     ensures { RulesComeFromAbove }
 {}
 
-/// Where lists agree with the texts, the rules with which a walk comes to a directory are those with which a walk begins
+/// Where rules above the root count and lists agree with the texts, the rules with which a walk comes to a directory are those with which a walk begins
 /// that starts there: the same patterns of each kind in the same order, which say the same of every path below.
 pub fn rules_are_the_same()
     ensures { RulesAreTheSame }

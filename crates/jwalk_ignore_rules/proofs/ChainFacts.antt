@@ -68,8 +68,10 @@ both_false true b is = absurd (cc)
 -- where there are no rules nothing is ignored
 pub none_ignored : (chain : value.Chain) (path : List ℕ) (is_dir : Bool) → has_rules chain ≡ false → ignored chain path is_dir ≡ false
 none_ignored chain path is_dir is =
-    let outer = both_false (has_any chain.ignore || has_any chain.gitignore) (has_any chain.exclude) is in
-    let inner = both_false (has_any chain.ignore) (has_any chain.gitignore) outer.0 in
-    ap (λ (d : Decision). is_ignored (or_else d (or_else (links_say chain.gitignore path is_dir) (links_say chain.exclude path is_dir)))) (none_in chain.ignore path is_dir inner.0)
+    let outer = both_false (has_any chain.fdignore || has_any chain.ignore || has_any chain.gitignore) (has_any chain.exclude) is in
+    let inner = both_false (has_any chain.fdignore || has_any chain.ignore) (has_any chain.gitignore) outer.0 in
+    let first = both_false (has_any chain.fdignore) (has_any chain.ignore) inner.0 in
+    ap (λ (d : Decision). is_ignored (or_else d (or_else (links_say chain.ignore path is_dir) (or_else (links_say chain.gitignore path is_dir) (links_say chain.exclude path is_dir))))) (none_in chain.fdignore path is_dir first.0)
+    ∙ ap (λ (d : Decision). is_ignored (or_else d (or_else (links_say chain.gitignore path is_dir) (links_say chain.exclude path is_dir)))) (none_in chain.ignore path is_dir first.1)
     ∙ ap (λ (d : Decision). is_ignored (or_else d (links_say chain.exclude path is_dir))) (none_in chain.gitignore path is_dir inner.1)
     ∙ ap is_ignored (none_in chain.exclude path is_dir outer.1)

@@ -73,6 +73,8 @@ links_back ls = list_back link_worth link_in link_back ls
 -- the rules in force are those that are read back
 pub chain_back : (c : Chain) → chain_in (chain_worth c) ≡ c
 chain_back c =
-    ap (λ (b : Bool). let made : Chain = record { front = c.front; root_len = c.root_len; in_repository = b; ignore = list_in link_in (list_worth link_worth c.ignore); gitignore = list_in link_in (list_worth link_worth c.gitignore); exclude = list_in link_in (list_worth link_worth c.exclude) } in made) (bool_back c.in_repository)
-    ∙ three (λ (a : List Link) (g : List Link) (e : List Link). let made : Chain = record { front = c.front; root_len = c.root_len; in_repository = c.in_repository; ignore = a; gitignore = g; exclude = e } in made)
+    let read : List Link → List Link = λ links. list_in link_in (list_worth link_worth links) in
+    ap (λ (b : Bool). let made : Chain = record { front = c.front; root_len = c.root_len; in_repository = b; fdignore = read c.fdignore; ignore = read c.ignore; gitignore = read c.gitignore; exclude = read c.exclude } in made) (bool_back c.in_repository)
+    ∙ ap (λ (f : List Link). let made : Chain = record { front = c.front; root_len = c.root_len; in_repository = c.in_repository; fdignore = f; ignore = read c.ignore; gitignore = read c.gitignore; exclude = read c.exclude } in made) (links_back c.fdignore)
+    ∙ three (λ (a : List Link) (g : List Link) (e : List Link). let made : Chain = record { front = c.front; root_len = c.root_len; in_repository = c.in_repository; fdignore = c.fdignore; ignore = a; gitignore = g; exclude = e } in made)
     (links_back c.ignore) (links_back c.gitignore) (links_back c.exclude)

@@ -8,6 +8,7 @@ pub mod LastNames
 pub mod Line
 pub mod Matching
 mod MatchingRows
+mod ChainRows
 pub mod MemoryTexts
 pub mod RealTexts
 pub mod Texts

@@ -21,25 +21,30 @@ use Rattle.jwalk_ignore.specs.declared.callback.settings.Settings.{Settings}
 
 -- the file that has rules of a kind, below their directory
 abbrev pub file_of : RulesKind → List ℕ
+file_of rules.Fdignore = codes ".fdignore"
 file_of rules.Ignore = codes ".ignore"
 file_of rules.Gitignore = codes ".gitignore"
 file_of rules.Exclude = codes ".git/info/exclude"
 
--- whether `.gitignore` counts where these rules are in force
-abbrev pub counts : Settings → Chain → Bool
-counts settings chain = settings.anywhere || chain.in_repository
+-- whether files of a kind are read in a directory that is in a repository or not, and whose `.git` leads to this
+abbrev pub is_read : Settings → Bool → Option FileType → RulesKind → Bool
+is_read settings in_repository found rules.Fdignore = settings.fdignore
+is_read settings in_repository found rules.Ignore = true
+is_read settings in_repository found rules.Gitignore = settings.version_control && (settings.anywhere || in_repository)
+is_read settings in_repository found rules.Exclude = settings.version_control && is_git_dir found
 
 -- the kind of rules that a regular file of this name has
-abbrev pub kind_of_file : Bool → List ℕ → Option RulesKind
-kind_of_file counted name =
-    if bytes_eq name (codes ".ignore") then Some rules.Ignore
-    else if counted && bytes_eq name (codes ".gitignore") then Some rules.Gitignore
+abbrev pub kind_of_file : List ℕ → Option RulesKind
+kind_of_file name =
+    if bytes_eq name (codes ".fdignore") then Some rules.Fdignore
+    else if bytes_eq name (codes ".ignore") then Some rules.Ignore
+    else if bytes_eq name (codes ".gitignore") then Some rules.Gitignore
     else None
 
 -- the kind of rules that an item has itself: it is a regular file, and no link to one
-abbrev pub own_kind : {R E : Type 0} → Bool → Item R E → Option RulesKind
-own_kind counted (Ok e) = if is_file e.file_type && not e.through_link then kind_of_file counted e.file_name else None
-own_kind counted (Err f) = None
+abbrev pub own_kind : {R E : Type 0} → Item R E → Option RulesKind
+own_kind (Ok e) = if is_file e.file_type && not e.through_link then kind_of_file e.file_name else None
+own_kind (Err f) = None
 
 -- whether the last part of a path is `.git`
 abbrev pub is_git_path : List ℕ → Bool
@@ -50,11 +55,14 @@ abbrev pub is_git : {R E : Type 0} → Item R E → Bool
 is_git (Ok e) = bytes_eq e.file_name git
 is_git (Err f) = option_map_or is_git_path (error.path_of f) false
 
--- the kind of rules that are read for an item, where `.gitignore` counts or not and `.git` may hold `info/exclude` or not
-abbrev pub kind_of : {R E : Type 0} → Bool → Bool → Item R E → Option RulesKind
-kind_of counted excluded x =
-    if is_git x then (if excluded then Some rules.Exclude else None)
-    else own_kind counted x
+-- the kind of rules that an item leads to
+abbrev pub kind_of : {R E : Type 0} → Item R E → Option RulesKind
+kind_of x = if is_git x then Some rules.Exclude else own_kind x
+
+-- a kind, if it is read
+abbrev pub if_read : (RulesKind → Bool) → Option RulesKind → Option RulesKind
+if_read reads None = None
+if_read reads (Some kind) = if reads kind then Some kind else None
 
 -- the depth of an item
 abbrev pub depth_of : {R E : Type 0} → Item R E → ℕ
@@ -78,6 +86,7 @@ is_missing _ = false
 
 -- the type of the file of rules of a kind at a path: `info/exclude` may be a link to one
 abbrev pub type_of : Texts → RulesKind → List ℕ → Result FileType ErrorKind
+type_of texts rules.Fdignore path = texts.type_of path
 type_of texts rules.Ignore path = texts.type_of path
 type_of texts rules.Gitignore path = texts.type_of path
 type_of texts rules.Exclude path = texts.target_type_of path
@@ -135,8 +144,8 @@ module _ {R E : Type 0} where
 abbrev pub source_in : List ℕ → ℕ → RulesKind → ℕ → Source
 source_in directory before kind depth = record { kind = kind; folder = directory; before = before; depth = depth; may_miss = may_miss kind }
 
--- A directory's own list: each file of rules in it is read, and an error comes behind its entry.
-module _ {R E : Type 0} (texts : Texts) (counted excluded : Bool) (directory : List ℕ) (before : ℕ) where
+-- A directory's own list: each file of rules in it that counts is read, and an error comes behind its entry.
+module _ {R E : Type 0} (texts : Texts) (reads : RulesKind → Bool) (directory : List ℕ) (before : ℕ) where
   -- with the rules of a kind, if there is one
   abbrev pub with_own : Option RulesKind → ℕ → Made R E → Made R E
   with_own None depth made = made
@@ -144,14 +153,14 @@ module _ {R E : Type 0} (texts : Texts) (counted excluded : Bool) (directory : L
 
   -- with an item more, and the rules that are read for it
   abbrev pub with_listed : Made R E → Item R E → Made R E
-  with_listed made x = with_own (kind_of counted excluded x) (depth_of x) (with_item x made)
+  with_listed made x = with_own (if_read reads (kind_of x)) (depth_of x) (with_item x made)
 
 -- the rules in force in a directory whose list this is, with those that it has itself, and the list with their errors
 abbrev pub own_rules : {R E : Type 0} → Settings → Texts → List ℕ → Chain → List (Item R E) → Made R E
 own_rules settings texts directory chain list =
     let found = git_in texts directory list in
     let inside = entered (is_repository found) chain in
-    fold (with_listed texts (counts settings inside) (is_git_dir found) directory (length (place_in inside directory))) (record { chain = inside; list = [] }) list
+    fold (with_listed texts (is_read settings inside.in_repository found) directory (length (place_in inside directory))) (record { chain = inside; list = [] }) list
 
 -- whether an item is an error, or an entry that is neither `.git` nor hidden
 abbrev pub is_shown : {R E : Type 0} → Settings → Item R E → Bool
@@ -178,6 +187,22 @@ root_of (Err f) = None
 abbrev pub source_above : Folder → RulesKind → Source
 source_above folder kind = record { kind = kind; folder = folder.path; before = length folder.path; depth = 0; may_miss = true }
 
+-- whether rules of a kind go on in a repository inside another
+abbrev pub goes_on : RulesKind → Bool
+goes_on rules.Fdignore = true
+goes_on rules.Ignore = true
+goes_on rules.Gitignore = false
+goes_on rules.Exclude = false
+
+-- whether files of a kind are read in a folder above the root that is in a repository or not
+abbrev pub is_read_above : Settings → Folder → Bool → RulesKind → Bool
+is_read_above settings folder in_repository kind =
+    settings.above_the_root && (goes_on kind || not folder.is_outer) && is_read settings in_repository folder.git kind
+
+-- all kinds, in the order in which they are read in a folder above the root
+abbrev pub all_kinds : List RulesKind
+all_kinds = rules.Exclude ∷ rules.Gitignore ∷ rules.Ignore ∷ rules.Fdignore ∷ []
+
 module _ {R E : Type 0} (settings : Settings) (texts : Texts) where
   -- the same chain, in a folder
   abbrev pub entered_above : Folder → Made R E → Made R E
@@ -187,13 +212,11 @@ module _ {R E : Type 0} (settings : Settings) (texts : Texts) where
   abbrev pub with_above : Folder → Bool → RulesKind → Made R E → Made R E
   with_above folder read kind made = if read then with_rules texts (source_above folder kind) made else made
 
-  -- with the rules of a folder above the root: beyond a repository `.ignore` alone counts
+  -- with the rules of a folder above the root, kind by kind
   abbrev pub with_folder : Made R E → Folder → Made R E
   with_folder made folder =
       let inside = entered_above folder made in
-      with_above folder true rules.Ignore
-      (with_above folder (not folder.is_outer && counts settings inside.chain) rules.Gitignore
-      (with_above folder (is_git_dir folder.git) rules.Exclude inside))
+      fold (λ m kind. with_above folder (is_read_above settings folder inside.chain.in_repository kind) kind m) inside all_kinds
 
   -- with the rules of the folders above an absolute path, the farthest first
   abbrev pub with_folders : List ℕ → Made R E → Made R E

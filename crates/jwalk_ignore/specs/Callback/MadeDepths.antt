@@ -1,16 +1,15 @@
 -- The lists that rules make are at the depth of the list.
-use Rattle.std.specs.Prelude.{ℕ, Bool, true, false, not, ◌&&◌, cond, List, [], ◌∷◌, ◌++◌, map, filter, fold, length, reverse, Option, Some, None, Result, Ok, Err}
+use Rattle.std.specs.Prelude.{ℕ, Bool, true, false, cond, List, [], ◌∷◌, ◌++◌, map, filter, fold, length, reverse, Option, Some, None, Result, Ok, Err}
 use Rattle.std.specs.declared.io.ErrorKind.{ErrorKind}
 use Rattle.jwalk.specs.jwalk_model.Error.{io}
 use Rattle.jwalk.specs.jwalk_model.Entry.{Item, AtDepth}
 use Rattle.jwalk_ignore.specs.Rules.Chain.{Chain, below_root, entered, place_in}
-use Rattle.jwalk_ignore.specs.Callback.IgnoreFiles.{Made, Source, by_rules, counts, depth_of, entered_above, git_in, is_kept, is_shown, kind_of, own_rules, path_of, root_of, rules_found, source_above, source_in, with_above, with_absolute, with_folder, with_found, with_item, with_listed, with_own, with_root, with_root_item, with_rules}
+use Rattle.jwalk_ignore.specs.Callback.IgnoreFiles.{Made, Source, all_kinds, by_rules, depth_of, entered_above, git_in, if_read, is_kept, is_read, is_read_above, is_shown, kind_of, own_rules, path_of, root_of, rules_found, source_above, source_in, with_above, with_absolute, with_folder, with_found, with_item, with_listed, with_own, with_root, with_root_item, with_rules}
 use Rattle.jwalk_ignore.specs.Rules.Folder.{Folder, folders_above}
-use Rattle.jwalk_ignore.specs.Rules.Git.{is_git_dir, is_repository}
+use Rattle.jwalk_ignore.specs.Rules.Git.{is_repository}
 use Rattle.jwalk_ignore.specs.Pattern.{Pattern}
 use Rattle.jwalk_ignore.specs.Rules.Texts.{Texts}
 use Rattle.jwalk_ignore_rules.specs.declared.rules.rules_kind.RulesKind.{RulesKind}
-use Rattle.jwalk_ignore_rules.specs.declared.rules.rules_kind.RulesKind.TheVariants as rules
 use Rattle.jwalk_ignore.specs.declared.callback.settings.Settings.{Settings}
 
 module _ {R E : Type 0} (depth : ℕ) where
@@ -71,26 +70,28 @@ module _ {R E : Type 0} (depth : ℕ) where
   rules_at : (texts : Texts) (source : Source) (made : Made R E) → IsAt made → IsAt (with_rules texts source made)
   rules_at texts source made k = found_at_depth source (rules_found texts source.kind source.may_miss (path_of source)) made k
 
-  own_at : (texts : Texts) (counted excluded : Bool) (directory : List ℕ) (before : ℕ) (kind : Option RulesKind) (d : ℕ) (made : Made R E) → IsAt made → IsAt (with_own texts counted excluded directory before kind d made)
-  own_at texts counted excluded directory before None d made k = k
-  own_at texts counted excluded directory before (Some kind) d made k = rules_at texts (source_in directory before kind d) made k
+  own_at : (texts : Texts) (reads : RulesKind → Bool) (directory : List ℕ) (before : ℕ) (kind : Option RulesKind) (d : ℕ) (made : Made R E) → IsAt made → IsAt (with_own texts reads directory before kind d made)
+  own_at texts reads directory before None d made k = k
+  own_at texts reads directory before (Some kind) d made k = rules_at texts (source_in directory before kind d) made k
 
-  listed_at : (texts : Texts) (counted excluded : Bool) (directory : List ℕ) (before : ℕ) (made : Made R E) (x : Item R E) → AtDepth depth (x ∷ []) → IsAt made → IsAt (with_listed texts counted excluded directory before made x)
-  listed_at texts counted excluded directory before made x h k =
-      own_at texts counted excluded directory before (kind_of counted excluded x) (depth_of x) (with_item x made) (item_at x made h k)
+  listed_at : (texts : Texts) (reads : RulesKind → Bool) (directory : List ℕ) (before : ℕ) (made : Made R E) (x : Item R E) → AtDepth depth (x ∷ []) → IsAt made → IsAt (with_listed texts reads directory before made x)
+  listed_at texts reads directory before made x h k =
+      own_at texts reads directory before (if_read reads (kind_of x)) (depth_of x) (with_item x made) (item_at x made h k)
 
   module _ (settings : Settings) (texts : Texts) where
     above_at : (folder : Folder) (read : Bool) (kind : RulesKind) (made : Made R E) → IsAt made → IsAt (with_above settings texts folder read kind made)
     above_at folder true kind made k = rules_at texts (source_above folder kind) made k
     above_at folder false kind made k = k
 
+    kinds_at : (folder : Folder) (reads : RulesKind → Bool) (kinds : List RulesKind) (made : Made R E) → IsAt made → IsAt (fold (λ m kind. with_above settings texts folder (reads kind) kind m) made kinds)
+    kinds_at folder reads [] made k = k
+    kinds_at folder reads (kind ∷ kinds) made k =
+        kinds_at folder reads kinds (with_above settings texts folder (reads kind) kind made) (above_at folder (reads kind) kind made k)
+
     folder_at : (made : Made R E) (folder : Folder) → IsAt made → IsAt (with_folder settings texts made folder)
     folder_at made folder k =
         let inside : Made R E = entered_above settings texts folder made in
-        let counted : Bool = not folder.is_outer && counts settings inside.chain in
-        let first : Made R E = with_above settings texts folder (is_git_dir folder.git) rules.Exclude inside in
-        let second : Made R E = with_above settings texts folder counted rules.Gitignore first in
-        above_at folder true rules.Ignore second (above_at folder counted rules.Gitignore first (above_at folder (is_git_dir folder.git) rules.Exclude inside k))
+        kinds_at folder (is_read_above settings folder inside.chain.in_repository) all_kinds inside k
 
     folders_at : (made : Made R E) (folders : List Folder) → IsAt made → IsAt (fold (with_folder settings texts) made folders)
     folders_at made [] k = k
@@ -110,10 +111,10 @@ module _ {R E : Type 0} (depth : ℕ) where
         fold_at depth (with_root_item settings texts) (λ (m : Made R E). m.list)
         (λ made x one k. root_at (root_of x) (with_item x made) (item_at x made one k)) (record { chain = chain; list = [] }) list h tt
     by_rules_at (Some d) path chain list h =
-        let excluded : Bool = is_git_dir (git_in texts path list) in
         let inside : Chain = entered (is_repository (git_in texts path list)) chain in
+        let reads : RulesKind → Bool = is_read settings inside.in_repository (git_in texts path list) in
         let own : Made R E = own_rules settings texts path chain list in
         filter_at depth (is_kept own.chain (place_in own.chain path)) (filter (is_shown settings) own.list)
         (filter_at depth (is_shown settings) own.list
-        (fold_at depth (with_listed texts (counts settings inside) excluded path (length (place_in inside path))) (λ (m : Made R E). m.list)
-        (listed_at texts (counts settings inside) excluded path (length (place_in inside path))) (record { chain = inside; list = [] }) list h tt))
+        (fold_at depth (with_listed texts reads path (length (place_in inside path))) (λ (m : Made R E). m.list)
+        (listed_at texts reads path (length (place_in inside path))) (record { chain = inside; list = [] }) list h tt))

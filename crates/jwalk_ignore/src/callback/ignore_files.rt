@@ -1,5 +1,5 @@
 //! A callback that honours ignore files.
-ghost use Rattle.std.specs.Prelude.{◌≡◌, false};
+ghost use Rattle.std.specs.Prelude.{◌≡◌};
 
 use crate::callback::rules_reader::RulesReader;
 use crate::callback::settings::Settings;
@@ -30,6 +30,7 @@ use std::mem;
 ///   nearer decides first, and in one file the last pattern that matches.
 /// - `.gitignore` counts in a repository: a directory whose `.git` leads to a directory or a file, and all below it. In
 ///   another repository the rules of the outer one end; those of `.ignore` go on.
+/// - `.fdignore` counts where [`fdignore`](IgnoreFiles::fdignore) asks for it. All such files decide before all others.
 /// - `.git` is dropped, as directory, as file and as link. Where it is a file, no `info/exclude` is read.
 /// - A file of rules is read where the list has a regular file of its name that is no link. If it can't be read, an error
 ///   with its path comes right behind its entry, and it has no rules.
@@ -44,13 +45,14 @@ pub struct IgnoreFiles<T: Texts, P: Drop = NoProcess> {
 }
 
 impl<T: Texts> IgnoreFiles<T, NoProcess> {
+    ghost use Rattle.jwalk_ignore.specs.Callback.Given.{first_settings};
     ghost use Rattle.jwalk_ignore.specs.Callback.IgnoreViews.{settings_of, texts_of};
 
     /// Returns the callback that reads rules from these texts. It drops hidden names, and `.gitignore` counts in
     /// repositories alone.
     pub fn new(texts: T) -> Self
         ensures texts { texts_of result ≡ texts }
-        ensures settings { settings_of result ≡ record { keeps_hidden = false; anywhere = false } }
+        ensures settings { settings_of result ≡ first_settings }
     {
         IgnoreFiles {
             reader: RulesReader {
@@ -58,6 +60,9 @@ impl<T: Texts> IgnoreFiles<T, NoProcess> {
                 settings: Settings {
                     keeps_hidden: false,
                     anywhere: false,
+                    version_control: true,
+                    above_the_root: true,
+                    fdignore: false,
                 },
             },
             next: NoProcess,
@@ -85,6 +90,38 @@ impl<T: Texts, P: Drop> IgnoreFiles<T, P> {
         ensures next { next_of result ≡ next_of self }
     {
         self.reader.settings.anywhere = anywhere;
+        self
+    }
+
+    /// Sets whether the version control's rules count: those of `.gitignore` and `.git/info/exclude`. On by default. If
+    /// not, `.git` is dropped all the same.
+    pub fn version_control(mut self, counts: bool) -> Self
+        ensures settings { settings_of result ≡ record (settings_of self) { version_control = counts } }
+        ensures texts { texts_of result ≡ texts_of self }
+        ensures next { next_of result ≡ next_of self }
+    {
+        self.reader.settings.version_control = counts;
+        self
+    }
+
+    /// Sets whether files of rules in folders above the root count. On by default. If not, none of them is read. The
+    /// root is in a repository all the same if one of these folders is.
+    pub fn above_the_root(mut self, counts: bool) -> Self
+        ensures settings { settings_of result ≡ record (settings_of self) { above_the_root = counts } }
+        ensures texts { texts_of result ≡ texts_of self }
+        ensures next { next_of result ≡ next_of self }
+    {
+        self.reader.settings.above_the_root = counts;
+        self
+    }
+
+    /// Sets whether `.fdignore` files count, which decide before all `.ignore` files. Off by default.
+    pub fn fdignore(mut self, counts: bool) -> Self
+        ensures settings { settings_of result ≡ record (settings_of self) { fdignore = counts } }
+        ensures texts { texts_of result ≡ texts_of self }
+        ensures next { next_of result ≡ next_of self }
+    {
+        self.reader.settings.fdignore = counts;
         self
     }
 

@@ -12,12 +12,14 @@ use jwalk::file_system::FileType;
 use jwalk::{ClientState, DirEntry, Error, path_text};
 use std::alloc::{AllocError, Allocator};
 
-fn kind_of_file(counted: bool, name: &str) -> Option<RulesKind>
-    ensures { result ≡ kind_of_file counted name.now }
+fn kind_of_file(name: &str) -> Option<RulesKind>
+    ensures { result ≡ kind_of_file name.now }
 {
-    if name == ".ignore" {
+    if name == ".fdignore" {
+        Some(RulesKind::Fdignore)
+    } else if name == ".ignore" {
         Some(RulesKind::Ignore)
-    } else if counted && name == ".gitignore" {
+    } else if name == ".gitignore" {
         Some(RulesKind::Gitignore)
     } else {
         None
@@ -26,34 +28,28 @@ fn kind_of_file(counted: bool, name: &str) -> Option<RulesKind>
 
 /// Returns the kind of rules that an item has itself: it is a regular file, and no link to one.
 fn own_kind<C: ClientState, A: Allocator + Copy>(
-    counted: bool,
     found: &Result<DirEntry<C, A>, Error<A>>,
 ) -> Option<RulesKind>
-    ensures { result ≡ own_kind counted (item found.now) }
+    ensures { result ≡ own_kind (item found.now) }
 {
     match found {
         Ok(entry) if entry.file_type.is_file() && !entry.path_is_symlink() => {
-            kind_of_file(counted, entry.file_name.as_str())
+            kind_of_file(entry.file_name.as_str())
         }
         _ => None,
     }
 }
 
-/// Returns the kind of rules that are read for an item, where `.gitignore` counts or not and `.git` may hold
-/// `info/exclude` or not.
+/// Returns the kind of rules that an item leads to.
 pub(crate) fn kind_of<C: ClientState, A: Allocator + Copy>(
-    counted: bool,
-    excluded: bool,
     found: &Result<DirEntry<C, A>, Error<A>>,
 ) -> Option<RulesKind>
-    ensures { result ≡ kind_of counted excluded (item found.now) }
+    ensures { result ≡ kind_of (item found.now) }
 {
-    if !is_git(found) {
-        own_kind(counted, found)
-    } else if excluded {
+    if is_git(found) {
         Some(RulesKind::Exclude)
     } else {
-        None
+        own_kind(found)
     }
 }
 

@@ -5,7 +5,7 @@ ghost use Rattle.jwalk.specs.jwalk_job.Entry.{item};
 ghost use Rattle.jwalk_ignore.specs.Rules.Chain.{place_in};
 ghost use Rattle.jwalk_ignore.specs.Rules.ChainViews.{chain_value};
 ghost use Rattle.jwalk_ignore.specs.Rules.Folder.{folder_value};
-ghost use Rattle.jwalk_ignore.specs.Callback.IgnoreFiles.{at_root, by_rules, in_directory, is_kept, own_rules, with_above, with_absolute, with_folder, with_folders, with_listed, with_root_item};
+ghost use Rattle.jwalk_ignore.specs.Callback.IgnoreFiles.{at_root, by_rules, if_read, in_directory, is_kept, is_read, is_read_above, kind_of, own_rules, with_above, with_absolute, with_folder, with_folders, with_listed, with_root_item};
 ghost use Rattle.jwalk_ignore.specs.Callback.Places.{IsPlaced};
 ghost use Rattle.jwalk_ignore.specs.Callback.Sources.{made_value};
 
@@ -15,10 +15,10 @@ use crate::callback::settings::Settings;
 use crate::callback::source::{Made, Source};
 use crate::rules::chain::Chain;
 use crate::rules::folder::{Folder, folders_above};
-use crate::rules::git::{is_git_dir, is_repository};
+use crate::rules::git::is_repository;
 use crate::rules::rules_kind::RulesKind;
 use crate::rules::texts::Texts;
-use jwalk::file_system::Fault;
+use jwalk::file_system::{Fault, FileType};
 use jwalk::{ClientState, DirEntry, Error};
 use std::alloc::{AllocError, Allocator};
 use std::sync::Arc;
@@ -36,10 +36,9 @@ struct Directory<'p> {
     path: &'p str,
     /// How much of a path is before the part that its rules match.
     before: usize,
-    /// Whether `.gitignore` counts in it.
-    counted: bool,
-    /// Whether its `.git` may hold `info/exclude`.
-    excluded: bool,
+    in_repository: bool,
+    /// What its `.git` leads to.
+    git: Option<FileType>,
 }
 
 fn is_kept<C: ClientState, A: Allocator + Copy>(
@@ -97,6 +96,20 @@ fn kept<C: ClientState, A: Allocator + Copy>(
 }
 
 impl<T: Texts> RulesReader<T> {
+    /// Returns the kind of rules that are read for an item.
+    fn kind_read<C: ClientState, A: Allocator + Copy>(
+        &self,
+        of: Directory<'_>,
+        found: &Result<DirEntry<C, A>, Error<A>>,
+    ) -> Option<RulesKind>
+        ensures { result ≡ if_read (is_read self.now.settings of.entry.in_repository of.entry.git) (kind_of (item found.now)) }
+    {
+        match kind_of(found) {
+            Some(kind) if self.settings.is_read(of.in_repository, of.git, kind) => Some(kind),
+            _ => None,
+        }
+    }
+
     fn add_listed<C: ClientState, A: Allocator + Copy>(
         &self,
         of: Directory<'_>,
@@ -104,13 +117,13 @@ impl<T: Texts> RulesReader<T> {
         made: &mut Made<C, A>,
     ) -> Result<(), AllocError>
         ensures value { T.IsFixed self.now.texts → OnOk result (made_value made.new
-            ≡ with_listed (T.functions self.now.texts) of.entry.counted of.entry.excluded of.entry.path.now of.entry.before
-            (made_value made.old) (item found)) }
+            ≡ with_listed (T.functions self.now.texts) (is_read self.now.settings of.entry.in_repository of.entry.git)
+            of.entry.path.now of.entry.before (made_value made.old) (item found)) }
         ensures depth { (depth : _) → AtDepth depth (item found ∷ []) → AtDepth depth (map item made.old.list.items)
             → OnOk result (AtDepth depth (map item made.new.list.items)) }
     {
         let depth = depth_of(&found);
-        let kind = kind_of(of.counted, of.excluded, &found);
+        let kind = self.kind_read(of, &found);
         made.add_item(found)?;
         let Some(kind) = kind else {
             return Ok(());
@@ -132,7 +145,8 @@ impl<T: Texts> RulesReader<T> {
         made: &mut Made<C, A>,
     ) -> Result<(), AllocError>
         ensures value { T.IsFixed self.now.texts → OnOk result (made_value made.new
-            ≡ fold (with_listed (T.functions self.now.texts) of.entry.counted of.entry.excluded of.entry.path.now of.entry.before)
+            ≡ fold (with_listed (T.functions self.now.texts) (is_read self.now.settings of.entry.in_repository of.entry.git)
+            of.entry.path.now of.entry.before)
             (made_value made.old) (map item list.items)) }
         ensures depth { (depth : _) → AtDepth depth (map item list.items) → AtDepth depth (map item made.old.list.items)
             → OnOk result (AtDepth depth (map item made.new.list.items)) }
@@ -160,8 +174,8 @@ impl<T: Texts> RulesReader<T> {
         let of = Directory {
             path: directory,
             before: chain.place_len(directory),
-            counted: self.settings.counts(&chain),
-            excluded: is_git_dir(git),
+            in_repository: chain.in_repository(),
+            git,
         };
         let mut made = Made {
             chain,
@@ -192,16 +206,17 @@ impl<T: Texts> RulesReader<T> {
     fn add_above<C: ClientState, A: Allocator + Copy>(
         &self,
         folder: Folder<'_>,
-        read: bool,
+        in_repository: bool,
         kind: RulesKind,
         made: &mut Made<C, A>,
     ) -> Result<(), AllocError>
         ensures value { T.IsFixed self.now.texts → OnOk result (made_value made.new
-            ≡ with_above self.now.settings (T.functions self.now.texts) (folder_value folder.entry) read kind (made_value made.old)) }
+            ≡ with_above self.now.settings (T.functions self.now.texts) (folder_value folder.entry)
+            (is_read_above self.now.settings (folder_value folder.entry) in_repository kind) kind (made_value made.old)) }
         ensures depth { (depth : _) → AtDepth depth (map item made.old.list.items)
             → OnOk result (AtDepth depth (map item made.new.list.items)) }
     {
-        if !read {
+        if !self.settings.is_read_above(folder, in_repository, kind) {
             return Ok(());
         }
         made.add_rules(&self.texts, Source::above(folder, kind))
@@ -218,10 +233,11 @@ impl<T: Texts> RulesReader<T> {
             → OnOk result (AtDepth depth (map item made.new.list.items)) }
     {
         made.enter(is_repository(folder.git))?;
-        let counted = !folder.is_outer && self.settings.counts(&made.chain);
-        self.add_above(folder, is_git_dir(folder.git), RulesKind::Exclude, made)?;
-        self.add_above(folder, counted, RulesKind::Gitignore, made)?;
-        self.add_above(folder, true, RulesKind::Ignore, made)
+        let in_repository = made.chain.in_repository();
+        self.add_above(folder, in_repository, RulesKind::Exclude, made)?;
+        self.add_above(folder, in_repository, RulesKind::Gitignore, made)?;
+        self.add_above(folder, in_repository, RulesKind::Ignore, made)?;
+        self.add_above(folder, in_repository, RulesKind::Fdignore, made)
     }
 
     fn add_each<C: ClientState, A: Allocator + Copy>(

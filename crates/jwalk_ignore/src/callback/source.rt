@@ -58,6 +58,7 @@ fn file_of(kind: RulesKind) -> &'static str
     ensures { result.now ≡ file_of kind }
 {
     match kind {
+        RulesKind::Fdignore => ".fdignore",
         RulesKind::Ignore => ".ignore",
         RulesKind::Gitignore => ".gitignore",
         RulesKind::Exclude => ".git/info/exclude",
@@ -76,7 +77,7 @@ fn type_of<T: Texts>(texts: &T, kind: RulesKind, path: &str) -> Result<FileType,
         → AnswersValue (λ file_type. file_type) result (type_of (T.functions texts.now) kind path.now) }
 {
     match kind {
-        RulesKind::Ignore | RulesKind::Gitignore => texts.file_type(path),
+        RulesKind::Fdignore | RulesKind::Ignore | RulesKind::Gitignore => texts.file_type(path),
         RulesKind::Exclude => texts.target_type(path),
     }
 }

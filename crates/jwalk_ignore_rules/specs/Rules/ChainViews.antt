@@ -22,6 +22,7 @@ module _ {A : Type 0} where
     front = string_bytes (arc_value rules.front);
     root_len = rules.root_len;
     in_repository = rules.in_repository;
+    fdignore = links_value rules.fdignore.items;
     ignore = links_value rules.ignore.items;
     gitignore = links_value rules.gitignore.items;
     exclude = links_value rules.exclude.items;

@@ -139,14 +139,16 @@ link_in worth = record { before = number_in (first_in worth); patterns = list_in
 abbrev pub chain_worth : Chain → Worth
 chain_worth chain =
     both (both (bytes chain.front) (both (number chain.root_len) (bool_worth chain.in_repository)))
-    (both (list_worth link_worth chain.ignore) (both (list_worth link_worth chain.gitignore) (list_worth link_worth chain.exclude)))
+    (both (both (list_worth link_worth chain.fdignore) (list_worth link_worth chain.ignore))
+    (both (list_worth link_worth chain.gitignore) (list_worth link_worth chain.exclude)))
 
 abbrev pub chain_in : Worth → Chain
 chain_in worth = record {
   front = bytes_in (first_in (first_in worth));
   root_len = number_in (first_in (second_in (first_in worth)));
   in_repository = bool_in (second_in (second_in (first_in worth)));
-  ignore = list_in link_in (first_in (second_in worth));
+  fdignore = list_in link_in (first_in (first_in (second_in worth)));
+  ignore = list_in link_in (second_in (first_in (second_in worth)));
   gitignore = list_in link_in (first_in (second_in (second_in worth)));
   exclude = list_in link_in (second_in (second_in (second_in worth)));
 }

@@ -19,6 +19,7 @@ pub(crate) struct InForce<A: Allocator + Copy> {
     /// How long the root's own path is.
     root_len: usize,
     in_repository: bool,
+    fdignore: Vec<Arc<Link<A>, A>, A>,
     ignore: Vec<Arc<Link<A>, A>, A>,
     gitignore: Vec<Arc<Link<A>, A>, A>,
     exclude: Vec<Arc<Link<A>, A>, A>,
@@ -99,6 +100,7 @@ impl<A: Allocator + Copy> InForce<A> {
             front: Arc::new(alloc, front)?,
             root_len,
             in_repository: false,
+            fdignore: Vec::new(alloc),
             ignore: Vec::new(alloc),
             gitignore: Vec::new(alloc),
             exclude: Vec::new(alloc),
@@ -112,6 +114,7 @@ impl<A: Allocator + Copy> InForce<A> {
             front: self.front.clone()?,
             root_len: self.root_len,
             in_repository: self.in_repository,
+            fdignore: shared_links(alloc, &self.fdignore)?,
             ignore: shared_links(alloc, &self.ignore)?,
             gitignore: shared_links(alloc, &self.gitignore)?,
             exclude: shared_links(alloc, &self.exclude)?,
@@ -123,6 +126,7 @@ impl<A: Allocator + Copy> InForce<A> {
             ≡ with_link kind (link_value (arc_value link)) (in_force_value self.old)) }
     {
         match kind {
+            RulesKind::Fdignore => Ok(self.fdignore.push(link)?),
             RulesKind::Ignore => Ok(self.ignore.push(link)?),
             RulesKind::Gitignore => Ok(self.gitignore.push(link)?),
             RulesKind::Exclude => Ok(self.exclude.push(link)?),
@@ -132,6 +136,10 @@ impl<A: Allocator + Copy> InForce<A> {
     fn decision(&self, path: &[u8], is_dir: bool) -> Decision
         ensures { result ≡ chain_says (in_force_value self.now) path.now is_dir }
     {
+        let said = links_say(&self.fdignore, path, is_dir);
+        if said.is_said() {
+            return said;
+        }
         let said = links_say(&self.ignore, path, is_dir);
         if said.is_said() {
             return said;
@@ -146,7 +154,10 @@ impl<A: Allocator + Copy> InForce<A> {
     fn has_rules(&self) -> bool
         ensures { result ≡ has_rules (in_force_value self.now) }
     {
-        !self.ignore.is_empty() || !self.gitignore.is_empty() || !self.exclude.is_empty()
+        !self.fdignore.is_empty()
+            || !self.ignore.is_empty()
+            || !self.gitignore.is_empty()
+            || !self.exclude.is_empty()
     }
 }
 

@@ -5,6 +5,8 @@ ghost use Rattle.jwalk_ignore_rules.specs.Rules.Chain.{may_miss};
 /// Which file rules are from. All of one kind decide before those of the next.
 #[derive(Clone, Copy, Debug, PartialEq, Eq)]
 pub enum RulesKind {
+    /// `.fdignore`.
+    Fdignore,
     /// `.ignore`.
     Ignore,
     /// `.gitignore`.
@@ -19,7 +21,7 @@ impl RulesKind {
         ensures { result ≡ may_miss self }
     {
         match self {
-            RulesKind::Ignore | RulesKind::Gitignore => false,
+            RulesKind::Fdignore | RulesKind::Ignore | RulesKind::Gitignore => false,
             RulesKind::Exclude => true,
         }
     }
