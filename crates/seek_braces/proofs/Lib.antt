@@ -1,0 +1,5 @@
+pub mod ListFacts
+pub mod ReadingFacts
+pub mod SizeFacts
+pub mod Utf8Facts
+pub mod ItemFacts

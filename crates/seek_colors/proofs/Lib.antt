@@ -1,0 +1,3 @@
+pub mod ColorFacts
+pub mod PaletteFacts
+pub mod TableFacts

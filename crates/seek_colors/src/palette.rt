@@ -1,0 +1,180 @@
+//! The colours of entries.
+ghost use Rattle.std.specs.Prelude.{◌≡◌, ◌++◌, ◌∷◌, [], IfOk, OnOk};
+ghost use Rattle.std.specs.Option.{option_copied};
+ghost use Rattle.seek_colors.specs.Entries.{entries_among, entries_in};
+ghost use Rattle.seek_colors.specs.Palette.{is_visible, kinds_in, suffix_in, suffixes_in, visible};
+
+use crate::entries::{entry_in, parts_in};
+use crate::kind::Kind;
+use crate::painted::{push_end, push_start, separator, starts_with_slash};
+use crate::table::Table;
+use std::alloc::{AllocError, Allocator, Global};
+
+/// The entries before those of `LS_COLORS`.
+const DEFAULTS: &str =
+    "di=01;34:ln=01;36:ex=01;32:pi=40;33:so=01;35:bd=40;33;01:cd=40;33;01:or=40;31;01";
+
+/// The colours by the kinds of entries and by the ends of names.
+#[derive(Drop)]
+pub struct Palette {
+    /// The colours of kinds, by two letters.
+    kinds: Table,
+    /// The colours of regular files, by the ends of their names.
+    suffixes: Table,
+}
+
+fn suffix_in(key: &str) -> Option<&str>
+    ensures { option_copied result ≡ suffix_in key.now }
+{
+    key.strip_prefix("*")
+}
+
+fn is_visible(color: &str) -> bool
+    ensures { result ≡ is_visible color.now }
+{
+    !color.is_empty() && color != "0" && color != "00"
+}
+
+fn visible(color: Option<&str>) -> Option<&str>
+    ensures { option_copied result ≡ visible (option_copied color.entry) }
+{
+    let color = color?;
+    if is_visible(color) { Some(color) } else { None }
+}
+
+impl Palette {
+    ghost use Rattle.seek_colors.specs.Palette.{color_of, colored_folder, colored_path, colors_of, file_color, own_color, palette_in, GivesColorsAlone};
+
+    fn add_entry(&mut self, alloc: Global, text: &str) -> Result<(), AllocError>
+        ensures kinds { OnOk result ((colors_of self.new).kinds ≡ (colors_of self.old).kinds ++ kinds_in (entries_among (text.now ∷ []))) }
+        ensures suffixes { OnOk result ((colors_of self.new).suffixes ≡ (colors_of self.old).suffixes ++ suffixes_in (entries_among (text.now ∷ []))) }
+    {
+        let Some((key, color)) = entry_in(text) else {
+            return Ok(());
+        };
+        match suffix_in(key) {
+            Some(suffix) => self.suffixes.push(alloc, suffix, color),
+            None => self.kinds.push(alloc, key, color),
+        }
+    }
+
+    fn add(&mut self, alloc: Global, text: &str) -> Result<(), AllocError>
+        ensures kinds { OnOk result ((colors_of self.new).kinds ≡ (colors_of self.old).kinds ++ kinds_in (entries_in text.now)) }
+        ensures suffixes { OnOk result ((colors_of self.new).suffixes ≡ (colors_of self.old).suffixes ++ suffixes_in (entries_in text.now)) }
+    {
+        for part in &parts_in(alloc, text)? {
+            self.add_entry(alloc, part)?;
+        }
+        Ok(())
+    }
+
+    /// Reads the value of `LS_COLORS`: entries `KEY=COLOUR` with a colon between each two. A key is two letters for a
+    /// kind, or a `*` and the end of the names of regular files. The letters are `di`, `ln`, `or` for a link that leads
+    /// nowhere, `ex`, `fi`, `pi`, `so`, `bd`, `cd`, and `no` for whatever has no entry.
+    ///
+    /// If a key has several entries, the last counts. If a name has the ends of several, the last of these counts, and
+    /// the case of ASCII letters doesn't count. As with `ls`, a kind that the text doesn't name has a default colour:
+    /// `di=01;34:ln=01;36:ex=01;32:pi=40;33:so=01;35:bd=40;33;01:cd=40;33;01:or=40;31;01`.
+    ///
+    /// An entry is skipped if it has no `=`, or if what follows isn't of digits and `;` alone.
+    ///
+    /// # Errors
+    ///
+    /// If memory runs out.
+    pub fn read(alloc: Global, text: &str) -> Result<Self, AllocError>
+        ensures palette { IfOk result (λ palette. colors_of palette ≡ palette_in text.now) }
+        ensures colors_alone { IfOk result (λ palette. GivesColorsAlone (colors_of palette)) }
+    {
+        let mut palette = Palette {
+            kinds: Table::new(alloc),
+            suffixes: Table::new(alloc),
+        };
+        palette.add(alloc, DEFAULTS)?;
+        palette.add(alloc, text)?;
+        Ok(palette)
+    }
+
+    fn file_color(&self, name: &str) -> Option<&str>
+        ensures { option_copied result ≡ file_color (colors_of self.now) name.now }
+    {
+        self.suffixes
+            .suffix_color(name)
+            .or_else(|| self.kinds.key_color("fi"))
+    }
+
+    fn own_color(&self, kind: Kind, name: &str) -> Option<&str>
+        ensures { option_copied result ≡ own_color (colors_of self.now) kind name.now }
+    {
+        match kind {
+            Kind::Directory => self.kinds.key_color("di"),
+            Kind::Link => self.kinds.key_color("ln"),
+            Kind::BrokenLink => {
+                visible(self.kinds.key_color("or")).or_else(|| self.kinds.key_color("ln"))
+            }
+            Kind::Executable => {
+                visible(self.kinds.key_color("ex")).or_else(|| self.file_color(name))
+            }
+            Kind::File => self.file_color(name),
+            Kind::Pipe => self.kinds.key_color("pi"),
+            Kind::Socket => self.kinds.key_color("so"),
+            Kind::BlockDevice => self.kinds.key_color("bd"),
+            Kind::CharDevice => self.kinds.key_color("cd"),
+            Kind::Other => None,
+        }
+    }
+
+    /// Returns the colour of an entry: the numbers of a control sequence. Returns `None` if it has none, or if that is
+    /// empty, `0` or `00`.
+    ///
+    /// A link that leads nowhere has the colour of links if `or` gives none. A regular file has the colour of the end
+    /// of its name, or else that of `fi`. If it may be executed, the colour of `ex` comes first.
+    pub fn color_of(&self, kind: Kind, name: &str) -> Option<&str>
+        ensures { option_copied result ≡ color_of (colors_of self.now) kind name.now }
+    {
+        visible(
+            self.own_color(kind, name)
+                .or_else(|| self.kinds.key_color("no")),
+        )
+    }
+
+    fn write_folder<A: Allocator>(
+        &self,
+        folder: &str,
+        out: &mut Vec<u8, A>,
+    ) -> Result<(), AllocError>
+        ensures { OnOk result (out.new.items ≡ out.old.items ++ colored_folder (colors_of self.now) folder.now) }
+    {
+        if folder.is_empty() {
+            return Ok(());
+        }
+        let color = self.color_of(Kind::Directory, "");
+        push_start(color, out)?;
+        out.extend_from_slice(folder.as_bytes())?;
+        out.extend_from_slice(separator(folder).as_bytes())?;
+        push_end(color, out)
+    }
+
+    /// Appends the path of a name in a folder to `out`: the folder and a slash in the colour of directories, and the
+    /// name in the colour of an entry of this kind. Between the control sequences are the bytes of the joined path.
+    ///
+    /// # Errors
+    ///
+    /// If memory runs out.
+    pub fn write<A: Allocator>(
+        &self,
+        kind: Kind,
+        folder: &str,
+        name: &str,
+        out: &mut Vec<u8, A>,
+    ) -> Result<(), AllocError>
+        ensures { OnOk result (out.new.items ≡ out.old.items ++ colored_path (colors_of self.now) kind folder.now name.now) }
+    {
+        if !starts_with_slash(name) {
+            self.write_folder(folder, out)?;
+        }
+        let color = self.color_of(kind, name);
+        push_start(color, out)?;
+        out.extend_from_slice(name.as_bytes())?;
+        push_end(color, out)
+    }
+}
