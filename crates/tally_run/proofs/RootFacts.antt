@@ -13,7 +13,7 @@ use Rattle.jwalk_subtotals.specs.Files.{files_of}
 use Rattle.jwalk_subtotals.specs.Subtotals.{Yielded, listed_all, subtotals_beside}
 use Rattle.jwalk_subtotals.specs.declared.options.SubtotalOptions.{SubtotalOptions}
 use Rattle.jwalk_subtotals.proofs.ComingFacts.{after_same, weighed_same}
-use Rattle.tally_words.specs.Asks.{texts_of}
+use Rattle.program_parts.specs.Values.{texts_of}
 use Rattle.tally_words.specs.declared.asked.Asked.{Asked}
 use Rattle.tally_run.specs.Counting.{is_clean}
 use Rattle.tally_run.specs.Results.{Row, Takes, row_of, rows_of}

@@ -9,8 +9,6 @@ use Rattle.jwalk.specs.jwalk_model.Counted.{Worth}
 use Rattle.jwalk.specs.jwalk_model.declared.metadata.Identity.{Identity}
 use Rattle.jwalk.specs.jwalk_model.Entry.{Item}
 use Rattle.jwalk.specs.jwalk_model.FileSystem.{Functions}
-use Rattle.jwalk.specs.jwalk_model.Job.{Processing}
-use Rattle.jwalk.specs.jwalk_model.Options.{with_skip_hidden}
 use Rattle.jwalk.specs.jwalk_model.Walk.{whole_walk}
 use Rattle.jwalk.specs.jwalk_fs.declared.file_system.FileSystem as FileSystem
 use Rattle.jwalk.specs.jwalk_job.declared.process_read_dir.ProcessReadDir as ProcessReadDir
@@ -25,7 +23,6 @@ use Rattle.jwalk.specs.declared.walk_dir.WalkDirGeneric.{WalkDirGeneric}
 use Rattle.jwalk.specs.jwalk_job.Entry.{item}
 use Rattle.jwalk.proofs.CleanFacts.{clean_whole}
 use Rattle.jwalk.proofs.WholeFacts.{steady_begun}
-use Rattle.jwalk_ignore.specs.Callback.Kept.{job_with}
 use Rattle.jwalk_ignore.specs.Rules.Texts.{Texts}
 use Rattle.jwalk_subtotals.specs.Coming.{Gives, IsFreshBeside, answers_of, held, options_of, value}
 use Rattle.jwalk_subtotals.specs.Counted.{HaveSame, files_after, is_among}
@@ -38,7 +35,7 @@ use Rattle.tally_run.specs.Counting.{TakesAll, is_clean}
 use Rattle.tally_words.specs.declared.asked.Asked.{Asked}
 use Rattle.tally_run.specs.Results.{Row, Takes, row_of, rows_of}
 use Rattle.tally_run.specs.Shown.{shown_asked}
-use Rattle.tally_run.specs.Walks.{CountsBelow, CountsWalk, all_below, counted_below, kept_below, options_asked, options_by, subtotals_asked}
+use Rattle.tally_run.specs.Walks.{CountsBelow, CountsWalk, all_below, counted_below, kept_below, subtotals_asked}
 use Rattle.tally_run.specs.declared.counting.Counted.{Counted}
 use Rattle.tally_run.specs.declared.results.Results.{Results}
 use Rattle.tally_run.specs.declared.shown.Shown.{Shown}
@@ -98,19 +95,6 @@ kept_counted fs texts asked root is = ap (λ (b : Bool). if b then kept_below fs
 
 pub all_counted : (fs : Functions) (texts : Texts) (asked : Asked) (root : List ℕ) → asked.ignore ≡ false → all_below fs asked root ≡ counted_below fs texts asked root
 all_counted fs texts asked root is = ap (λ (b : Bool). if b then kept_below fs texts asked root else all_below fs asked root) (sym is)
-
--- it doesn't matter whether a crew reads
-pub same_by_crew : (processed : Processing Worth Worth) (by_crew : Bool) (fs : Functions) (asked : Asked) (root : List ℕ) (state : Worth)
-    → whole_walk (job_with fs (options_by by_crew asked) processed) root state ≡ whole_walk (job_with fs (options_asked asked) processed) root state
-unfolding whole_walk
-same_by_crew processed true fs asked root state = refl
-same_by_crew processed false fs asked root state = refl
-
-pub hidden_by_crew : (processed : Processing Worth Worth) (by_crew : Bool) (fs : Functions) (asked : Asked) (root : List ℕ) (state : Worth)
-    → whole_walk (job_with fs (with_skip_hidden false (options_by by_crew asked)) processed) root state ≡ whole_walk (job_with fs (with_skip_hidden false (options_asked asked)) processed) root state
-unfolding whole_walk
-hidden_by_crew processed true fs asked root state = refl
-hidden_by_crew processed false fs asked root state = refl
 
 module _ {C S P A W L R E : Type 0} (files : FileSystem.Ghosts S) (process : ProcessReadDir.Ghosts P C A R E) (clone : Clone.Ghosts R) (defaults : Default.Ghosts E) (readers : Readers.Ghosts L C S P A R E) (walk : WalkDirGeneric C S P A W R E) (it : DirEntryIter C S P A L R E) where
   -- what is taken of the subtotals of a walk, from its beginning until its end, is counted of it

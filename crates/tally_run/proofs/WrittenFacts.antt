@@ -1,8 +1,9 @@
 -- Results that are taken and then written.
-use Rattle.std.proofs.Common.{◌≡◌, ◌∙◌, ℕ, Bool, true, List, [], ◌++◌, Option, None, Some, append-nil, map, sym, ap, subst}
-use Rattle.std.specs.Io.KnownBytes.{Appends, append_known}
+use Rattle.std.proofs.Common.{◌≡◌, ◌∙◌, ℕ, Bool, true, List, [], Option, map, sym, ap, subst}
+use Rattle.std.specs.Io.KnownBytes.{Appends}
 use Rattle.jwalk.specs.jwalk_model.FileSystem.{Functions}
 use Rattle.jwalk_ignore.specs.Rules.Texts.{Texts}
+use Rattle.program_parts.proofs.GatheredFacts.{gathered_written}
 use Rattle.seek_words.specs.declared.paths.Style.{Style}
 use Rattle.tally_text.specs.Nodes.{largest_of, trees_of}
 use Rattle.tally_text.specs.declared.node.Node.{Node}
@@ -16,14 +17,6 @@ use Rattle.tally_run.specs.Written.{AreNone, Finishes, Writes, WritesAs, style_a
 use Rattle.tally_run.specs.declared.results.Results.{Results}
 use Rattle.tally_run.specs.declared.results.Results.TheVariants as results
 use Rattle.tally_run.specs.declared.screen.Screen.{Screen}
-
--- what was gathered is written at the end, and nothing was at the beginning
-gathered_written : (before mid after : Option (List ℕ)) (none gathered text : List ℕ) → none ≡ [] → Appends (append_known before none) (append_known mid gathered) text → Appends mid after gathered → Appends before after text
-gathered_written None mid after none gathered text empty taken rest = tt
-gathered_written (Some ws) None after none gathered text empty taken rest = absurd taken
-gathered_written (Some ws) (Some vs) None none gathered text empty taken rest = absurd rest
-gathered_written (Some ws) (Some vs) (Some us) none gathered text empty taken rest =
-    rest ∙ taken ∙ ap (λ (l : List ℕ). l ++ text) (ap (λ (l : List ℕ). ws ++ l) empty ∙ append-nil ws)
 
 -- what is taken and finished is written as is asked for
 pub all_written : (asked : Asked) (screen : Screen) (rows : List Row) (none all : Results) (before mid after : Option (List ℕ)) → AreNone asked screen none → Takes rows none before all mid → Finishes asked screen all mid after → Writes asked screen rows before after

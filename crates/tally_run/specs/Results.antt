@@ -70,7 +70,7 @@ ArePushed largest (r ∷ rows) old new =
 
 -- the bytes that aren't written yet
 abbrev pub gathered_of : Lines → List ℕ
-gathered_of lines = lines.gathered.items
+gathered_of lines = lines.gathered.bytes.items
 
 -- how sizes and paths are written
 abbrev pub scale_of : Lines → Scale

@@ -6,7 +6,7 @@ use Rattle.jwalk.specs.jwalk_model.Entry.{Item}
 use Rattle.jwalk.specs.jwalk_model.FileSystem.{Functions}
 use Rattle.jwalk.specs.jwalk_model.Paths.{dot}
 use Rattle.jwalk_ignore.specs.Rules.Texts.{Texts}
-use Rattle.tally_words.specs.Asks.{texts_of}
+use Rattle.program_parts.specs.Values.{texts_of}
 use Rattle.tally_words.specs.AsksFor.{AskFor}
 use Rattle.tally_words.specs.Refusal.{status_of, IsRefusedFor}
 use Rattle.tally_words.specs.declared.asked.Asked.{Asked}

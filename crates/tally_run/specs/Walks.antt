@@ -1,5 +1,5 @@
 -- What is counted below a root, and how.
-use Rattle.std.specs.Prelude.{◌≡◌, ℕ, ◌-◌, ◌^◌, Bool, true, false, not, List, map, Option, Result, if◌then◌else◌}
+use Rattle.std.specs.Prelude.{◌≡◌, ℕ, ◌-◌, ◌^◌, true, not, List, map, Option, None, Result, if◌then◌else◌}
 use Rattle.std.specs.Iterator.{Drains}
 use Rattle.std.specs.List.{list_all}
 use Rattle.std.specs.declared.clone.Clone as Clone
@@ -8,7 +8,7 @@ use Rattle.jwalk.specs.jwalk_model.Counted.{Worth, blank}
 use Rattle.jwalk.specs.jwalk_model.declared.metadata.Identity.{Identity}
 use Rattle.jwalk.specs.jwalk_model.Entry.{Item}
 use Rattle.jwalk.specs.jwalk_model.FileSystem.{Functions}
-use Rattle.jwalk.specs.jwalk_model.Options.{Options, crew, defaults, with_follow_links, with_keep_metadata, with_parallelism, with_same_file_system, with_skip_hidden, with_sort}
+use Rattle.jwalk.specs.jwalk_model.Options.{Options}
 use Rattle.jwalk.specs.jwalk_model.Walk.{whole_walk}
 use Rattle.jwalk.specs.jwalk_fs.declared.file_system.FileSystem as FileSystem
 use Rattle.jwalk.specs.jwalk_job.declared.process_read_dir.ProcessReadDir as ProcessReadDir
@@ -23,6 +23,7 @@ use Rattle.jwalk.specs.jwalk_core.DirEntryIter.{Answers}
 use Rattle.jwalk.specs.WalkDir.{Starts, callback_of, file_system_of, job_for, root_of, state_of}
 use Rattle.jwalk.specs.declared.walk_dir.WalkDirGeneric.{WalkDirGeneric}
 use Rattle.jwalk_ignore.specs.Callback.Excluding.{Excluded, excluded_by, excluding}
+use Rattle.jwalk_ignore.specs.Callback.Given.{first_settings}
 use Rattle.jwalk_ignore.specs.Callback.Kept.{ignoring_walk, job_with}
 use Rattle.jwalk_ignore.specs.Rules.Texts.{Texts}
 use Rattle.jwalk_ignore.specs.declared.callback.settings.Settings.{Settings}
@@ -30,7 +31,9 @@ use Rattle.jwalk_subtotals.specs.Counted.{HaveSame, files_after}
 use Rattle.jwalk_subtotals.specs.Files.{files_of}
 use Rattle.jwalk_subtotals.specs.Subtotals.{subtotals_beside}
 use Rattle.jwalk_subtotals.specs.declared.options.SubtotalOptions.{SubtotalOptions}
-use Rattle.tally_words.specs.Asks.{texts_of}
+use Rattle.program_parts.specs.Values.{texts_of}
+use Rattle.program_walks.specs.Options.{options_for}
+use Rattle.program_walks.specs.declared.options.WalkOptions.{WalkOptions}
 use Rattle.tally_words.specs.declared.asked.Asked.{Asked}
 use Rattle.tally_run.specs.Counting.{is_clean}
 use Rattle.tally_run.specs.Results.{Takes, rows_of}
@@ -42,14 +45,20 @@ use Rattle.tally_run.specs.declared.results.Results.{Results}
 abbrev pub subtotals_asked : Asked → SubtotalOptions
 subtotals_asked asked = record { apparent = asked.apparent; each_name = asked.each_name; all = true; max_depth = 2 ^ 64 - 1 }
 
+-- the options of the walks, by what is asked for
+abbrev pub walk_options : Asked → WalkOptions
+walk_options asked = record {
+  sort = asked.sort;
+  hidden = not asked.exclude_hidden;
+  follow = asked.follow;
+  one_file_system = asked.one_file_system;
+  metadata = true;
+  greatest = None;
+}
+
 -- the options of walks. Whether a crew reads makes no difference to what they yield.
 abbrev pub options_asked : Asked → Options
-options_asked asked =
-    with_keep_metadata true (with_same_file_system asked.one_file_system (with_follow_links asked.follow (with_skip_hidden asked.exclude_hidden (with_sort asked.sort defaults))))
-
--- the same where a crew may read
-abbrev pub options_by : Bool → Asked → Options
-options_by by_crew asked = if by_crew then with_parallelism crew (options_asked asked) else options_asked asked
+options_asked asked = options_for (walk_options asked) false
 
 -- what is left out below a root
 abbrev pub excluded_asked : Asked → List ℕ → Excluded
@@ -57,7 +66,7 @@ excluded_asked asked root = excluded_by (texts_of asked.excludes.items) root
 
 -- how ignore files are used
 abbrev pub settings_asked : Asked → Settings
-settings_asked asked = record { keeps_hidden = not asked.exclude_hidden; anywhere = false }
+settings_asked asked = record first_settings { keeps_hidden = not asked.exclude_hidden }
 
 -- all that a walk below a root yields, whatever ignore files say
 abbrev pub all_below : Functions → Asked → List ℕ → List (Item Worth Worth)

@@ -21,6 +21,7 @@ use jwalk::file_system::FileSystem;
 use jwalk::read_dir::ProcessReadDir;
 use jwalk::{ClientState, Crew, Host, WalkDirGeneric};
 use jwalk_subtotals::{Files, SubtotalError, SubtotalOptions, WithSubtotal, subtotals_beside};
+use program_parts::halt::Halt;
 use std::alloc::{Allocator, Global};
 use std::io::Write;
 use tally_words::asked::Asked;
@@ -54,7 +55,7 @@ fn take_error<A: Allocator + Copy, E: Write>(
             if is_last { Err(Failure::Walk) } else { Ok(()) }
         }
         SubtotalError::TooMany => Err(Failure::TooMany),
-        SubtotalError::Memory => Err(Failure::Memory),
+        SubtotalError::Memory => Err(Failure::Halt(Halt::Memory)),
     }
 }
 

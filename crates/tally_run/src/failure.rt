@@ -1,6 +1,7 @@
 //! What ends a call before its end.
 ghost use Rattle.std.specs.Prelude.{◌≡◌};
 
+use program_parts::halt::Halt;
 use std::alloc::AllocError;
 use std::io::Write;
 
@@ -9,31 +10,42 @@ use std::io::Write;
 pub(crate) enum Failure {
     /// A number passes the greatest `u128`.
     TooMany,
-    /// Memory ran out.
-    Memory,
     /// A walk ended with an error, which was reported.
     Walk,
-    /// Standard output can't be written.
-    Output,
+    /// Memory ran out, or standard output can't be written.
+    Halt(Halt),
 }
 
 impl Failure {
     /// Reports it on standard error, unless it was reported, or is that the output can't be written.
     pub(crate) fn report<E: Write>(self, err: &mut E) {
-        let _ = match self {
-            Failure::TooMany => writeln!(err, "tally: a total passes the greatest number"),
-            Failure::Memory => writeln!(err, "tally: memory refused"),
-            Failure::Walk | Failure::Output => Ok(()),
-        };
+        match self {
+            Failure::TooMany => {
+                let _ = writeln!(err, "tally: a total passes the greatest number");
+            }
+            Failure::Walk => {}
+            Failure::Halt(halt) => halt.report("tally", err),
+        }
+    }
+}
+
+impl From<Halt> for Failure {
+    ghost use Rattle.tally_run.specs.declared.failure.Failure.TheVariants.{Halt};
+
+    ghost from_gives = { λ halt failure. failure ≡ Halt halt };
+
+    fn from(halt: Halt) -> Failure {
+        Failure::Halt(halt)
     }
 }
 
 impl From<AllocError> for Failure {
-    ghost use Rattle.tally_run.specs.declared.failure.Failure.TheVariants.{Memory};
+    ghost use Rattle.program_parts.specs.declared.halt.Halt.TheVariants.{Memory};
+    ghost use Rattle.tally_run.specs.declared.failure.Failure.TheVariants.{Halt};
 
-    ghost from_gives = { λ _ failure. failure ≡ Memory };
+    ghost from_gives = { λ _ failure. failure ≡ Halt Memory };
 
     fn from(_refused: AllocError) -> Failure {
-        Failure::Memory
+        Failure::Halt(Halt::Memory)
     }
 }

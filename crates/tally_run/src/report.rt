@@ -3,7 +3,7 @@ ghost use Rattle.std.specs.Prelude.{◌≡◌, not, is_some, option_and_then, If
 ghost use Rattle.jwalk.specs.jwalk_job.Entry.{entry};
 
 use jwalk::{ClientState, DirEntry, Error};
-use seek_words::masked::masked;
+use program_parts::masked::masked;
 use std::alloc::{AllocError, Allocator, Global};
 use std::io::Write;
 

@@ -7,6 +7,8 @@ ghost use Rattle.tally_run.specs.Results.{row, row_line, tree_name, numbers_of, 
 use crate::failure::Failure;
 use jwalk::ClientState;
 use jwalk_subtotals::{Subtotal, WithSubtotal};
+use program_parts::gathered::Gathered;
+use program_parts::halt::Halt;
 use seek_words::paths::Style;
 use std::alloc::{AllocError, Allocator, Global};
 use std::io::Write;
@@ -15,15 +17,12 @@ use tally_text::nodes::Nodes;
 use tally_text::numbers::Numbers;
 use tally_text::scale::Scale;
 
-/// How many bytes of lines are gathered before they are written.
-const GATHERED: usize = 16384;
-
 /// Lines that are gathered, and written once there are enough. For a terminal each is written at once.
 #[derive(Drop)]
 pub(crate) struct Lines {
     scale: Scale,
     style: Style,
-    gathered: Vec<u8, Global>,
+    gathered: Gathered,
 }
 
 /// What becomes of results.
@@ -71,21 +70,8 @@ impl Lines {
         Ok(Lines {
             scale,
             style,
-            gathered: Vec::with_capacity(alloc, 2 * GATHERED)?,
+            gathered: Gathered::new(alloc)?,
         })
-    }
-
-    fn write<W: Write>(&mut self, out: &mut W) -> Result<(), Failure>
-        ensures written { OnOk result (Appends (W.contents out.old) (W.contents out.new) (gathered_of self.old)) }
-        ensures empty { OnOk result (gathered_of self.new ≡ []) }
-        ensures scale { scale_of self.new ≡ scale_of self.old }
-        ensures style { style_of self.new ≡ style_of self.old }
-    {
-        if out.write_all(self.gathered.as_slice()).is_err() {
-            return Err(Failure::Output);
-        }
-        self.gathered.clear();
-        Ok(())
     }
 
     fn print<C: ClientState, A: Allocator + Copy, W: Write>(
@@ -101,18 +87,18 @@ impl Lines {
     {
         let (folder, name) = (found.entry.parent_path(), found.entry.file_name());
         let bytes = found.subtotal.bytes;
-        let gathered = &mut self.gathered;
+        let gathered = &mut self.gathered.bytes;
         push_line(self.scale, self.style, bytes, folder, name, gathered)?;
-        if self.gathered.len() < GATHERED && !self.style.to_terminal {
-            return Ok(());
+        if self.gathered.are_due(self.style.to_terminal) {
+            self.gathered.write(out)?;
         }
-        self.write(out)
+        Ok(())
     }
 
-    pub(crate) fn finish<W: Write>(&mut self, out: &mut W) -> Result<(), Failure>
+    pub(crate) fn finish<W: Write>(&mut self, out: &mut W) -> Result<(), Halt>
         ensures { OnOk result (Appends (W.contents out.old) (W.contents out.new) (gathered_of self.old)) }
     {
-        self.write(out)
+        self.gathered.finish(out)
     }
 }
 

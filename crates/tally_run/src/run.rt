@@ -4,9 +4,8 @@ ghost use Rattle.std.specs.Arc.{arc_value};
 ghost use Rattle.std.specs.Io.KnownBytes.{Appends};
 ghost use Rattle.jwalk_subtotals.specs.Files.{files_of};
 ghost use Rattle.tally_text.specs.Nodes.{trees_of};
-ghost use Rattle.tally_words.specs.Asks.{texts_of};
+ghost use Rattle.program_parts.specs.Values.{texts_of};
 ghost use Rattle.tally_words.specs.AsksFor.{AskForText};
-ghost use Rattle.tally_words.specs.Refusal.{status_of as status_for};
 ghost use Rattle.tally_run.specs.Roots.{CountsRoot, CountsRoots};
 ghost use Rattle.tally_run.specs.Run.{roots_asked, Ends, Counts, WritesAsked};
 ghost use Rattle.tally_run.specs.Walks.{counted_below};
@@ -25,6 +24,9 @@ use jwalk::Host;
 use jwalk::file_system::FileSystem;
 use jwalk_ignore::texts::Texts;
 use jwalk_subtotals::Files;
+use program_parts::gathered::Gathered;
+use program_parts::halt::Halt;
+use program_parts::refusal::refuse;
 use seek_words::paths::Style;
 use std::alloc::{AllocError, Global};
 use std::io::Write;
@@ -35,7 +37,6 @@ use tally_text::scale::Scale;
 use tally_text::table::push_table;
 use tally_words::asked::Asked;
 use tally_words::form::Form;
-use tally_words::refusal::Refusal;
 use tally_words::words::read_words;
 
 fn are_lines(form: Form) -> bool
@@ -234,31 +235,13 @@ fn write_trees<W: Write>(
     screen: Screen,
     nodes: Nodes,
     out: &mut W,
-) -> Result<(), Failure>
+) -> Result<(), Halt>
     ensures { OnOk result (Appends (W.contents out.old) (W.contents out.new)
         (trees_text asked.now screen (trees_of nodes))) }
 {
     let trees = nodes.into_trees();
-    let text = text_of(alloc, asked, screen, trees.as_slice())?;
-    if out.write_all(text.as_slice()).is_err() {
-        return Err(Failure::Output);
-    }
-    Ok(())
-}
-
-fn write_rest<W: Write>(
-    alloc: Global,
-    asked: &Asked<'_>,
-    screen: Screen,
-    results: Results,
-    out: &mut W,
-) -> Result<(), Failure>
-    ensures { OnOk result (Finishes asked.now screen results (W.contents out.old) (W.contents out.new)) }
-{
-    match results {
-        Results::Lines(mut lines) => lines.finish(out),
-        Results::Trees(nodes) => write_trees(alloc, asked, screen, nodes, out),
-    }
+    let bytes = text_of(alloc, asked, screen, trees.as_slice())?;
+    Gathered { bytes }.finish(out)
 }
 
 fn finish<W: Write>(
@@ -267,14 +250,13 @@ fn finish<W: Write>(
     screen: Screen,
     results: Results,
     out: &mut W,
-) -> Result<(), Failure>
+) -> Result<(), Halt>
     ensures { OnOk result (Finishes asked.now screen results (W.contents out.old) (W.contents out.new)) }
 {
-    write_rest(alloc, asked, screen, results, out)?;
-    if out.flush().is_err() {
-        return Err(Failure::Output);
+    match results {
+        Results::Lines(mut lines) => lines.finish(out),
+        Results::Trees(nodes) => write_trees(alloc, asked, screen, nodes, out),
     }
-    Ok(())
 }
 
 /// Returns whether a line tells how far the call is: on a terminal, unless lines of results are written to one meanwhile.
@@ -308,20 +290,6 @@ fn tally<
     err.wipe();
     finish(alloc, asked, screen, results, out)?;
     Ok(clean)
-}
-
-/// Prints what is asked for by words that ask for no counting, and returns the status.
-fn refuse<W: Write, E: Write>(refusal: &Refusal, out: &mut W, err: &mut E) -> u8
-    ensures refused { 0 < status_for refusal.now → result ≡ status_for refusal.now }
-    ensures text { status_for refusal.now ≡ 0 → result ≤ 1 }
-    ensures untouched { result ≡ 2 → W.contents out.new ≡ W.contents out.old }
-{
-    let status = refusal.status();
-    if status > 0 {
-        let _ = write!(err, "{refusal}");
-        return status;
-    }
-    u8::from(write!(out, "{refusal}").is_err() || out.flush().is_err())
 }
 
 /// What ended the call before its end is reported.
@@ -373,6 +341,6 @@ pub fn run<
             told.wipe();
             status_of(ended, err)
         }
-        Err(refusal) => refuse(&refusal, out, err),
+        Err(refusal) => refuse(&refusal, refusal.status(), out, err),
     }
 }

@@ -1,5 +1,5 @@
 //! The walks below roots.
-ghost use Rattle.std.specs.Prelude.{◌≡◌, is_some, string_bytes, IfOk};
+ghost use Rattle.std.specs.Prelude.{◌≡◌, IfOk};
 ghost use Rattle.std.specs.Arc.{arc_value};
 ghost use Rattle.jwalk.specs.WalkDir.{file_system_of, options_of, root_of, state_of};
 ghost use Rattle.jwalk_ignore.specs.Callback.Excluding.{excluded_of};
@@ -7,7 +7,7 @@ ghost use Rattle.jwalk_ignore.specs.Callback.Given.{no_rules_yet, rules_alone};
 ghost use Rattle.jwalk_ignore.specs.Callback.IgnoreViews.{next_of, settings_of, texts_of};
 ghost use Rattle.jwalk_ignore.specs.Callback.Kept.{ignoring_walk};
 ghost use Rattle.jwalk_subtotals.specs.Files.{files_of};
-ghost use Rattle.tally_run.specs.Walks.{all_below, counted_below, kept_below, options_by, CountsBelow};
+ghost use Rattle.tally_run.specs.Walks.{all_below, counted_below, kept_below, walk_options, CountsBelow};
 
 use crate::counting::{Counted, count_walk};
 use crate::failure::Failure;
@@ -15,73 +15,19 @@ use crate::progress::Report;
 use crate::results::Results;
 use crate::screen::Screen;
 use jwalk::file_system::FileSystem;
-use jwalk::read_dir::NoProcess;
-use jwalk::{ClientState, Crew, Host, Parallelism, WalkDirGeneric};
+use jwalk::{Crew, Host};
 use jwalk_ignore::builder::with_hidden_shown;
 use jwalk_ignore::excluding::Excluding;
 use jwalk_ignore::ignore_files::IgnoreFiles;
 use jwalk_ignore::kept_rules::{KeptRules, KeptStates};
 use jwalk_ignore::texts::Texts;
 use jwalk_subtotals::Files;
+use program_walks::crew::crew_of;
+use program_walks::options::{Plain, WalkOptions};
 use std::alloc::{AllocError, Global};
 use std::io::Write;
 use std::sync::Arc;
-use std::thread::{Threads, available_parallelism};
 use tally_words::asked::Asked;
-
-/// A walk that isn't begun, with the states of ignore files.
-type Plain<T, S> = WalkDirGeneric<KeptStates, Arc<S>, NoProcess, Global, Crew<T>>;
-
-/// Returns how many threads read: as many as are asked for, or as can run at a time.
-fn threads_of<T: Threads>(rt: &T, asked: &Asked<'_>) -> usize {
-    match asked.threads {
-        Some(threads) => threads,
-        None => match available_parallelism(rt) {
-            Ok(threads) => threads.get(),
-            Err(_) => 1,
-        },
-    }
-}
-
-/// There is none for one thread.
-fn crew_of<T: Host>(
-    rt: &T,
-    alloc: Global,
-    asked: &Asked<'_>,
-) -> Result<Option<Arc<Crew<T>>>, AllocError> {
-    let threads = threads_of(rt, asked);
-    if threads < 2 {
-        return Ok(None);
-    }
-    Ok(Some(Arc::new(alloc, Crew::new(rt.clone()?, 1, threads))?))
-}
-
-/// Its entries keep their metadata.
-fn walk_of<C: ClientState, T: Host, S: FileSystem>(
-    asked: &Asked<'_>,
-    fs: S,
-    root: String<Global>,
-    crew: &Option<Arc<Crew<T>>>,
-) -> Result<WalkDirGeneric<C, S, NoProcess, Global, Crew<T>>, AllocError>
-    ensures file_system { IfOk result (λ walk. file_system_of walk ≡ fs) }
-    ensures root { IfOk result (λ walk. root_of walk ≡ string_bytes root) }
-    ensures state { IfOk result (λ walk. C.ReadDirState.is_default (state_of walk)) }
-    ensures options { IfOk result (λ walk. options_of walk ≡ options_by (is_some crew.now) asked.now) }
-{
-    let mut walk = WalkDirGeneric::with_crew(fs, root)
-        .sort(asked.sort)
-        .skip_hidden(asked.exclude_hidden)
-        .follow_links(asked.follow)
-        .same_file_system(asked.one_file_system)
-        .keep_metadata(true);
-    if let Some(crew) = crew {
-        walk = walk.parallelism(Parallelism::RayonExistingPool {
-            pool: crew.clone()?,
-            busy_timeout: None,
-        });
-    }
-    Ok(walk)
-}
 
 fn count_ruled<
     T: Host,
@@ -150,7 +96,7 @@ impl<
             screen,
             disk: Arc::new(alloc, disk)?,
             texts: Arc::new(alloc, texts)?,
-            crew: crew_of(rt, alloc, asked)?,
+            crew: crew_of(rt, alloc, asked.threads)?,
         })
     }
 
@@ -170,6 +116,20 @@ impl<
         &self.disk
     }
 
+    /// Entries keep their metadata.
+    fn options(&self) -> WalkOptions
+        ensures { result ≡ walk_options self.now.asked.now }
+    {
+        WalkOptions {
+            sort: self.asked.sort,
+            hidden: !self.asked.exclude_hidden,
+            follow: self.asked.follow,
+            one_file_system: self.asked.one_file_system,
+            metadata: true,
+            greatest: None,
+        }
+    }
+
     fn count_all<W: Write, E: Report>(
         &self,
         alloc: Global,
@@ -187,7 +147,9 @@ impl<
         let excluding = Excluding::new(alloc, self.asked.excludes.as_slice(), root)?;
         let root = String::from_str(alloc, root)?;
         let disk = self.disk.clone()?;
-        let walk = walk_of::<((), ()), _, _>(self.asked, disk, root, &self.crew)?;
+        let walk = self
+            .options()
+            .walk_of::<((), ()), _, _, _>(disk, root, &self.crew)?;
         let walk = walk.process_read_dir(excluding);
         count_walk(
             alloc,
@@ -221,7 +183,9 @@ impl<
             .then(excluding);
         let root = String::from_str(alloc, root)?;
         let disk = self.disk.clone()?;
-        let walk = walk_of::<KeptStates, _, _>(self.asked, disk, root, &self.crew)?;
+        let walk = self
+            .options()
+            .walk_of::<KeptStates, _, _, _>(disk, root, &self.crew)?;
         count_ruled(
             alloc,
             self.screen,

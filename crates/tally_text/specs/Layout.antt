@@ -1,6 +1,6 @@
 -- Rows of a table.
 use Rattle.std.specs.Prelude.{ℕ, zero, suc, ◌*◌, ◌-◌, ◌/◌, ◌^◌, ◌==◌, min, List, [], ◌∷◌, ◌++◌, length, codes, if◌then◌else◌}
-use Rattle.seek_words.specs.Masked.{masked}
+use Rattle.program_parts.specs.Masked.{masked}
 use Rattle.tally_text.specs.declared.layout.Layout.{Layout}
 use Rattle.tally_text.specs.Scale.{size_text}
 

@@ -3,7 +3,7 @@ ghost use Rattle.std.specs.Prelude.{◌≡◌, ◌≤◌, ◌++◌, OnOk};
 ghost use Rattle.tally_text.specs.Layout.{repeated, marks_of, bar_text, size_column, shown_name, front_text, label_text, row_text};
 
 use crate::scale::Scale;
-use seek_words::masked::masked;
+use program_parts::masked::masked;
 use std::alloc::{AllocError, Global};
 
 /// The layout of a table.

@@ -1,3 +1,2 @@
-pub mod AsksFacts
 pub mod CommandFacts
 pub mod EndFacts

@@ -1,29 +1,10 @@
 -- What words ask for, by the values that options were given.
-use Rattle.std.specs.Prelude.{◌≡◌, ℕ, ◌<◌, ◌^◌, Bool, nat_lt, List, [], map, codes, Option, Some, None, unwrap_or, SomeIff, if◌then◌else◌}
-use Rattle.std.specs.Borrow.{Bor}
-use Rattle.std.specs.Str.Parse.{IsNumeral, digits_value, without_leading_plus}
-use Rattle.clap.specs.Words.{Row, Text, all_of, count_of, one_of}
+use Rattle.std.specs.Prelude.{◌≡◌, ℕ, List, codes, Option, Some, if◌then◌else◌}
+use Rattle.clap.specs.Words.{Row, one_of}
+use Rattle.program_parts.specs.Values.{is_named, values_in, texts_of, IsNumberOf}
 use Rattle.tally_words.specs.declared.asked.Asked.{Asked}
 use Rattle.tally_words.specs.declared.form.Form.{Form}
 use Rattle.tally_words.specs.declared.form.Form.TheVariants.{Table, Lines, ZeroLines, Json}
-
--- whether an option without a value was named
-abbrev pub is_named : List Row → Text → Bool
-is_named rows id = nat_lt 0 (count_of id rows)
-
--- the values of an option
-abbrev pub values_in : List Row → Text → List Text
-values_in rows id = unwrap_or (all_of id rows) []
-
--- the texts of words
-abbrev pub texts_of : List (Bor Text) → List Text
-texts_of = map (λ it. it.now)
-
--- The number that a text is, if it is one of 64 bits.
-abbrev pub IsNumberOf : Option Text → Option ℕ → Type 0
-IsNumberOf None number = number ≡ None
-IsNumberOf (Some text) number =
-    SomeIff number (IsNumeral 10 (without_leading_plus text) × (digits_value 10 (without_leading_plus text) < 2 ^ 64)) (digits_value 10 (without_leading_plus text))
 
 -- The greatest depth that is named: 0 where the totals alone are asked for.
 abbrev pub IsDepthIn : List Row → Option ℕ → Type 0

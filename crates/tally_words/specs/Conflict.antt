@@ -1,11 +1,7 @@
 -- Options that exclude each other.
-use Rattle.std.specs.Prelude.{Bool, ◌&&◌, ◌||◌, List, codes, is_some}
-use Rattle.clap.specs.Words.{Row, Text, first_of}
-use Rattle.tally_words.specs.Asks.{is_named}
-
--- whether an option has a value
-abbrev pub has_value : List Row → Text → Bool
-has_value rows id = is_some (first_of id rows)
+use Rattle.std.specs.Prelude.{Bool, ◌&&◌, ◌||◌, List, codes}
+use Rattle.clap.specs.Words.{Row}
+use Rattle.program_parts.specs.Values.{has_value, is_named}
 
 -- whether lines are asked for
 abbrev pub asks_lines : List Row → Bool

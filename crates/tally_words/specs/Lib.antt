@@ -1,4 +1,3 @@
-pub mod Status
 pub mod Command
 pub mod Asks
 pub mod Conflict

@@ -3,7 +3,7 @@ use Rattle.std.specs.Prelude.{◌≡◌, ℕ, true, List}
 use Rattle.clap.specs.Words.{HasKind, Text, fault_of, kind_of, matches_of}
 use Rattle.tally_words.specs.Command.{tally_app}
 use Rattle.tally_words.specs.Conflict.{has_conflict}
-use Rattle.tally_words.specs.Status.{status_of_kind}
+use Rattle.program_parts.specs.Status.{status_of_kind}
 use Rattle.tally_words.specs.declared.refusal.Refusal.{Refusal}
 use Rattle.tally_words.specs.declared.refusal.Refusal.TheVariants.{Words, Conflict, Memory}
 

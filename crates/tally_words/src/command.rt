@@ -1,53 +1,12 @@
 //! The command line.
-ghost use Rattle.std.specs.Prelude.{◌≡◌, ◌∷◌, [], false, IfOk};
-ghost use Rattle.clap.specs.Words.{app_of, rule_of};
-ghost use Rattle.tally_words.specs.Command.{flag_rule, short_rule, valued_rule, listed_rule, number_rule, threads_rule, root_rule, named_app, with_rules, shown_rules, form_rules, counted_rules, walked_rules, tally_app, HaveRules};
+ghost use Rattle.std.specs.Prelude.{◌≡◌, ◌∷◌, [], IfOk};
+ghost use Rattle.clap.specs.Words.{app_of};
+ghost use Rattle.program_parts.specs.Rules.{root_rule, with_rules, HaveRules};
+ghost use Rattle.tally_words.specs.Command.{named_app, shown_rules, form_rules, counted_rules, walked_rules, tally_app};
 
-use clap::{Arg, ArgAction, Command};
+use clap::{Arg, Command};
+use program_parts::options::{flag, listed, long_flag, number, root_option, threads_option};
 use std::alloc::{AllocError, Global};
-
-fn flag<'a>(alloc: Global, id: &'a str, help: &'a str) -> Arg<'a>
-    ensures rule { rule_of result ≡ flag_rule id.entry.now }
-    ensures local { result.global ≡ false }
-{
-    Arg::new(alloc, id)
-        .long(id)
-        .action(ArgAction::Count)
-        .help(help)
-}
-
-fn short<'a>(alloc: Global, id: &'a str, letter: char, help: &'a str) -> Arg<'a>
-    ensures rule { rule_of result ≡ short_rule id.entry.now letter }
-    ensures local { result.global ≡ false }
-{
-    flag(alloc, id, help).short(letter)
-}
-
-fn valued<'a>(alloc: Global, id: &'a str, letter: char, value: &'a str, help: &'a str) -> Arg<'a>
-    ensures rule { rule_of result ≡ valued_rule id.entry.now letter }
-    ensures local { result.global ≡ false }
-{
-    Arg::new(alloc, id)
-        .short(letter)
-        .long(id)
-        .value_name(value)
-        .action(ArgAction::Set)
-        .help(help)
-}
-
-fn number<'a>(alloc: Global, id: &'a str, letter: char, help: &'a str) -> Arg<'a>
-    ensures rule { rule_of result ≡ number_rule id.entry.now letter }
-    ensures local { result.global ≡ false }
-{
-    valued(alloc, id, letter, "N", help).value_parser(clap::value_parser!(usize))
-}
-
-fn listed<'a>(alloc: Global, id: &'a str, letter: char, value: &'a str, help: &'a str) -> Arg<'a>
-    ensures rule { rule_of result ≡ listed_rule id.entry.now letter }
-    ensures local { result.global ≡ false }
-{
-    valued(alloc, id, letter, value, help).action(ArgAction::Append)
-}
 
 fn shown_options<'a>(alloc: Global) -> Result<Vec<Arg<'a>>, AllocError>
     ensures { IfOk result (λ options. HaveRules options.items shown_rules) }
@@ -56,10 +15,10 @@ fn shown_options<'a>(alloc: Global) -> Result<Vec<Arg<'a>>, AllocError>
         number(
             alloc,
             "max-depth",
-            'd',
             "Write what lies up to N levels below a root [default: 1, and any for lines and JSON]"
-        ),
-        short(
+        )
+        .short('d'),
+        flag(
             alloc,
             "all",
             'a',
@@ -68,10 +27,10 @@ fn shown_options<'a>(alloc: Global) -> Result<Vec<Arg<'a>>, AllocError>
         number(
             alloc,
             "largest",
-            'n',
             "Write the N largest of each directory, and the rest as one line"
-        ),
-        short(
+        )
+        .short('n'),
+        flag(
             alloc,
             "summarize",
             's',
@@ -84,19 +43,19 @@ fn form_options<'a>(alloc: Global) -> Result<Vec<Arg<'a>>, AllocError>
     ensures { IfOk result (λ options. HaveRules options.items form_rules) }
 {
     Ok(vec![in alloc;
-        short(alloc, "bytes", 'b', "Write sizes in bytes"),
-        flag(
+        flag(alloc, "bytes", 'b', "Write sizes in bytes"),
+        long_flag(
             alloc,
             "plain",
             "Write lines of a size and a path, children before parents"
         ),
-        short(
+        flag(
             alloc,
             "print0",
             '0',
             "Write such lines with a zero byte behind each, in place of a line feed"
         ),
-        flag(alloc, "json", "Write one JSON document"),
+        long_flag(alloc, "json", "Write one JSON document"),
     ]?)
 }
 
@@ -104,13 +63,13 @@ fn counted_options<'a>(alloc: Global) -> Result<Vec<Arg<'a>>, AllocError>
     ensures { IfOk result (λ options. HaveRules options.items counted_rules) }
 {
     Ok(vec![in alloc;
-        flag(
+        long_flag(
             alloc,
             "apparent",
             "Count lengths, and not what is allocated"
         ),
-        short(alloc, "count-links", 'l', "Count each name of a file"),
-        flag(
+        flag(alloc, "count-links", 'l', "Count each name of a file"),
+        long_flag(
             alloc,
             "exclude-hidden",
             "Leave out names that start with a dot"
@@ -122,46 +81,28 @@ fn counted_options<'a>(alloc: Global) -> Result<Vec<Arg<'a>>, AllocError>
             "LINE",
             "Leave out what this line of an ignore file names"
         ),
-        flag(alloc, "ignore", "Leave out what ignore files name"),
+        long_flag(alloc, "ignore", "Leave out what ignore files name"),
     ]?)
 }
 
 fn walked_options<'a>(alloc: Global) -> Result<Vec<Arg<'a>>, AllocError>
     ensures { IfOk result (λ options. HaveRules options.items walked_rules) }
 {
-    let threads = valued(
-        alloc,
-        "threads",
-        'j',
-        "N",
-        "Threads that read directories [default: as many as can run at a time]",
-    );
     Ok(vec![in alloc;
-        short(
+        flag(
             alloc,
             "one-file-system",
             'x',
             "Read no directories on other file systems"
         ),
-        short(alloc, "follow", 'L', "Follow links"),
-        flag(
+        flag(alloc, "follow", 'L', "Follow links"),
+        long_flag(
             alloc,
             "sort",
             "Read the entries of a directory in the order of their names"
         ),
-        threads.value_parser(clap::value_parser!(usize).range(1..)),
+        threads_option(alloc),
     ]?)
-}
-
-fn root_option<'a>(alloc: Global) -> Arg<'a>
-    ensures rule { rule_of result ≡ root_rule }
-    ensures local { result.global ≡ false }
-{
-    Arg::new(alloc, "root")
-        .value_name("ROOT")
-        .action(ArgAction::Append)
-        .num_args(0..)
-        .help("What to count [default: the folder that it runs in]")
 }
 
 fn named<'a>(alloc: Global) -> Result<Command<'a>, AllocError>
@@ -170,7 +111,7 @@ fn named<'a>(alloc: Global) -> Result<Command<'a>, AllocError>
     Command::new(alloc, "tally")
         .version("1.0")
         .about("Prints how much is below each directory")
-        .arg(root_option(alloc))
+        .arg(root_option(alloc, "What to count [default: the folder that it runs in]"))
 }
 
 pub(crate) fn command<'a>(alloc: Global) -> Result<Command<'a>, AllocError>

@@ -1,9 +1,8 @@
 //! Why words are refused.
 ghost use Rattle.std.specs.Prelude.{◌≡◌};
-ghost use Rattle.tally_words.specs.Status.{status_of_kind};
 
 use clap::Error;
-use clap::error::ErrorKind;
+use program_parts::refusal::status_of_kind;
 use std::alloc::AllocError;
 use std::fmt;
 
@@ -16,17 +15,6 @@ pub enum Refusal {
     Conflict(&'static str, &'static str),
     /// Memory ran out.
     Memory,
-}
-
-/// Help and the version have the status 0.
-fn status_of_kind(kind: ErrorKind) -> u8
-    ensures { result ≡ status_of_kind kind }
-{
-    match kind {
-        ErrorKind::DisplayHelp | ErrorKind::DisplayVersion => 0,
-        ErrorKind::OutOfMemory => 1,
-        _ => 2,
-    }
 }
 
 impl Refusal {

@@ -1,9 +1,9 @@
 //! What words ask for.
-ghost use Rattle.std.specs.Prelude.{◌≡◌, codes, is_some, map, IfOk, IfErr};
-ghost use Rattle.clap.specs.Words.{found_of, rows_of, one_of};
-ghost use Rattle.tally_words.specs.Asks.{is_named, values_in, texts_of, form_in, IsNumberOf, IsDepthIn, Asks};
+ghost use Rattle.std.specs.Prelude.{◌≡◌, is_some, map, IfOk, IfErr};
+ghost use Rattle.clap.specs.Words.{found_of, rows_of};
+ghost use Rattle.tally_words.specs.Asks.{form_in, IsDepthIn, Asks};
 ghost use Rattle.tally_words.specs.AsksFor.{AskFor, GiveValues};
-ghost use Rattle.tally_words.specs.Conflict.{has_value, asks_lines, has_form_conflict, has_total_conflict, has_conflict};
+ghost use Rattle.tally_words.specs.Conflict.{asks_lines, has_form_conflict, has_total_conflict, has_conflict};
 ghost use Rattle.tally_words.specs.Refusal.{IsRefusedFor};
 
 use crate::asked::Asked;
@@ -11,47 +11,9 @@ use crate::command::command;
 use crate::form::Form;
 use crate::refusal::Refusal;
 use clap::ArgMatches;
+use program_parts::values::{has_value, is_named, number_of, values_of};
 use std::alloc::{AllocError, Global};
 use std::convert::AsStr;
-
-fn is_named(found: &ArgMatches<'_>, id: &str) -> bool
-    ensures { result ≡ is_named (rows_of (found_of found.now)) id.now }
-{
-    found.get_count(id) > 0
-}
-
-fn has_value(found: &ArgMatches<'_>, id: &str) -> bool
-    ensures { result ≡ has_value (rows_of (found_of found.now)) id.now }
-{
-    found.get_str(id).is_some()
-}
-
-fn copied<'w>(alloc: Global, texts: &[&'w str]) -> Result<Vec<&'w str>, AllocError>
-    ensures { IfOk result (λ copy. copy.items ≡ texts.now) }
-{
-    let mut copy = Vec::new(alloc);
-    copy.extend_from_slice(texts)?;
-    Ok(copy)
-}
-
-fn values_of<'w>(
-    alloc: Global,
-    found: &ArgMatches<'w>,
-    id: &str,
-) -> Result<Vec<&'w str>, AllocError>
-    ensures { IfOk result (λ values. texts_of values.items ≡ values_in (rows_of (found_of found.now)) id.now) }
-{
-    match found.get_strs(id) {
-        Some(values) => copied(alloc, values),
-        None => Ok(Vec::new(alloc)),
-    }
-}
-
-fn number_of(found: &ArgMatches<'_>, id: &str) -> Option<usize>
-    ensures { IsNumberOf (one_of id.now (rows_of (found_of found.now))) result }
-{
-    found.get_one::<usize>(id)
-}
 
 /// It is 0 where the totals alone are asked for.
 fn depth_of(found: &ArgMatches<'_>) -> Option<usize>

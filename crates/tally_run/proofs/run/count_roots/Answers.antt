@@ -1,6 +1,6 @@
 use Rattle.std.proofs.Common.{◌≡◌, ◌∙◌, ap, arith, length, take}
 use Rattle.std.proofs.Math.Seq.{take-length}
-use Rattle.tally_words.specs.Asks.{texts_of}
+use Rattle.program_parts.specs.Values.{texts_of}
 use Rattle.tally_run.proofs.RootFacts.{all_roots, no_roots, one_root, roots_as}
 use Rattle.tally_run.proofs.run.count_roots.Goals as goal
 

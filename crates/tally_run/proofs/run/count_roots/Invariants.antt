@@ -1,7 +1,7 @@
 use Rattle.std.proofs.Common.{take}
 use Rattle.std.specs.Arc.{arc_value}
 use Rattle.jwalk_subtotals.specs.Files.{files_of}
-use Rattle.tally_words.specs.Asks.{texts_of}
+use Rattle.program_parts.specs.Values.{texts_of}
 use Rattle.tally_run.specs.Walks.{counted_below}
 use Rattle.tally_run.proofs.RootFacts.{RootsSoFar}
 use Rattle.tally_run.proofs.run.count_roots.Given as goal

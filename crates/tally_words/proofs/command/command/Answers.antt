@@ -1,7 +1,8 @@
 use Rattle.std.proofs.Common.{◌∙◌, ap}
 use Rattle.std.proofs.lemmas.Result.{IfOk-weaker}
-use Rattle.tally_words.specs.Command.{counted_rules, form_rules, shown_rules, walked_rules, with_rules}
-use Rattle.tally_words.proofs.CommandFacts.{all_added}
+use Rattle.program_parts.specs.Rules.{with_rules}
+use Rattle.program_parts.proofs.RuleFacts.{all_added}
+use Rattle.tally_words.specs.Command.{counted_rules, form_rules, shown_rules, walked_rules}
 use Rattle.tally_words.proofs.command.command.Goals as goal
 
 pub returns : goal.returns

@@ -2,8 +2,8 @@ use Rattle.std.proofs.Common.{◌≡◌, ◌∙◌, ap, true}
 use Rattle.std.proofs.lemmas.Result.{IfOk-weaker}
 use Rattle.clap.specs.Simple.{app_of_fields}
 use Rattle.clap.specs.Words.{App, app_of}
+use Rattle.program_parts.proofs.RuleFacts.{one_added}
 use Rattle.tally_words.specs.Command.{named_app}
-use Rattle.tally_words.proofs.CommandFacts.{one_added}
 use Rattle.tally_words.proofs.command.named.Goals as goal
 
 pub returns : goal.returns

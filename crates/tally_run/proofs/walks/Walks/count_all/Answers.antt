@@ -7,9 +7,12 @@ use Rattle.jwalk.specs.WalkDir.{callback_of, file_system_of, options_of, root_of
 use Rattle.jwalk_ignore.specs.Callback.Excluding.{Excluded, excluded_by, excluded_of, excluding}
 use Rattle.jwalk_ignore.specs.Callback.Kept.{given_excluding}
 use Rattle.jwalk_ignore.proofs.KeptFacts.{whole_of}
-use Rattle.tally_words.specs.Asks.{texts_of}
-use Rattle.tally_run.specs.Walks.{excluded_asked, options_by}
-use Rattle.tally_run.proofs.WalkFacts.{below_counted, same_by_crew}
+use Rattle.program_parts.specs.Values.{texts_of}
+use Rattle.program_walks.specs.Options.{options_for, with_crew}
+use Rattle.program_walks.specs.declared.options.WalkOptions.{WalkOptions}
+use Rattle.program_walks.proofs.CrewFacts.{same_by_crew}
+use Rattle.tally_run.specs.Walks.{excluded_asked, options_asked}
+use Rattle.tally_run.proofs.WalkFacts.{below_counted}
 use Rattle.tally_run.proofs.walks.Walks.count_all.Goals as goal
 
 pub returns : goal.returns
@@ -23,7 +26,8 @@ returns g c =
     let over : arc_value (file_system_of walk) ≡ arc_value self.disk = ap arc_value (set.file_system ∙ built.file_system) ∙ c.in_ok-disk.ensures.cases in
     let lines : excluded_of (callback_of walk) ≡ excluded
     = ap excluded_of set.callback ∙ c.in_ok-excluding.ensures ∙ ap (λ l. excluded_by (texts_of l) c.args.root.now) c.as_slice.ensures.value in
-    let options : options_of walk ≡ options_by (is_some self.crew) asked = set.options ∙ built.options in
+    let options : options_of walk ≡ with_crew (is_some self.crew) (options_asked asked)
+    = set.options ∙ built.options ∙ ap (λ (o : WalkOptions). options_for o (is_some self.crew)) c.options.ensures in
     let root : root_of walk ≡ c.args.root.now = set.root ∙ built.root ∙ c.in_ok-root.ensures.ok in
     IfOk-weaker c.count_walk.result _ _
     (λ counted counts.
@@ -36,6 +40,6 @@ returns g c =
     })
     (λ fixed.
     whole_of (excluding excluded) (ap g.S.FileSystem.functions over) options root refl
-    ∙ same_by_crew (excluding excluded) (is_some self.crew) (g.S.FileSystem.functions (arc_value self.disk)) asked c.args.root.now blank)
+    ∙ same_by_crew (excluding excluded) (is_some self.crew) (g.S.FileSystem.functions (arc_value self.disk)) (options_asked asked) c.args.root.now blank)
     counts)
     c.count_walk.ensures

@@ -2,9 +2,9 @@ use Rattle.std.proofs.Common.{subst}
 use Rattle.std.specs.Str.Parse.{ParsesUnsigned, ExplainsUnsignedError, HasUnsignedDigitsIfOk}
 use Rattle.clap.specs.Words.{found_of}
 use Rattle.clap.proofs.WalkLemmas.{one_text-rows}
-use Rattle.tally_words.specs.Asks.{IsNumberOf}
-use Rattle.tally_words.proofs.AsksFacts.{number_read}
-use Rattle.tally_words.proofs.words.number_of.Goals as goal
+use Rattle.program_parts.specs.Values.{IsNumberOf}
+use Rattle.program_parts.proofs.ValueFacts.{number_read}
+use Rattle.program_parts.proofs.values.number_of.Goals as goal
 
 pub returns : goal.returns
 returns c =

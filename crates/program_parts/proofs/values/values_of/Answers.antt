@@ -2,9 +2,9 @@ use Rattle.std.proofs.Common.{◌∙◌, ap}
 use Rattle.std.proofs.lemmas.Result.{IfOk-weaker}
 use Rattle.clap.specs.Words.{found_of}
 use Rattle.clap.proofs.WalkLemmas.{raw_values-rows}
-use Rattle.tally_words.specs.Asks.{texts_of}
-use Rattle.tally_words.proofs.AsksFacts.{values_some, values_none}
-use Rattle.tally_words.proofs.words.values_of.Goals as goal
+use Rattle.program_parts.specs.Values.{texts_of}
+use Rattle.program_parts.proofs.ValueFacts.{values_some, values_none}
+use Rattle.program_parts.proofs.values.values_of.Goals as goal
 
 pub returns-in-Some : goal.returns-in-Some
 returns-in-Some c =

@@ -1,9 +1,9 @@
--- The statuses of words that ask for no count.
+-- The statuses of words that are refused, or ask for a text.
 use Rattle.std.specs.Prelude.{ℕ}
 use Rattle.clap.specs.declared.error.kind.ErrorKind.{ErrorKind}
 use Rattle.clap.specs.declared.error.kind.ErrorKind.TheVariants.{DisplayHelp, DisplayVersion, OutOfMemory}
 
--- of an error of the parser: help and version are wishes that are met
+-- the status of an error of the parser: help and version are granted
 abbrev pub status_of_kind : ErrorKind → ℕ
 status_of_kind DisplayHelp = 0
 status_of_kind DisplayVersion = 0

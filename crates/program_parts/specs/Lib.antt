@@ -1,0 +1,5 @@
+pub mod Gathered
+pub mod Masked
+pub mod Rules
+pub mod Status
+pub mod Values

@@ -1,0 +1,9 @@
+//! What the programs `seek` and `tally` share: words and their refusal, masked texts, and output that is gathered.
+#![tactic(auto)]
+
+pub mod gathered;
+pub mod halt;
+pub mod masked;
+pub mod options;
+pub mod refusal;
+pub mod values;
