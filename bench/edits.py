@@ -12,13 +12,12 @@ for each edit, which says whether it is refused, NOT REFUSED, a BAD EDIT, which 
 TRIED. The script ends with 1 if one isn't refused.
 
 With --twins it tries the edits of the gate, in crates/CRATE/must-fail, with a harmless body in the place of the wrong
-one: the one in bench/twins/CRATE/NAME.edit, or else what a rule makes (`twin_of`): a branch that is added is never
-taken, and a condition that is changed is what it was, negated twice. The prover must accept each such twin. One that is
-refused says that its edit may be refused for its form alone, and the script ends with 1.
+one, where a rule makes one (`twin_of`): a branch that is added is never taken, and a condition that is changed is what
+it was, negated twice. The prover must accept each such twin. One that is refused says that its edit may be refused for
+its form alone, and the script ends with 1.
 
-With --check nothing is proved, and it takes a second. Of each edit, of those that the gate tries and of the twins in
-bench/twins too, it is looked at whether each old text is in its file just once. What isn't is printed, and the script
-ends with 1.
+With --check nothing is proved, and it takes a second. Of each edit, also of those that the gate tries, it is looked at
+whether each old text stands once in its file. What doesn't is printed, and the script ends with 1.
 """
 import os
 import re
@@ -98,8 +97,8 @@ def check(asked):
     """Looks at the edits that are asked for, and at those that the gate tries. Returns how many can't be applied."""
     paths = [(crate, f"bench/edits/{crate}/{name}.edit") for crate, names in asked.items() for name in names]
     for crate in sorted(os.listdir(f"{TOP}/crates")):
-        for own in (f"crates/{crate}/must-fail", f"bench/twins/{crate}"):
-            paths += [(crate, f"{own}/{name}.edit") for name in edits_in(f"{TOP}/{own}")]
+        own = f"crates/{crate}/must-fail"
+        paths += [(crate, f"{own}/{name}.edit") for name in edits_in(f"{TOP}/{own}")]
     bad = 0
     for crate, path in paths:
         fault = fault_of(crate, f"{TOP}/{path}")
@@ -175,16 +174,10 @@ def twin_of(text):
     return f"{found[1]}\nold: {found[2]}\nnew: {made}\n" if made else None
 
 
-def twin_named(crate, name):
-    """The twin of an edit of the gate: the one that is written out, or else by rule; none if there is neither."""
-    written = f"{TOP}/bench/twins/{crate}/{name}.edit"
-    return read(written) if os.path.exists(written) else twin_of(read(f"{gate_edits(crate)}/{name}.edit"))
-
-
 def texts_of(crate, names, twins):
     """The texts of edits by name: of their twins, where there is one, or as they are."""
     if twins:
-        made = {name: twin_named(crate, name) for name in names}
+        made = {name: twin_of(read(f"{gate_edits(crate)}/{name}.edit")) for name in names}
         return {name: text for name, text in made.items() if text}
     return {name: read(f"{own_edits(crate)}/{name}.edit") for name in names}
 

@@ -4,8 +4,9 @@
     python3 bench/man.py           writes docs/man and docs/completions
     python3 bench/man.py --check   compares what is there with what it makes, and ends with status 1 if they differ
 
-The options of a program with a crate NAME_words are those of its command.rt, with their texts. Those of `walk` are the
-table of words in docs/PROGRAM.md. What the pages say of statuses and of lines is in tables of the documents.
+The options of a program with a crate NAME_words are those of its command.rt, with their texts, and of options.rt in
+program_parts, which it calls. Those of `walk` are the table of words in docs/PROGRAM.md. What the pages say of statuses
+and of lines is in tables of the documents.
 """
 import glob
 import os
@@ -15,6 +16,8 @@ import sys
 from command_line import Made, Option, command_line
 
 TOP = os.path.dirname(os.path.dirname(os.path.abspath(__file__)))
+# The options that command lines share, and the forms of options.
+SHARED = "crates/program_parts/src/options.rt"
 
 
 def read(path):
@@ -87,7 +90,7 @@ def without_links(text):
 
 def by_clap(path):
     """A program whose words are read by the crate `clap`."""
-    command, args = command_line(read(path))
+    command, args = command_line(read(path) + read(SHARED))
     name, page = command.name, f"docs/{command.name.upper()}.md"
     words = [it for it in args if not it.is_option()]
     shown = ["[OPTIONS]"] + [f"[{it.value}{'..' if it.repeats else ''}]" for it in words]

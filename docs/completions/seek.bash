@@ -5,6 +5,7 @@ _seek() {
     case $before in
     --and) compopt +o default; return ;;
     -E | --exclude) compopt +o default; return ;;
+    --search-path) compopt +o default; return ;;
     -j | --threads) compopt +o default; return ;;
     --min-depth) compopt +o default; return ;;
     -d | --max-depth | --maxdepth) compopt +o default; return ;;
@@ -12,11 +13,13 @@ _seek() {
     -t | --type) compopt +o default; COMPREPLY=($(compgen -W "f file d dir directory l symlink x executable p pipe s socket b block-device c char-device o other" -- "$word")); return ;;
     -e | --extension) compopt +o default; return ;;
     -S | --size) compopt +o default; return ;;
-    --changed-within | --newer) compopt +o default; return ;;
-    --changed-before) compopt +o default; return ;;
+    -o | --owner) compopt +o default; return ;;
+    --changed-within | --newer | --change-newer-than) compopt +o default; return ;;
+    --changed-before | --change-older-than) compopt +o default; return ;;
     --newer-than-file) compopt +o default; return ;;
     --max-results) compopt +o default; return ;;
+    --color) compopt +o default; return ;;
     esac
-    if [[ $word == -* ]]; then COMPREPLY=($(compgen -W "-g --glob -F --fixed-strings --and -p --full-path -i --ignore-case -s --case-sensitive -H --hidden -I --no-ignore -u --unrestricted -E --exclude -L --follow --one-file-system --mount --xdev --sort -j --threads --min-depth -d --max-depth --maxdepth --exact-depth -t --type -e --extension -S --size --changed-within --newer --changed-before --newer-than-file --max-results -1 -q --quiet -a --absolute-path -0 --print0 -h --help -V --version" -- "$word")); fi
+    if [[ $word == -* ]]; then COMPREPLY=($(compgen -W "-g --glob -F --fixed-strings --and -p --full-path -i --ignore-case -s --case-sensitive -H --hidden -I --no-ignore -u --unrestricted -E --exclude -L --follow --no-ignore-vcs --no-ignore-parent --search-path --one-file-system --mount --xdev --prune --sort -j --threads --min-depth -d --max-depth --maxdepth --exact-depth -t --type -e --extension -S --size -o --owner --changed-within --newer --change-newer-than --changed-before --change-older-than --newer-than-file --max-results -1 -q --quiet --has-results -a --absolute-path -l --list-details --color --strip-cwd-prefix -0 --print0 -h --help -V --version" -- "$word")); fi
 }
 complete -o default -F _seek seek

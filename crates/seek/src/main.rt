@@ -4,12 +4,21 @@
 use jwalk::file_system::{Patient, RealFs};
 use jwalk_ignore::real_texts::RealTexts;
 use seek_search::run::run;
+use seek_words::screen::Screen;
 use std::io::{IsTerminal, Write};
 use std::process::ExitCode;
 use std::{env, io};
 
 /// The disk, where a directory is opened again after a moment if no descriptor was left; and the files of rules on it.
 type Disk = (Patient<RealFs, HostRuntime>, RealTexts);
+
+/// Returns the value of a variable, or the empty text if it isn't set or isn't UTF-8.
+fn variable(rt: &HostRuntime, name: &str) -> String {
+    match env::var(rt, name) {
+        Ok(value) => value,
+        Err(_) => String::new(rt.alloc()),
+    }
+}
 
 /// Returns the words of the call, and the disk.
 fn call_of(rt: &HostRuntime) -> io::Result<(Vec<String>, Disk)> {
@@ -20,6 +29,12 @@ fn call_of(rt: &HostRuntime) -> io::Result<(Vec<String>, Disk)> {
 
 fn main(rt: HostRuntime) -> ExitCode {
     let mut err = rt.stderr();
+    let (no_color, ls_colors) = (variable(&rt, "NO_COLOR"), variable(&rt, "LS_COLORS"));
+    let screen = Screen {
+        is_terminal: rt.stdout().is_terminal(),
+        no_color: !no_color.is_empty(),
+        ls_colors: ls_colors.as_str(),
+    };
     let status = match call_of(&rt) {
         Ok((words, (disk, texts))) => run(
             &rt,
@@ -28,7 +43,7 @@ fn main(rt: HostRuntime) -> ExitCode {
             disk,
             texts,
             words.as_slice(),
-            rt.stdout().is_terminal(),
+            screen,
             &mut io::writer(&rt),
             &mut err,
         ),

@@ -1,5 +1,6 @@
 -- The statuses of words and patterns that are rejected.
 use Rattle.std.proofs.Common.{◌≡◌, ◌<◌, ◌≤◌, ◌⊎◌, ℕ, zero, suc, List, inl, inr, refl, ◌∙◌, arith}
+use Rattle.program_parts.proofs.StatusFacts.{told_zero}
 use Rattle.seek_words.proofs.EndFacts.{asked_for_text, refusal_most}
 use Rattle.seek_words.specs.AsksFor.{AskFor, AskForText}
 use Rattle.seek_words.specs.Refusal.{IsRefusedFor, status_of as status_for}
@@ -16,6 +17,7 @@ use Rattle.seek_found.specs.declared.sought.Sought.{Sought}
 pub never_zero : (why : BadPattern) → status_of why ≡ 0 → ⊥
 never_zero (bad.Expression pattern error) is = absurd (cc)
 never_zero (bad.Glob pattern) is = absurd (cc)
+never_zero (bad.Braces pattern) is = absurd (cc)
 never_zero bad.Memory is = absurd (cc)
 
 at_most_two : (n : ℕ) → n ≤ 2 → (n ≡ 0) ⊎ (n ≡ 1) ⊎ (n ≡ 2)
@@ -36,17 +38,13 @@ refused_ends words refusal status refused told text =
 
 -- of the refusals, only a text ends with 0
 pub text_asked : (words : List (List ℕ)) (refusal : Refusal) (status : ℕ) → IsRefusedFor words refusal → (0 < status_for refusal → status ≡ status_for refusal) → status ≡ 0 → AskForText words
-text_asked words refusal status refused told is =
-    elim (at_most_two (status_for refusal) (refusal_most refusal)) [
-      | inl none ↦ asked_for_text words refusal refused none
-      | inr (inl one) ↦ absurd (omega (arith, is, one, told (omega (arith, one))))
-      | inr (inr two) ↦ absurd (omega (arith, is, two, told (omega (arith, two))))
-    ]
+text_asked words refusal status refused told is = asked_for_text words refusal refused (told_zero (status_for refusal) status told is)
 
 -- a rejected pattern ends with its status
 pub rejected_ends : (words : List (List ℕ)) (asked : Asked) → AskFor words asked → (why : BadPattern) → IsBadFor asked why → (status : ℕ) → status ≡ status_of why → Ends words status
 rejected_ends words asked ask (bad.Expression pattern error) is status told = inl (inr (asked, ask, bad.Expression pattern error, is, refl), told)
 rejected_ends words asked ask (bad.Glob pattern) is status told = inl (inr (asked, ask, bad.Glob pattern, is, refl), told)
+rejected_ends words asked ask (bad.Braces pattern) is status told = inl (inr (asked, ask, bad.Braces pattern, is, refl), told)
 rejected_ends words asked ask bad.Memory is status told = inr (inr told)
 
 -- a search ends with 0 or 1

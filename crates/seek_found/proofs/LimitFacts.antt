@@ -60,14 +60,11 @@ module _ {R E : Type 0} (sought : Sought) where
   up_to_none None = refl
   up_to_none (Some n) = first_none n
 
-  -- nor is one more, if the limit isn't reached
-  one_within : (left : Option ℕ) (x : Item R E) → left ≢ Some 0 → up_to sought left (x ∷ []) ≡ x ∷ []
+  -- nor is one, if the limit isn't reached
+  pub one_within : (left : Option ℕ) (x : Item R E) → left ≢ Some 0 → up_to sought left (x ∷ []) ≡ x ∷ []
   one_within None x lasts = refl
   one_within (Some zero) x lasts = absurd (lasts refl)
   one_within (Some (suc n)) x lasts = ap (λ l. x ∷ l) (first_none (if is_hit sought x then n else suc n))
-
-  pub more_within : (left : Option ℕ) (xs : List (Item R E)) (x : Item R E) → up_to sought left xs ≡ xs → left_after sought left xs ≢ Some 0 → up_to sought left (xs ++ x ∷ []) ≡ xs ++ x ∷ []
-  more_within left xs x within lasts = up_to_more left xs (x ∷ []) within ∙ ap (λ l. xs ++ l) (one_within (left_after sought left xs) x lasts)
 
   -- nothing is left if the limit is reached
   pub up_to_full : (left : Option ℕ) (ys : List (Item R E)) → left ≡ Some 0 → up_to sought left ys ≡ []

@@ -10,14 +10,15 @@ use Rattle.jwalk_job.specs.declared.error.Error.{Error}
 use Rattle.jwalk_job.specs.Entry.{item}
 use Rattle.jwalk_job.specs.Given.{Given, counted_item, counted_list}
 use Rattle.seek_words.specs.Sought.{Sought}
-use Rattle.seek_words.specs.Lines.{Form}
+use Rattle.seek_words.specs.Layout.{Form}
 use Rattle.seek_found.specs.Found.{found_line, found_lines, is_clean}
 use Rattle.seek_found.specs.Limit.{is_hit, left_after, up_to}
+use Rattle.seek_found.specs.Prune.{unpruned}
 use Rattle.seek_found.specs.Roots.{AreBelow, Below, PrintsSuch}
-use Rattle.seek_found.proofs.CleanFacts.{all_seam, first_written, rest_written}
-use Rattle.seek_found.proofs.FoundFacts.{appends_none, appends_then}
+use Rattle.program_parts.proofs.GatheredFacts.{gathered_written}
+use Rattle.seek_found.proofs.FoundFacts.{all_seam, appends_none, appends_then}
 use Rattle.seek_found.proofs.LimitFacts.{left_as_before, left_then, never_full, one_of_one, up_to_more, up_to_none}
-use Rattle.seek_found.proofs.WholeFacts.{all_clean, same_after, same_lines, same_up_to}
+use Rattle.seek_found.proofs.WholeFacts.{all_clean, same_after, same_lines, same_unpruned, same_up_to}
 
 module _ {sought : Sought} {form : Form} {left left' : Option ℕ} {old new : Option (List ℕ)} {clean : Bool} where
   -- answers with further facts
@@ -52,15 +53,18 @@ module _ {are : List (Item Worth Worth) → Type 0} {sought : Sought} {form : Fo
 
 -- the text that is printed for answers is printed for what they count as
 pub counted_printed : {C A R E : Type 0} (given : Given R E) (are : List (Item Worth Worth) → Type 0) (sought : Sought) (form : Form) (left left' : Option ℕ) (old new : Option (List ℕ)) (clean : Bool) (xs : List (Result (DirEntry C A R E) (Error A)))
-    → are (counted_list given xs) → up_to sought left (map item xs) ≡ map item xs → left' ≡ left_after sought left (map item xs) → Appends old new (found_lines sought form (map item xs)) → clean ≡ list_all is_clean (map item xs) → PrintsSuch are sought form left left' old new clean
-counted_printed given are sought form left left' old new clean xs such within limit lines all = record {
-  answers = counted_list given xs;
-  such = such;
-  within = same_up_to given sought left (map item xs) ∙ ap (map (counted_item given)) within;
-  limit = limit ∙ sym (same_after given sought left (map item xs));
-  lines = subst (λ l. Appends old new l) (sym (same_lines given sought form (map item xs))) lines;
-  all = all ∙ sym (all_clean given (map item xs));
-}
+    → are (unpruned sought (counted_list given xs)) → up_to sought left (unpruned sought (map item xs)) ≡ unpruned sought (map item xs) → left' ≡ left_after sought left (unpruned sought (map item xs))
+    → Appends old new (found_lines sought form (unpruned sought (map item xs))) → clean ≡ list_all is_clean (unpruned sought (map item xs)) → PrintsSuch are sought form left left' old new clean
+counted_printed given are sought form left left' old new clean xs such within limit lines all =
+    let kept = unpruned sought (map item xs) in
+    record {
+      answers = map (counted_item given) kept;
+      such = subst are (same_unpruned given sought (map item xs)) such;
+      within = same_up_to given sought left kept ∙ ap (map (counted_item given)) within;
+      limit = limit ∙ sym (same_after given sought left kept);
+      lines = subst (λ l. Appends old new l) (sym (same_lines given sought form kept)) lines;
+      all = all ∙ sym (all_clean given kept);
+    }
 
 -- gathered lines that are written at the end
 pub such_written_last : {are : List (Item Worth Worth) → Type 0} {sought : Sought} {form : Form} {left left' : Option ℕ} {clean : Bool} (old mid new : Option (List ℕ)) (none last : List ℕ) → none ≡ []
@@ -70,7 +74,7 @@ such_written_last {sought} {form} old mid new none last empty printed rest = rec
   such = printed.such;
   within = printed.within;
   limit = printed.limit;
-  lines = first_written old new none (found_lines sought form printed.answers) empty (rest_written (append_known old none) mid new last (found_lines sought form printed.answers) printed.lines rest);
+  lines = gathered_written old mid new none last (found_lines sought form printed.answers) empty printed.lines rest;
   all = printed.all;
 }
 
@@ -133,7 +137,7 @@ module _ (below : Below) (may_stop : Type 0) where
         within = up_to_more sought left before.answers rest.answers before.within ∙ ap (λ l. before.answers ++ l) (seam ∙ rest.within);
         limit = rest.limit ∙ ap (λ l. left_after sought l rest.answers) before.limit ∙ sym (left_then sought left before.answers rest.answers);
         lines = rw (flat_map-append (found_line sought form) before.answers rest.answers) (appends_then a b c (found_lines sought form before.answers) (found_lines sought form rest.answers) before.lines rest.lines);
-        all = ap₂ (λ p q. p && q) before.all rest.all ∙ sym (all_seam sought form before.answers rest.answers);
+        all = ap₂ (λ p q. p && q) before.all rest.all ∙ sym (all_seam before.answers rest.answers);
       }
 
 -- a search that may stop may also stop for a weaker cause

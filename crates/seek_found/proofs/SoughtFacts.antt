@@ -5,7 +5,7 @@ use Rattle.std.specs.Result.{IsErrAnd}
 use Rattle.std.proofs.Math.ListN.{get_or}
 use Rattle.std.proofs.lemmas.List.{map-append, take_more}
 use Rattle.seek_words.proofs.AsksFacts.{named_at}
-use Rattle.seek_words.specs.Asks.{texts_of}
+use Rattle.program_parts.specs.Values.{texts_of}
 use Rattle.seek_words.specs.declared.asked.Asked.{Asked}
 use Rattle.seek_found.specs.BadPattern.{AreBadPatterns, IsBadPattern}
 use Rattle.seek_found.specs.NamePattern.{IsPatternOf}

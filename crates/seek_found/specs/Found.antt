@@ -7,16 +7,16 @@ use Rattle.jwalk_job.specs.declared.dir_entry.DirEntry.{DirEntry}
 use Rattle.jwalk_job.specs.declared.error.Error.{Error}
 use Rattle.jwalk_job.specs.Entry.{item}
 use Rattle.jwalk_model.specs.Entry.{Entry, Item}
-use Rattle.seek_words.specs.Lines.{form_line}
 use Rattle.seek_words.specs.Sought.{Sought, is_found}
-use Rattle.seek_words.specs.Lines.{Form}
+use Rattle.seek_words.specs.Layout.{Form, form_line}
 use Rattle.seek_found.specs.Limit.{left_after, up_to}
+use Rattle.seek_found.specs.Prune.{unpruned}
 
 module _ {R E : Type 0} where
   -- the line of an entry, if it is looked for
   abbrev pub entry_line : Sought → Form → Entry R E → List ℕ
   entry_line sought form e =
-      if is_found sought e.depth e.file_type e.parent_path e.file_name e.seen then form_line form e.parent_path e.file_name else []
+      if is_found sought e.depth e.file_type e.parent_path e.file_name e.seen then form_line form e.file_type e.seen e.parent_path e.file_name else []
 
   -- the text that is printed for an answer
   abbrev pub found_line : Sought → Form → Item R E → List ℕ
@@ -43,12 +43,12 @@ pub record PrintsClean {R E : Type 0} (answers : List (Item R E)) (sought : Soug
 
 module _ {S C A R E : Type 0} (steps : S → Option (Result (DirEntry C A R E) (Error A)) → S → Type 0) (answers : S) where
   -- The iterator was called until it ended or the limit was reached. The line of each answer that is looked for was
-  -- printed, and the result says whether all answers are clean. `left` is how many more may be found before, and
-  -- `left'` after it.
+  -- printed, and the result says whether all answers are clean, without those below a find if these aren't looked for.
+  -- `left` is how many more may be found before, and `left'` after it.
   pub record PrintsFound (sought : Sought) (form : Form) (left left' : Option ℕ) (old new : Option (List ℕ)) (clean : Bool) : Type 0 where
     pub answered : List (Result (DirEntry C A R E) (Error A))
     pub calls : Drains steps answers answered ⊎ ((left' ≡ Some 0) × ((end : S) × Yields steps answers answered end))
-    pub within : up_to sought left (map item answered) ≡ map item answered
-    pub limit : left' ≡ left_after sought left (map item answered)
-    pub lines : Appends old new (found_lines sought form (map item answered))
-    pub all : clean ≡ list_all is_clean (map item answered)
+    pub within : up_to sought left (unpruned sought (map item answered)) ≡ unpruned sought (map item answered)
+    pub limit : left' ≡ left_after sought left (unpruned sought (map item answered))
+    pub lines : Appends old new (found_lines sought form (unpruned sought (map item answered)))
+    pub all : clean ≡ list_all is_clean (unpruned sought (map item answered))

@@ -6,6 +6,7 @@ pub mod Sought
 pub mod SoughtTest
 pub mod Times
 pub mod Limit
+pub mod Prune
 pub mod Found
 pub mod Roots
 pub mod Call

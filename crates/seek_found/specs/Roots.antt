@@ -5,7 +5,7 @@ use Rattle.std.specs.Io.KnownBytes.{Appends}
 use Rattle.jwalk_model.specs.Counted.{Worth}
 use Rattle.jwalk_model.specs.Entry.{Item}
 use Rattle.seek_words.specs.Sought.{Sought}
-use Rattle.seek_words.specs.Lines.{Form}
+use Rattle.seek_words.specs.Layout.{Form}
 use Rattle.seek_found.specs.Found.{found_lines, is_clean}
 use Rattle.seek_found.specs.Limit.{left_after, up_to}
 

@@ -1,7 +1,7 @@
 -- The names that are looked for.
 use Rattle.std.specs.Prelude.{ℕ, Bool, ◌&&◌, List, [], ◌∷◌, map}
 use Rattle.std.specs.List.{list_all}
-use Rattle.seek_words.specs.Asks.{texts_of}
+use Rattle.program_parts.specs.Values.{texts_of}
 use Rattle.seek_words.specs.declared.asked.Asked.{Asked}
 use Rattle.seek_found.specs.NamePattern.{takes_name, IsPatternOf}
 use Rattle.seek_found.specs.declared.name_pattern.NamePattern.{NamePattern}

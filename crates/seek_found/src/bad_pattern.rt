@@ -2,6 +2,7 @@
 ghost use Rattle.std.specs.Prelude.{◌≡◌};
 
 use regex::Error;
+use seek_braces::MOST;
 use std::alloc::AllocError;
 use std::io::Write;
 
@@ -12,6 +13,8 @@ pub enum BadPattern<'w> {
     Expression(&'w str, Error),
     /// This isn't a glob.
     Glob(&'w str),
+    /// The braces of this list too many alternatives.
+    Braces(&'w str),
     /// Memory ran out.
     Memory,
 }
@@ -33,6 +36,13 @@ impl<'w> BadPattern<'w> {
             }
             BadPattern::Glob(pattern) => {
                 let _ = writeln!(err, "seek: bad pattern '{pattern}': no glob");
+                2
+            }
+            BadPattern::Braces(pattern) => {
+                let _ = writeln!(
+                    err,
+                    "seek: bad pattern '{pattern}': short for more than {MOST} others"
+                );
                 2
             }
             BadPattern::Memory => {

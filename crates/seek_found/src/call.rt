@@ -4,31 +4,33 @@ ghost use Rattle.seek_words.specs.Refusal.{status_of as status_for};
 ghost use Rattle.seek_found.specs.Call.{succeeds, AskToSearch, EndsUnsearched};
 
 use crate::sought::Sought;
+use program_parts::halt::Halt;
+use program_parts::refusal::refuse;
 use seek_words::asked::Asked;
-use seek_words::halt::Halt;
 use seek_words::refusal::Refusal;
 use seek_words::words::read_words;
 use std::alloc::Global;
 use std::io::Write;
+
+/// How programs are started for entries, for words that ask `seek` to do it.
+const NOT_STARTED: &str = "seek: programs aren't started: write `seek -0 .. | xargs -0 COMMAND`\n";
 
 /// Returns whether a word is an option by which `fd` starts programs.
 fn starts_program(word: &str) -> bool {
     matches!(word, "-x" | "-X" | "--exec" | "--exec-batch")
 }
 
-/// Reports why words are refused. For words that ask to start a program it says how that is done.
-fn report<E: Write>(refusal: &Refusal<'_>, words: &[String], err: &mut E) {
-    let _ = match refusal {
-        Refusal::Words(_) if words.iter().any(|word| starts_program(word.as_str())) => writeln!(
-            err,
-            "seek: programs aren't started: write `seek -0 .. | xargs -0 COMMAND`"
-        ),
-        _ => write!(err, "{refusal}"),
-    };
+/// Returns whether bad words ask to start a program.
+fn asks_to_start(refusal: &Refusal<'_>, words: &[String]) -> bool {
+    match refusal {
+        Refusal::Words(_) => words.iter().any(|word| starts_program(word.as_str())),
+        _ => false,
+    }
 }
 
-/// Prints help or the version, or reports why words are refused.
-fn refuse<W: Write, E: Write>(
+/// Prints help or the version, or reports why words are refused. For words that ask to start a program it says how that
+/// is done.
+fn refuse_words<W: Write, E: Write>(
     refusal: &Refusal<'_>,
     words: &[String],
     out: &mut W,
@@ -39,11 +41,10 @@ fn refuse<W: Write, E: Write>(
     ensures untouched { result ≡ 2 → W.contents out.new ≡ W.contents out.old }
 {
     let status = refusal.status();
-    if status > 0 {
-        report(refusal, words, err);
-        return status;
+    if status > 0 && asks_to_start(refusal, words) {
+        return refuse(&NOT_STARTED, status, out, err);
     }
-    u8::from(write!(out, "{refusal}").is_err() || out.flush().is_err())
+    refuse(refusal, status, out, err)
 }
 
 /// The end of a search.
@@ -71,7 +72,7 @@ pub fn status_of<E: Write>(quiet: bool, ended: Result<Ended, Halt>, err: &mut E)
     match ended {
         Ok(ended) => u8::from(!succeeds(quiet, ended)),
         Err(halt) => {
-            halt.report(err);
+            halt.report("seek", err);
             1
         }
     }
@@ -96,7 +97,7 @@ pub fn read_call<'w, W: Write, E: Write>(
 {
     let asked = match read_words(alloc, words) {
         Ok(asked) => asked,
-        Err(refusal) => return Err(refuse(&refusal, words, out, err)),
+        Err(refusal) => return Err(refuse_words(&refusal, words, out, err)),
     };
     match Sought::read(alloc, &asked) {
         Ok(sought) => Ok((asked, sought)),

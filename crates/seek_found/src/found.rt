@@ -10,14 +10,15 @@ use crate::printer::Printer;
 use jwalk_job::client_state::ClientState;
 use jwalk_job::dir_entry::DirEntry;
 use jwalk_job::error::Result as Answer;
-use seek_words::halt::Halt;
+use program_parts::halt::Halt;
 use seek_words::name_test::NameTest;
 use std::alloc::Allocator;
 use std::io::Write;
 use std::time::Clock;
 
 /// Prints those of a walk's answers that pass, up to the limit, and reports the errors. Returns whether there was none.
-/// Gathered lines are written at the first answer that comes 100 milliseconds after the oldest of them.
+/// What lies below an entry that passes is left out, if the filter prunes. Gathered lines are written at the first
+/// answer that comes 100 milliseconds after the oldest of them.
 ///
 /// # Errors
 ///
@@ -47,11 +48,12 @@ pub fn print_found<
     ensures form { form_of printer.new.lines ≡ form_of printer.old.lines }
 {
     let mut clean = true;
+    let mut below = None;
     while !printer.is_full() {
         let Some(answer) = answers.next() else {
             return Ok(clean);
         };
-        clean &= printer.print(answer, out, err)?;
+        clean &= printer.print(answer, &mut below, out, err)?;
         printer.lines.write_old(clock, out)?;
     }
     Ok(clean)

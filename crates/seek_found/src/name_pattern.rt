@@ -6,6 +6,7 @@ ghost use Rattle.seek_found.specs.NamePattern.{source_of, takes_any};
 use crate::bad_pattern::BadPattern;
 use crate::glob::Glob;
 use regex::{Error, Regex, escape};
+use seek_braces::expansions;
 use seek_words::asked::Asked;
 use seek_words::expression::read_expression;
 use std::alloc::{AllocError, Global};
@@ -52,8 +53,11 @@ impl NamePattern {
         ensures glob { IfOk result (IsGlobOf asked.now pattern.entry.now) }
         ensures rejected { IfErr result (IsNoGlob asked.now pattern.entry.now) }
     {
+        let Some(texts) = expansions(alloc, pattern)? else {
+            return Err(BadPattern::Braces(pattern));
+        };
         let ignores_case = asked.case.is_ignored(pattern);
-        match Glob::read(alloc, pattern, ignores_case)? {
+        match Glob::read(alloc, texts.as_slice(), ignores_case)? {
             Some(glob) => Ok(glob),
             None => Err(BadPattern::Glob(pattern)),
         }

@@ -1,20 +1,23 @@
 //! Answers of a walk, filtered and printed.
-ghost use Rattle.std.specs.Prelude.{◌≡◌, ◌≢◌, ◌∷◌, [], Ok, Some, true, false, if◌then◌else◌, IfOk, OnOk};
+ghost use Rattle.std.specs.Prelude.{◌≡◌, ◌≢◌, ◌&&◌, ◌∷◌, [], Ok, Some, None, true, false, if◌then◌else◌, IfOk, OnOk};
+ghost use Rattle.std.specs.List.{list_all};
 ghost use Rattle.std.specs.Io.KnownBytes.{Appends, append_known};
 ghost use Rattle.jwalk_job.specs.Entry.{entry, item};
 ghost use Rattle.seek_words.specs.Filter.{sought_of};
 ghost use Rattle.seek_words.specs.Lines.{form_of, gathered_of};
-ghost use Rattle.seek_found.specs.Found.{entry_line, found_line, is_clean};
+ghost use Rattle.seek_found.specs.Found.{entry_line, found_line, found_lines, is_clean};
 ghost use Rattle.seek_found.specs.Limit.{is_hit, left_after, one_less};
+ghost use Rattle.seek_found.specs.Prune.{below_after, is_below, unpruned_behind};
 
 use crate::report::{report_entry, report_error};
 use jwalk_job::client_state::ClientState;
 use jwalk_job::dir_entry::DirEntry;
 use jwalk_job::error::Result as Answer;
+use program_parts::halt::Halt;
 use seek_words::filter::Filter;
-use seek_words::halt::Halt;
 use seek_words::lines::Lines;
 use seek_words::name_test::NameTest;
+use seek_words::shown::Shown;
 use std::alloc::Allocator;
 use std::io::Write;
 
@@ -38,6 +41,26 @@ fn left_after(left: Option<usize>, passes: bool) -> Option<usize>
     }
 }
 
+/// Returns the depth of an entry, if nothing below it is looked for.
+fn pruned_at(prunes: bool, passes: bool, depth: usize) -> Option<usize>
+    ensures { result ≡ (if prunes && passes then Some depth else None) }
+{
+    if prunes && passes { Some(depth) } else { None }
+}
+
+fn is_below<C: ClientState, A: Allocator + Copy>(
+    below: Option<usize>,
+    answer: &Answer<DirEntry<C, A>, A>,
+) -> bool
+    ensures { result ≡ is_below below (item answer.now) }
+{
+    match (below, answer) {
+        (None, _) => false,
+        (Some(depth), Ok(found)) => depth < found.depth(),
+        (Some(depth), Err(error)) => depth < error.depth(),
+    }
+}
+
 /// Returns whether the entry passes the filter.
 fn print_entry<T: NameTest, C: ClientState, A: Allocator + Copy, W: Write>(
     filter: &mut Filter<'_, T>,
@@ -57,7 +80,13 @@ fn print_entry<T: NameTest, C: ClientState, A: Allocator + Copy, W: Write>(
     if !filter.passes(found.depth(), found.file_type(), folder, name, seen)? {
         return Ok(false);
     }
-    lines.print(folder, name, out)?;
+    let shown = Shown {
+        file_type: found.file_type(),
+        seen,
+        folder,
+        name,
+    };
+    lines.print(shown, out)?;
     Ok(true)
 }
 
@@ -70,31 +99,28 @@ impl<'w, T: NameTest> Printer<'w, T> {
         matches!(self.left, Some(0))
     }
 
-    /// Prints the line of an answer, if it is an entry that passes. Reports the error, if there is one. Returns whether
-    /// there is none.
-    ///
-    /// # Errors
-    ///
-    /// If memory runs out, or if the output can't be written.
-    pub fn print<C: ClientState, A: Allocator + Copy, W: Write, E: Write>(
+    fn print_kept<C: ClientState, A: Allocator + Copy, W: Write, E: Write>(
         &mut self,
-        answer: Answer<DirEntry<C, A>, A>,
+        answer: &Answer<DirEntry<C, A>, A>,
+        below: &mut Option<usize>,
         out: &mut W,
         err: &mut E,
     ) -> Result<bool, Halt>
-        ensures clean { IfOk result (λ clean. clean ≡ is_clean (item answer)) }
+        ensures clean { IfOk result (λ clean. clean ≡ is_clean (item answer.now)) }
         ensures printed { OnOk result (Appends (append_known (W.contents out.old) (gathered_of self.old.lines))
             (append_known (W.contents out.new) (gathered_of self.new.lines))
-            (found_line (sought_of T.takes self.old.filter) (form_of self.old.lines) (item answer))) }
+            (found_line (sought_of T.takes self.old.filter) (form_of self.old.lines) (item answer.now))) }
         ensures left { OnOk result (self.new.left
-            ≡ left_after (sought_of T.takes self.old.filter) self.old.left (item answer ∷ [])) }
+            ≡ left_after (sought_of T.takes self.old.filter) self.old.left (item answer.now ∷ [])) }
+        ensures below { OnOk result (below.new ≡ below_after (sought_of T.takes self.old.filter) below.old (item answer.now)) }
         ensures sought { sought_of T.takes self.new.filter ≡ sought_of T.takes self.old.filter }
         ensures form { form_of self.new.lines ≡ form_of self.old.lines }
     {
-        match &answer {
+        match answer {
             Ok(found) => {
                 let passes = print_entry(&mut self.filter, &mut self.lines, found, out)?;
                 self.left = left_after(self.left, passes);
+                *below = pruned_at(self.filter.prunes, passes, found.depth());
                 Ok(report_entry(found, err))
             }
             Err(error) => {
@@ -102,5 +128,38 @@ impl<'w, T: NameTest> Printer<'w, T> {
                 Ok(false)
             }
         }
+    }
+
+    /// Prints the line of an answer, if it is an entry that passes. Reports the error, if there is one. Returns whether
+    /// there is none. An answer that is deeper than `below` is left out. `below` is the depth of the last entry that
+    /// passed, if nothing below it is looked for.
+    ///
+    /// # Errors
+    ///
+    /// If memory runs out, or if the output can't be written.
+    pub fn print<C: ClientState, A: Allocator + Copy, W: Write, E: Write>(
+        &mut self,
+        answer: Answer<DirEntry<C, A>, A>,
+        below: &mut Option<usize>,
+        out: &mut W,
+        err: &mut E,
+    ) -> Result<bool, Halt>
+        ensures clean { IfOk result (λ clean. clean ≡ list_all is_clean
+            (unpruned_behind (sought_of T.takes self.old.filter) below.old (item answer ∷ []))) }
+        ensures printed { OnOk result (Appends (append_known (W.contents out.old) (gathered_of self.old.lines))
+            (append_known (W.contents out.new) (gathered_of self.new.lines))
+            (found_lines (sought_of T.takes self.old.filter) (form_of self.old.lines)
+            (unpruned_behind (sought_of T.takes self.old.filter) below.old (item answer ∷ [])))) }
+        ensures left { OnOk result (self.new.left ≡ left_after (sought_of T.takes self.old.filter) self.old.left
+            (unpruned_behind (sought_of T.takes self.old.filter) below.old (item answer ∷ []))) }
+        ensures below { OnOk result (below.new ≡ (if is_below below.old (item answer) then below.old
+            else below_after (sought_of T.takes self.old.filter) below.old (item answer))) }
+        ensures sought { sought_of T.takes self.new.filter ≡ sought_of T.takes self.old.filter }
+        ensures form { form_of self.new.lines ≡ form_of self.old.lines }
+    {
+        if is_below(*below, &answer) {
+            return Ok(true);
+        }
+        self.print_kept(&answer, below, out, err)
     }
 }

@@ -1,11 +1,12 @@
 //! The names that are looked for.
 ghost use Rattle.std.specs.Prelude.{◌≡◌, IfOk, IfErr};
-ghost use Rattle.seek_words.specs.Asks.{texts_of};
-ghost use Rattle.seek_found.specs.BadPattern.{AreBadPatterns};
+ghost use Rattle.program_parts.specs.Values.{texts_of};
+ghost use Rattle.seek_found.specs.BadPattern.{AreBadLines, AreBadPatterns};
 ghost use Rattle.seek_found.specs.Sought.{ArePatternsOf};
 
 use crate::bad_pattern::BadPattern;
 use crate::name_pattern::NamePattern;
+use seek_braces::expansions;
 use seek_words::asked::Asked;
 use std::alloc::Global;
 
@@ -35,17 +36,30 @@ fn patterns_of<'w>(
     Ok(patterns)
 }
 
+/// Lines of `-E` may not be short for too many others.
+fn check_lines<'w>(alloc: Global, lines: &[&'w str]) -> Result<(), BadPattern<'w>>
+    ensures { IfErr result (AreBadLines (texts_of lines.now)) }
+{
+    for line in lines {
+        if expansions(alloc, line)?.is_none() {
+            return Err(BadPattern::Braces(line));
+        }
+    }
+    Ok(())
+}
+
 impl Sought {
     ghost use Rattle.seek_found.specs.BadPattern.{IsBadFor};
     ghost use Rattle.seek_found.specs.Sought.{IsFor};
 
-    /// Reads the patterns that are asked for.
+    /// Reads the patterns that are asked for, and checks the lines of `-E`.
     pub fn read<'w>(alloc: Global, asked: &Asked<'w>) -> Result<Self, BadPattern<'w>>
         ensures sought { IfOk result (IsFor asked.now) }
         ensures rejected { IfErr result (IsBadFor asked.now) }
     {
         let first = NamePattern::read(alloc, asked, asked.pattern)?;
         let others = patterns_of(alloc, asked, asked.others.as_slice())?;
+        check_lines(alloc, asked.excludes.as_slice())?;
         Ok(Sought { first, others })
     }
 }

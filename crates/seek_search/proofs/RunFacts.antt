@@ -1,6 +1,6 @@
 -- Roots that are searched one after another.
 use Rattle.std.proofs.Common.{◌≡◌, ◌≤◌, ◌<◌, ◌∙◌, ℕ, Bool, true, false, ◌&&◌, List, [], ◌∷◌, ◌++◌, length, slice_index_or, Option, Some, None, Result, Ok, Err, append-nil, ap, ap₂, arith, refl, subst, sym}
-use Rattle.std.specs.Prelude.{flat_map, is_some, option_map, IfOk, IsOkAnd}
+use Rattle.std.specs.Prelude.{flat_map, IfOk, IsOkAnd}
 use Rattle.std.specs.Borrow.{Bor}
 use Rattle.std.specs.Io.KnownBytes.{Appends, append_known}
 use Rattle.std.proofs.lemmas.Grind.{flat_map-append}
@@ -8,49 +8,55 @@ use Rattle.std.proofs.lemmas.List.{map-append}
 use Rattle.jwalk.specs.jwalk_model.Entry.{Item}
 use Rattle.seek_words.specs.Sought.{Sought}
 use Rattle.seek_words.specs.Wanted.{Wants}
-use Rattle.seek_words.specs.Lines.{Form}
+use Rattle.seek_words.specs.Layout.{Form}
 use Rattle.seek_found.specs.Found.{found_lines, PrintsClean}
 use Rattle.seek_found.specs.Roots.{AreBelow, Below, PrintsSuch}
 use Rattle.seek_found.proofs.RootsFacts.{no_roots_printed}
-use Rattle.seek_found.proofs.CleanFacts.{clean_none, clean_then, first_written, printed_as, rest_written}
-use Rattle.seek_words.specs.Asks.{texts_of}
+use Rattle.program_parts.proofs.GatheredFacts.{gathered_written}
+use Rattle.seek_found.proofs.CleanFacts.{clean_none, clean_then, printed_as}
+use Rattle.program_parts.specs.Values.{texts_of}
+use Rattle.seek_words.specs.declared.asked.Asked.{Asked}
+use Rattle.jwalk.specs.jwalk_model.FileSystem.{Functions}
+use Rattle.jwalk_ignore.specs.Rules.Texts.{Texts}
+use Rattle.seek_search.specs.Search.{yielded_by}
 
 -- what is looked for, by its parts
-pub sought_by : {w w' : Wants} {t t' : List ℕ → Bool → Bool} {f f' : Option (List ℕ)} → w ≡ w' → t ≡ t' → f ≡ f'
-    → (let it : Sought = record { wanted = w; takes = t; front = f } in it) ≡ record { wanted = w'; takes = t'; front = f' }
-sought_by {w} {w'} {t} {t'} {f} {f'} wanted takes front =
-    ap (λ (x : Wants). let it : Sought = record { wanted = x; takes = t; front = f } in it) wanted
-    ∙ ap₂ (λ (x : List ℕ → Bool → Bool) (y : Option (List ℕ)). let it : Sought = record { wanted = w'; takes = x; front = y } in it) takes front
+pub sought_by : {w w' : Wants} {t t' : List ℕ → Bool → Bool} {f f' : Option (List ℕ)} (p : Bool) → w ≡ w' → t ≡ t' → f ≡ f'
+    → (let it : Sought = record { wanted = w; takes = t; front = f; prunes = p } in it) ≡ record { wanted = w'; takes = t'; front = f'; prunes = p }
+sought_by {w} {w'} {t} {t'} {f} {f'} p wanted takes front =
+    ap (λ (x : Wants). let it : Sought = record { wanted = x; takes = t; front = f; prunes = p } in it) wanted
+    ∙ ap₂ (λ (x : List ℕ → Bool → Bool) (y : Option (List ℕ)). let it : Sought = record { wanted = w'; takes = x; front = y; prunes = p } in it) takes front
 
 -- the text is printed by the same, with other facts of it
-pub printed_by : {R E : Type 0} {xs : List (Item R E)} {sought sought' : Sought} {form form' : Form} {old new : Option (List ℕ)} → sought ≡ sought' → form ≡ form' → PrintsClean xs sought form old new → PrintsClean xs sought' form' old new
-printed_by {xs} {sought} {sought'} {form} {form'} {old} {new} sought_is form_is printed =
-    subst (λ (s : Form). PrintsClean xs sought' s old new) form_is (subst (λ (s : Sought). PrintsClean xs s form old new) sought_is printed)
+pub printed_by : {R E : Type 0} (answers : Sought → List (Item R E)) {sought sought' : Sought} {form form' : Form} {old new : Option (List ℕ)} → sought ≡ sought' → form ≡ form' → PrintsClean (answers sought) sought form old new → PrintsClean (answers sought') sought' form' old new
+printed_by answers {sought} {sought'} {form} {form'} {old} {new} sought_is form_is printed =
+    subst (λ (s : Form). PrintsClean (answers sought') sought' s old new) form_is (subst (λ (s : Sought). PrintsClean (answers s) s form old new) sought_is printed)
+
+-- the text is printed over the same disk and texts
+pub printed_over : (asked : Asked) {fs fs' : Functions} {texts texts' : Texts} {sought sought' : Sought} {form form' : Form} {old new : Option (List ℕ)} → fs ≡ fs' → texts ≡ texts' → sought ≡ sought' → form ≡ form'
+    → PrintsClean (yielded_by fs texts asked sought) sought form old new → PrintsClean (yielded_by fs' texts' asked sought') sought' form' old new
+printed_over asked {fs} {fs'} {texts} {texts'} {sought} over from sought_is form_is printed =
+    printed_by (yielded_by fs' texts' asked) sought_is form_is (printed_as (ap₂ (λ f t. yielded_by f t asked sought) over from) printed)
 
 -- gathered lines that are written at the end
 pub written_last : {R E : Type 0} {xs : List (Item R E)} {sought : Sought} {form : Form} (old mid new : Option (List ℕ)) (none last : List ℕ) → none ≡ []
     → PrintsClean xs sought form (append_known old none) (append_known mid last) → Appends mid new last → PrintsClean xs sought form old new
 written_last {xs} {sought} {form} old mid new none last empty printed rest = record {
-  lines = first_written old new none (found_lines sought form xs) empty (rest_written (append_known old none) mid new last (found_lines sought form xs) printed.lines rest);
+  lines = gathered_written old mid new none last (found_lines sought form xs) empty printed.lines rest;
   clean = printed.clean;
 }
 
 -- the text that is printed for roots, and then for other roots
-pub others_printed : {R E : Type 0} (f : List ℕ → List (Item R E)) (all first rest : List (Bor (List ℕ))) → all ≡ first ++ rest
+pub others_printed : {R E : Type 0} (f : Sought → List ℕ → List (Item R E)) (all first rest : List (Bor (List ℕ))) → all ≡ first ++ rest
     → {sought sought' : Sought} {form form' : Form} {old mid new : Option (List ℕ)} → sought' ≡ sought → form' ≡ form
-    → PrintsClean (flat_map f (texts_of first)) sought form old mid → PrintsClean (flat_map f (texts_of rest)) sought' form' mid new → PrintsClean (flat_map f (texts_of all)) sought form old new
+    → PrintsClean (flat_map (f sought) (texts_of first)) sought form old mid → PrintsClean (flat_map (f sought') (texts_of rest)) sought' form' mid new → PrintsClean (flat_map (f sought) (texts_of all)) sought form old new
 others_printed f all first rest are {sought} {sought'} {form} {form'} {old} {mid} {new} sought_is form_is before more =
-    printed_as (sym (ap (λ l. flat_map f (texts_of l)) are ∙ ap (flat_map f) (map-append (λ it. it.now) first rest) ∙ flat_map-append f (texts_of first) (texts_of rest)))
-    (clean_then sought form (flat_map f (texts_of first)) (flat_map f (texts_of rest)) old mid new before (printed_by sought_is form_is more))
+    printed_as (sym (ap (λ l. flat_map (f sought) (texts_of l)) are ∙ ap (flat_map (f sought)) (map-append (λ it. it.now) first rest) ∙ flat_map-append (f sought) (texts_of first) (texts_of rest)))
+    (clean_then sought form (flat_map (f sought) (texts_of first)) (flat_map (f sought) (texts_of rest)) old mid new before (printed_by (λ s. flat_map (f s) (texts_of rest)) sought_is form_is more))
 
 -- the texts of roots and then of others
 pub texts_then : (all first rest : List (Bor (List ℕ))) → all ≡ first ++ rest → texts_of first ++ texts_of rest ≡ texts_of all
 texts_then all first rest are = sym (ap texts_of are ∙ map-append (λ it. it.now) first rest)
-
--- whether there is a value is whether there is its image
-pub is_some_made : {X Y : Type 0} (f : X → Y) (o : Option X) → is_some (option_map f o) ≡ is_some o
-is_some_made f None = refl
-is_some_made f (Some x) = refl
 
 -- two facts of one result
 pub ok_twice : {X Y : Type 0} (r : Result X Y) (P Q : X → Type 0) → IsOkAnd r P → IfOk r Q → (x : X) × P x × Q x

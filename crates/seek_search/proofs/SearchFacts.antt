@@ -1,46 +1,33 @@
 -- The walks of a search.
-use Rattle.std.proofs.Common.{◌≡◌, ◌≤◌, ◌<◌, ◌⊎◌, ℕ, Bool, true, false, List, [], ◌∷◌, length, slice_index_or, inl, inr, arith, refl, subst, sym}
+use Rattle.std.proofs.Common.{◌≡◌, ◌≤◌, ◌<◌, ◌⊎◌, ℕ, Bool, true, false, List, [], ◌∷◌, length, slice_index_or, Result, Ok, Err, inl, inr, ap, arith, refl, subst, sym}
 use Rattle.std.specs.Prelude.{◌==◌, if◌then◌else◌, MatchBool}
 use Rattle.std.specs.Borrow.{Bor}
 use Rattle.std.specs.declared.sync.Arc.{Arc}
 use Rattle.jwalk.specs.jwalk_model.Counted.{Worth}
 use Rattle.jwalk.specs.jwalk_model.Entry.{Item}
-use Rattle.jwalk.specs.jwalk_model.FileSystem.{Functions}
-use Rattle.jwalk.specs.jwalk_model.Job.{Processing}
-use Rattle.jwalk.specs.jwalk_model.Options.{Options, with_skip_hidden}
 use Rattle.jwalk.specs.jwalk_model.Paths.{dot}
-use Rattle.jwalk.specs.jwalk_model.Walk.{whole_walk}
 use Rattle.jwalk_ignore.specs.jwalk_ignore_rules.declared.rules.chain.Chain.{Chain}
+use Rattle.jwalk_job.specs.declared.dir_entry.DirEntry.{DirEntry}
+use Rattle.jwalk_job.specs.declared.error.Error.{Error}
+use Rattle.jwalk_job.specs.Error.{depth_of, failure}
+use Rattle.jwalk.specs.DirEntryIter.{NoneRefused}
+use Rattle.jwalk.specs.WalkDir.{NoneBusy}
 use Rattle.jwalk.specs.declared.crew.Crew.{Crew}
 use Rattle.jwalk.specs.declared.walk_dir.WalkDirGeneric.{WalkDirGeneric}
-use Rattle.seek_words.specs.Asks.{texts_of}
+use Rattle.program_parts.specs.Values.{texts_of}
 use Rattle.seek_words.specs.declared.asked.Asked.{Asked}
+use Rattle.seek_words.specs.Sought.{Sought}
 use Rattle.seek_found.specs.Roots.{AreBelow}
 use Rattle.seek_found.proofs.RootsFacts.{may_stop_sooner, one_root}
+use Rattle.seek_found.proofs.WholeFacts.{AreDeep}
 use Rattle.seek_search.specs.Goes.{CallsOf, IsHonouring, IsPlain, Yielded, YieldedBelow}
-use Rattle.seek_search.specs.Options.{with_crew}
-use Rattle.jwalk_ignore.specs.Callback.Kept.{job_with}
 use Rattle.seek_search.specs.Search.{roots_asked}
 use Rattle.jwalk_ignore.specs.declared.callback.excluding.Excluding.{Excluding}
 use Rattle.jwalk_ignore.specs.declared.callback.kept_rules.KeptRules.{KeptRules}
 
-module _ (processed : Processing Worth Worth) where
-  -- it doesn't matter whether a crew reads
-  pub same_by_crew : (by_crew : Bool) (fs : Functions) (options : Options) (root : List ℕ) (state : Worth)
-      → whole_walk (job_with fs (with_crew by_crew options) processed) root state ≡ whole_walk (job_with fs options processed) root state
-  unfolding whole_walk
-  same_by_crew true fs options root state = refl
-  same_by_crew false fs options root state = refl
-
-  pub hidden_by_crew : (by_crew : Bool) (fs : Functions) (options : Options) (root : List ℕ) (state : Worth)
-      → whole_walk (job_with fs (with_skip_hidden false (with_crew by_crew options)) processed) root state ≡ whole_walk (job_with fs (with_skip_hidden false options) processed) root state
-  unfolding whole_walk
-  hidden_by_crew true fs options root state = refl
-  hidden_by_crew false fs options root state = refl
-
-module _ {T C S P A R E : Type 0} (calls : CallsOf T C S P A R E) {is : WalkDirGeneric C S P A (Crew T) R E → Type 0} where
+module _ {T C S P A R E : Type 0} (calls : CallsOf T C S P A R E) {is : WalkDirGeneric C S P A (Crew T) R E → Type 0} {sought : Sought} where
   -- the answers of a walk with further facts
-  pub yielded_so : {be : WalkDirGeneric C S P A (Crew T) R E → Type 0} {may_stop : Type 0} → ((walk : WalkDirGeneric C S P A (Crew T) R E) → is walk → be walk) → (answers : List (Item Worth Worth)) → Yielded calls is may_stop answers → Yielded calls be may_stop answers
+  pub yielded_so : {be : WalkDirGeneric C S P A (Crew T) R E → Type 0} {may_stop : Type 0} → ((walk : WalkDirGeneric C S P A (Crew T) R E) → is walk → be walk) → (answers : List (Item Worth Worth)) → Yielded calls is sought may_stop answers → Yielded calls be sought may_stop answers
   yielded_so more answers y = record {
     walk = y.walk;
     is_so = more y.walk y.is_so;
@@ -52,7 +39,7 @@ module _ {T C S P A R E : Type 0} (calls : CallsOf T C S P A R E) {is : WalkDirG
   }
 
   -- all answers, or those by then if the search stops
-  yielded_or : {may_stop : Type 0} (answers : List (Item Worth Worth)) → Yielded calls is may_stop answers → Yielded calls is ⊥ answers ⊎ (may_stop × Yielded calls is may_stop answers)
+  yielded_or : {may_stop : Type 0} (answers : List (Item Worth Worth)) → Yielded calls is sought may_stop answers → Yielded calls is sought ⊥ answers ⊎ (may_stop × Yielded calls is sought may_stop answers)
   yielded_or answers y = elim y.called [
     | inl drains ↦ inl (record {
       walk = y.walk;
@@ -67,7 +54,7 @@ module _ {T C S P A R E : Type 0} (calls : CallsOf T C S P A R E) {is : WalkDirG
   ]
 
   -- the same, if a search may stop
-  yielded_may : {may_stop : Type 0} (answers : List (Item Worth Worth)) → Yielded calls is may_stop answers → Yielded calls is (Unit {0}) answers
+  yielded_may : {may_stop : Type 0} (answers : List (Item Worth Worth)) → Yielded calls is sought may_stop answers → Yielded calls is sought (Unit {0}) answers
   yielded_may answers y = record {
     walk = y.walk;
     is_so = y.is_so;
@@ -78,59 +65,71 @@ module _ {T C S P A R E : Type 0} (calls : CallsOf T C S P A R E) {is : WalkDirG
     counted = y.counted;
   }
 
-module _ {T C S B X A D Q E G H F : Type 0} (plain : CallsOf T G (Arc S B) Excluding A H F) (honouring : CallsOf T C (Arc S B) (KeptRules X) A (Chain D × Q) E) (disk : S) (texts : X) (asked : Asked) (may_stop : Type 0) (root : List ℕ) (answers : List (Item Worth Worth)) where
+module _ {T C S B X A D Q E G H F : Type 0} (plain : CallsOf T G (Arc S B) Excluding A H F) (honouring : CallsOf T C (Arc S B) (KeptRules X) A (Chain D × Q) E) (disk : S) (texts : X) (asked : Asked) (sought : Sought) (may_stop : Type 0) (root : List ℕ) (answers : List (Item Worth Worth)) where
   abbrev Two : Type 0 → Bool → Type 0
-  Two stop b = MatchBool b (Yielded plain (IsPlain disk asked root) stop answers) (Yielded honouring (IsHonouring disk texts asked root) stop answers)
+  Two stop b = MatchBool b (Yielded plain (IsPlain disk asked root) sought stop answers) (Yielded honouring (IsHonouring disk texts asked root) sought stop answers)
 
   -- the answers below a root are those of one of two walks
-  pub below_plain : asked.no_ignore ≡ true → Yielded plain (IsPlain disk asked root) may_stop answers → YieldedBelow plain honouring disk texts asked may_stop root answers
+  pub below_plain : asked.no_ignore ≡ true → Yielded plain (IsPlain disk asked root) sought may_stop answers → YieldedBelow plain honouring disk texts asked sought may_stop root answers
   below_plain is y = subst (Two may_stop) (sym is) y
 
-  pub below_honouring : asked.no_ignore ≡ false → Yielded honouring (IsHonouring disk texts asked root) may_stop answers → YieldedBelow plain honouring disk texts asked may_stop root answers
+  pub below_honouring : asked.no_ignore ≡ false → Yielded honouring (IsHonouring disk texts asked root) sought may_stop answers → YieldedBelow plain honouring disk texts asked sought may_stop root answers
   below_honouring is y = subst (Two may_stop) (sym is) y
 
   -- all answers, or those by then if the search stops
-  pub below_or : YieldedBelow plain honouring disk texts asked may_stop root answers → YieldedBelow plain honouring disk texts asked ⊥ root answers ⊎ (may_stop × YieldedBelow plain honouring disk texts asked may_stop root answers)
+  pub below_or : YieldedBelow plain honouring disk texts asked sought may_stop root answers → YieldedBelow plain honouring disk texts asked sought ⊥ root answers ⊎ (may_stop × YieldedBelow plain honouring disk texts asked sought may_stop root answers)
   below_or = elim asked.no_ignore as (λ b. Two may_stop b → Two ⊥ b ⊎ (may_stop × Two may_stop b)) [ true ↦ yielded_or plain answers | false ↦ yielded_or honouring answers ]
 
   -- the same, if a search may stop
-  pub below_may : YieldedBelow plain honouring disk texts asked may_stop root answers → YieldedBelow plain honouring disk texts asked (Unit {0}) root answers
+  pub below_may : YieldedBelow plain honouring disk texts asked sought may_stop root answers → YieldedBelow plain honouring disk texts asked sought (Unit {0}) root answers
   below_may = elim asked.no_ignore as (λ b. Two may_stop b → Two (Unit {0}) b) [ true ↦ yielded_may plain answers | false ↦ yielded_may honouring answers ]
 
--- the answers below roots depend on the disk and the texts
-pub same_below : {T C S B X A D Q E G H F : Type 0} (plain : CallsOf T G (Arc S B) Excluding A H F) (honouring : CallsOf T C (Arc S B) (KeptRules X) A (Chain D × Q) E) (asked : Asked) (may_stop : Type 0) (roots : List (List ℕ)) {disk disk' : S} {texts texts' : X} → disk ≡ disk' → texts ≡ texts'
-    → (answers : List (Item Worth Worth)) → AreBelow (YieldedBelow plain honouring disk texts asked) may_stop roots answers → AreBelow (YieldedBelow plain honouring disk' texts' asked) may_stop roots answers
-same_below {S} {X} plain honouring asked may_stop roots {disk} {disk'} {texts} {texts'} over from answers are =
-    subst (λ (t : X). AreBelow (YieldedBelow plain honouring disk' t asked) may_stop roots answers) from
-    (subst (λ (d : S). AreBelow (YieldedBelow plain honouring d texts asked) may_stop roots answers) over are)
+-- the answers below roots depend on the disk, the texts and what is looked for
+pub same_below : {T C S B X A D Q E G H F : Type 0} (plain : CallsOf T G (Arc S B) Excluding A H F) (honouring : CallsOf T C (Arc S B) (KeptRules X) A (Chain D × Q) E) (asked : Asked) (may_stop : Type 0) (roots : List (List ℕ)) {disk disk' : S} {texts texts' : X} {sought sought' : Sought} → disk ≡ disk' → texts ≡ texts' → sought ≡ sought'
+    → (answers : List (Item Worth Worth)) → AreBelow (YieldedBelow plain honouring disk texts asked sought) may_stop roots answers → AreBelow (YieldedBelow plain honouring disk' texts' asked sought') may_stop roots answers
+same_below {S} {X} plain honouring asked may_stop roots {disk} {disk'} {texts} {texts'} {sought} {sought'} over from same answers are =
+    subst (λ (s : Sought). AreBelow (YieldedBelow plain honouring disk' texts' asked s) may_stop roots answers) same
+    (subst (λ (t : X). AreBelow (YieldedBelow plain honouring disk' t asked sought) may_stop roots answers) from
+    (subst (λ (d : S). AreBelow (YieldedBelow plain honouring d texts asked sought) may_stop roots answers) over are))
 
 -- a search that stops may stop
-pub stops_somewhere : {T C S B X A D Q E G H F : Type 0} (plain : CallsOf T G (Arc S B) Excluding A H F) (honouring : CallsOf T C (Arc S B) (KeptRules X) A (Chain D × Q) E) (disk : S) (texts : X) (asked : Asked) (may_stop : Type 0) (roots : List (List ℕ)) (answers : List (Item Worth Worth))
-    → AreBelow (YieldedBelow plain honouring disk texts asked) may_stop roots answers → AreBelow (YieldedBelow plain honouring disk texts asked) (Unit {0}) roots answers
-stops_somewhere plain honouring disk texts asked may_stop =
-    may_stop_sooner (YieldedBelow plain honouring disk texts asked) may_stop (Unit {0}) (λ stops. tt) (λ root answers. below_may plain honouring disk texts asked may_stop root answers)
+pub stops_somewhere : {T C S B X A D Q E G H F : Type 0} (plain : CallsOf T G (Arc S B) Excluding A H F) (honouring : CallsOf T C (Arc S B) (KeptRules X) A (Chain D × Q) E) (disk : S) (texts : X) (asked : Asked) (sought : Sought) (may_stop : Type 0) (roots : List (List ℕ)) (answers : List (Item Worth Worth))
+    → AreBelow (YieldedBelow plain honouring disk texts asked sought) may_stop roots answers → AreBelow (YieldedBelow plain honouring disk texts asked sought) (Unit {0}) roots answers
+stops_somewhere plain honouring disk texts asked sought may_stop =
+    may_stop_sooner (YieldedBelow plain honouring disk texts asked sought) may_stop (Unit {0}) (λ stops. tt) (λ root answers. below_may plain honouring disk texts asked sought may_stop root answers)
 
-module _ {T C S B X A D Q E G H F : Type 0} (plain : CallsOf T G (Arc S B) Excluding A H F) (honouring : CallsOf T C (Arc S B) (KeptRules X) A (Chain D × Q) E) (disk : S) (texts : X) (asked : Asked) (may_stop : Type 0) where
+module _ {T C S B X A D Q E G H F : Type 0} (plain : CallsOf T G (Arc S B) Excluding A H F) (honouring : CallsOf T C (Arc S B) (KeptRules X) A (Chain D × Q) E) (disk : S) (texts : X) (asked : Asked) (sought : Sought) (may_stop : Type 0) where
   -- the answers below the folder that the program runs in, if no root is named
-  pub below_here : (length asked.roots.items == 0) ≡ true → (answers : List (Item Worth Worth)) → YieldedBelow plain honouring disk texts asked may_stop dot answers → AreBelow (YieldedBelow plain honouring disk texts asked) may_stop (roots_asked asked) answers
+  pub below_here : (length asked.roots.items == 0) ≡ true → (answers : List (Item Worth Worth)) → YieldedBelow plain honouring disk texts asked sought may_stop dot answers → AreBelow (YieldedBelow plain honouring disk texts asked sought) may_stop (roots_asked asked) answers
   below_here none answers y =
-      subst (λ (b : Bool). AreBelow (YieldedBelow plain honouring disk texts asked) may_stop (if b then dot ∷ [] else texts_of asked.roots.items) answers) (sym none)
-      (one_root (YieldedBelow plain honouring disk texts asked) may_stop dot answers (below_or plain honouring disk texts asked may_stop dot answers y))
+      subst (λ (b : Bool). AreBelow (YieldedBelow plain honouring disk texts asked sought) may_stop (if b then dot ∷ [] else texts_of asked.roots.items) answers) (sym none)
+      (one_root (YieldedBelow plain honouring disk texts asked sought) may_stop dot answers (below_or plain honouring disk texts asked sought may_stop dot answers y))
 
   -- the answers below the roots that are named
-  pub below_named : (roots : List (Bor (List ℕ))) → (length asked.roots.items == 0) ≡ false → roots ≡ asked.roots.items → (answers : List (Item Worth Worth)) → AreBelow (YieldedBelow plain honouring disk texts asked) may_stop (texts_of roots) answers
-      → AreBelow (YieldedBelow plain honouring disk texts asked) may_stop (roots_asked asked) answers
+  pub below_named : (roots : List (Bor (List ℕ))) → (length asked.roots.items == 0) ≡ false → roots ≡ asked.roots.items → (answers : List (Item Worth Worth)) → AreBelow (YieldedBelow plain honouring disk texts asked sought) may_stop (texts_of roots) answers
+      → AreBelow (YieldedBelow plain honouring disk texts asked sought) may_stop (roots_asked asked) answers
   below_named roots some are answers y =
-      subst (λ (b : Bool). AreBelow (YieldedBelow plain honouring disk texts asked) may_stop (if b then dot ∷ [] else texts_of asked.roots.items) answers) (sym some)
-      (subst (λ (l : List (Bor (List ℕ))). AreBelow (YieldedBelow plain honouring disk texts asked) may_stop (texts_of l) answers) are y)
+      subst (λ (b : Bool). AreBelow (YieldedBelow plain honouring disk texts asked sought) may_stop (if b then dot ∷ [] else texts_of asked.roots.items) answers) (sym some)
+      (subst (λ (l : List (Bor (List ℕ))). AreBelow (YieldedBelow plain honouring disk texts asked sought) may_stop (texts_of l) answers) are y)
 
   -- the answers below a single root
-  pub below_one : (roots : List (Bor (List ℕ))) (d : Bor (List ℕ)) → 1 ≤ length roots → length roots < 2 → (answers : List (Item Worth Worth)) → YieldedBelow plain honouring disk texts asked may_stop (slice_index_or roots 0 d).now answers
-      → AreBelow (YieldedBelow plain honouring disk texts asked) may_stop (texts_of roots) answers
+  pub below_one : (roots : List (Bor (List ℕ))) (d : Bor (List ℕ)) → 1 ≤ length roots → length roots < 2 → (answers : List (Item Worth Worth)) → YieldedBelow plain honouring disk texts asked sought may_stop (slice_index_or roots 0 d).now answers
+      → AreBelow (YieldedBelow plain honouring disk texts asked sought) may_stop (texts_of roots) answers
   below_one [] d some few answers y = absurd (omega (arith, some))
-  below_one (root ∷ []) d some few answers y = one_root (YieldedBelow plain honouring disk texts asked) may_stop root.now answers (below_or plain honouring disk texts asked may_stop root.now answers y)
+  below_one (root ∷ []) d some few answers y = one_root (YieldedBelow plain honouring disk texts asked sought) may_stop root.now answers (below_or plain honouring disk texts asked sought may_stop root.now answers y)
   below_one (root ∷ other ∷ roots) d some few answers y = absurd (omega (arith, few))
 
   -- the same roots, with other facts of them
-  pub below_same : {roots roots' : List (List ℕ)} → roots ≡ roots' → (answers : List (Item Worth Worth)) → AreBelow (YieldedBelow plain honouring disk texts asked) may_stop roots answers → AreBelow (YieldedBelow plain honouring disk texts asked) may_stop roots' answers
-  below_same are answers y = subst (λ (r : List (List ℕ)). AreBelow (YieldedBelow plain honouring disk texts asked) may_stop r answers) are y
+  pub below_same : {roots roots' : List (List ℕ)} → roots ≡ roots' → (answers : List (Item Worth Worth)) → AreBelow (YieldedBelow plain honouring disk texts asked sought) may_stop roots answers → AreBelow (YieldedBelow plain honouring disk texts asked sought) may_stop roots' answers
+  below_same are answers y = subst (λ (r : List (List ℕ)). AreBelow (YieldedBelow plain honouring disk texts asked sought) may_stop r answers) are y
+
+-- errors that are deeper than a root say neither that memory ran out nor that the crew was busy
+pub none_refused : {C A R E : Type 0} (xs : List (Result (DirEntry C A R E) (Error A))) → AreDeep xs → NoneRefused xs
+none_refused [] deep = tt
+none_refused (Ok e ∷ xs) deep = (λ is. is, none_refused xs deep)
+none_refused (Err f ∷ xs) deep = (λ is. absurd (let none : depth_of (failure f) ≡ 0 = ap depth_of is in omega (arith, none, deep.0)), none_refused xs deep.1)
+
+pub none_busy : {C A R E : Type 0} (xs : List (Result (DirEntry C A R E) (Error A))) → AreDeep xs → NoneBusy xs
+none_busy [] deep = tt
+none_busy (Ok e ∷ xs) deep = (λ is. is, none_busy xs deep)
+none_busy (Err f ∷ xs) deep = (λ is. absurd (let none : depth_of (failure f) ≡ 0 = ap depth_of is in omega (arith, none, deep.0)), none_busy xs deep.1)

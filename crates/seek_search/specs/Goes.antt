@@ -19,9 +19,12 @@ use Rattle.jwalk_ignore.specs.Callback.Given.{no_rules_yet, rules_alone}
 use Rattle.jwalk_ignore.specs.Callback.IgnoreViews.{next_of, settings_of, texts_of}
 use Rattle.jwalk_ignore.specs.jwalk_ignore_rules.declared.rules.chain.Chain.{Chain}
 use Rattle.seek_words.specs.declared.asked.Asked.{Asked}
+use Rattle.seek_words.specs.declared.screen.Screen.{Screen}
+use Rattle.seek_words.specs.Sought.{Sought}
 use Rattle.seek_found.specs.Limit.{is_hit}
+use Rattle.seek_found.specs.Prune.{unpruned}
 use Rattle.seek_found.specs.Roots.{AreBelow, Below, PrintsSuch}
-use Rattle.seek_search.specs.Options.{with_crew}
+use Rattle.program_walks.specs.Options.{with_crew}
 use Rattle.jwalk_ignore.specs.Callback.Excluding.{excluded_of}
 use Rattle.seek_search.specs.Search.{excluded_asked, form_before, limit_asked, options_asked, roots_asked, settings_asked, sought_before}
 use Rattle.jwalk_ignore.specs.declared.callback.excluding.Excluding.{Excluding}
@@ -34,15 +37,15 @@ CallsOf T C S P A R E =
     DirEntryIter C S P A (Session T C S P A R E) R E → Option (Result (DirEntry C A R E) (Error A)) → DirEntryIter C S P A (Session T C S P A R E) R E → Type 0
 
 -- A walk with these facts was begun and called until it ended, or some calls were made if the search may stop. These
--- are its answers, whatever the states are.
-pub record Yielded {T C S P A R E : Type 0} (calls : CallsOf T C S P A R E) (is : WalkDirGeneric C S P A (Crew T) R E → Type 0) (may_stop : Type 0) (answers : List (Item Worth Worth)) : Type 0 where
+-- are its answers, whatever the states are, without those below a find if these aren't looked for.
+pub record Yielded {T C S P A R E : Type 0} (calls : CallsOf T C S P A R E) (is : WalkDirGeneric C S P A (Crew T) R E → Type 0) (sought : Sought) (may_stop : Type 0) (answers : List (Item Worth Worth)) : Type 0 where
   pub walk : WalkDirGeneric C S P A (Crew T) R E
   pub is_so : is walk
   pub it : DirEntryIter C S P A (Session T C S P A R E) R E
   pub starts : Starts walk it
   pub yielded : List (Result (DirEntry C A R E) (Error A))
   pub called : Drains calls it yielded ⊎ (may_stop × ((end : DirEntryIter C S P A (Session T C S P A R E) R E) × Yields calls it yielded end))
-  pub counted : counted_list stateless yielded ≡ answers
+  pub counted : unpruned sought (counted_list stateless yielded) ≡ answers
 
 -- The walk over this disk below this root, without ignore files. It leaves out what `-E` names. A crew may read for it.
 pub record IsPlain {T C S B A R E : Type 0} (disk : S) (asked : Asked) (root : List ℕ) (walk : WalkDirGeneric C (Arc S B) Excluding A (Crew T) R E) : Type 0 where
@@ -66,30 +69,30 @@ pub record IsHonouring {T C S B X A D Q E : Type 0} (disk : S) (texts : X) (aske
 
 module _ {T C S B X A D Q E G H F : Type 0} (plain : CallsOf T G (Arc S B) Excluding A H F) (honouring : CallsOf T C (Arc S B) (KeptRules X) A (Chain D × Q) E) where
   -- The answers are those of the walk that is asked for below this root: all of them, unless the search may stop.
-  abbrev pub YieldedBelow : S → X → Asked → Below
-  YieldedBelow disk texts asked may_stop root answers =
-      MatchBool asked.no_ignore (Yielded plain (IsPlain disk asked root) may_stop answers) (Yielded honouring (IsHonouring disk texts asked root) may_stop answers)
+  abbrev pub YieldedBelow : S → X → Asked → Sought → Below
+  YieldedBelow disk texts asked sought may_stop root answers =
+      MatchBool asked.no_ignore (Yielded plain (IsPlain disk asked root) sought may_stop answers) (Yielded honouring (IsHonouring disk texts asked root) sought may_stop answers)
 
 module _ {T C Z B X A D Q E G H F : Type 0} (plain : CallsOf T G (Arc (KeptLinks Z) B) Excluding A H F) (honouring : CallsOf T C (Arc (KeptLinks Z) B) (KeptRules X) A (Chain D × Q) E) where
   -- The answers are those of the walks below the roots that are asked for, one root after another. Links that lead
   -- nowhere stay links.
-  abbrev pub AreYielded : Z → X → Asked → Type 0 → List (Item Worth Worth) → Type 0
-  AreYielded disk texts asked may_stop = AreBelow (YieldedBelow plain honouring (record { disk = disk; follow = asked.follow }) texts asked) may_stop (roots_asked asked)
+  abbrev pub AreYielded : Z → X → Asked → Sought → Type 0 → List (Item Worth Worth) → Type 0
+  AreYielded disk texts asked sought may_stop = AreBelow (YieldedBelow plain honouring (record { disk = disk; follow = asked.follow }) texts asked sought) may_stop (roots_asked asked)
 
   -- The line of each answer that is looked for was printed, up to the limit, and the result says whether all answers
   -- are clean. The absolute path is tested, and printed, if that is asked for.
-  pub record PrintsYielded (disk : Z) (texts : X) (on_terminal : Bool) (asked : Asked) (takes : List ℕ → Bool → Bool) (old new : Option (List ℕ)) (clean : Bool) : Type 0 where
+  pub record PrintsYielded (disk : Z) (texts : X) (screen : Screen) (asked : Asked) (takes : List ℕ → Bool → Bool) (old new : Option (List ℕ)) (clean : Bool) : Type 0 where
     pub front : Option (List ℕ)
     pub in_front : is_some front ≡ asked.full_path
     pub shown : Option (List ℕ)
     pub is_shown : is_some shown ≡ asked.absolute
     pub left : Option ℕ
-    pub printed : PrintsSuch (AreYielded disk texts asked (left ≡ Some 0)) (sought_before front asked takes) (form_before shown on_terminal asked) (limit_asked asked) left old new clean
+    pub printed : PrintsSuch (AreYielded disk texts asked (sought_before front asked takes) (left ≡ Some 0)) (sought_before front asked takes) (form_before shown screen asked) (limit_asked asked) left old new clean
 
   -- One of the answers is looked for. The search may stop there.
   pub record FindsOne (disk : Z) (texts : X) (asked : Asked) (takes : List ℕ → Bool → Bool) : Type 0 where
     pub front : Option (List ℕ)
     pub in_front : is_some front ≡ asked.full_path
     pub answers : List (Item Worth Worth)
-    pub yielded : AreYielded disk texts asked (Unit {0}) answers
+    pub yielded : AreYielded disk texts asked (sought_before front asked takes) (Unit {0}) answers
     pub found : list_any (is_hit (sought_before front asked takes)) answers ≡ true

@@ -1,6 +1,5 @@
 pub mod Search
 pub mod Run
-pub mod Options
 pub mod Printed
 pub mod Goes
 pub mod KeptLinks

@@ -1,5 +1,5 @@
 -- The walks of a search, and its finds.
-use Rattle.std.specs.Prelude.{ℕ, zero, suc, ◌==◌, Bool, false, List, [], ◌∷◌, flat_map, length, Option, None, Some, Result, Ok, Err, if◌then◌else◌}
+use Rattle.std.specs.Prelude.{ℕ, zero, suc, ◌==◌, Bool, true, false, not, List, [], ◌∷◌, flat_map, length, Option, None, Some, Result, Ok, Err, unwrap_or, if◌then◌else◌}
 use Rattle.std.specs.declared.io.ErrorKind.{ErrorKind}
 use Rattle.jwalk.specs.jwalk_model.Counted.{Worth, blank}
 use Rattle.jwalk.specs.jwalk_model.Entry.{Item}
@@ -8,16 +8,22 @@ use Rattle.jwalk.specs.jwalk_model.Options.{Options}
 use Rattle.jwalk.specs.jwalk_model.Paths.{join, dot}
 use Rattle.jwalk.specs.jwalk_model.Walk.{whole_walk}
 use Rattle.jwalk_ignore.specs.Callback.Excluding.{Excluded, excluded_by, excluding}
+use Rattle.jwalk_ignore.specs.Callback.Given.{first_settings}
 use Rattle.jwalk_ignore.specs.Callback.Kept.{ignoring_walk, job_with}
 use Rattle.jwalk_ignore.specs.Rules.Texts.{Texts}
 use Rattle.jwalk_ignore.specs.declared.callback.settings.Settings.{Settings}
+use Rattle.seek_braces.specs.Expanded.{expansions}
 use Rattle.seek_words.specs.Sought.{Sought}
-use Rattle.seek_words.specs.Lines.{Form}
+use Rattle.seek_colors.specs.Palette.{palette_in}
+use Rattle.seek_words.specs.Layout.{Form}
+use Rattle.seek_found.specs.Prune.{unpruned}
+use Rattle.seek_words.specs.Paint.{Painting}
+use Rattle.seek_words.specs.declared.screen.Screen.{Screen}
 use Rattle.seek_words.specs.declared.paths.Style.{Style}
-use Rattle.seek_search.specs.Options.{options_for}
-use Rattle.seek_search.specs.declared.options.WalkOptions.{WalkOptions}
+use Rattle.program_walks.specs.Options.{options_for}
+use Rattle.program_walks.specs.declared.options.WalkOptions.{WalkOptions}
 use Rattle.seek_words.specs.Metadata.{needs_metadata}
-use Rattle.seek_words.specs.Asks.{texts_of}
+use Rattle.program_parts.specs.Values.{texts_of}
 use Rattle.seek_words.specs.declared.asked.Asked.{Asked}
 
 -- a number, if there is one above 0
@@ -47,7 +53,12 @@ limit_asked asked = if asked.quiet then Some 1 else positive asked.max_results
 
 -- the use of ignore files
 abbrev pub settings_asked : Asked → Settings
-settings_asked asked = record { keeps_hidden = asked.hidden; anywhere = false }
+settings_asked asked = record first_settings {
+  keeps_hidden = asked.hidden;
+  version_control = not asked.no_vcs;
+  above_the_root = not asked.no_parents;
+  fdignore = true;
+}
 
 -- all answers of a walk without ignore files, below a root
 abbrev pub all_below : Functions → Asked → Excluded → List ℕ → List (Item Worth Worth)
@@ -57,9 +68,13 @@ all_below fs asked excluded root = whole_walk (job_with fs (options_asked asked)
 abbrev pub kept_below : Functions → Texts → Asked → Excluded → List ℕ → List (Item Worth Worth)
 kept_below fs texts asked excluded root = ignoring_walk fs texts (settings_asked asked) excluded (options_asked asked) root
 
+-- the lines that a line of `-E` is short for; one that is short for too many, which ends a call, stays one line
+abbrev pub lines_of : List ℕ → List (List ℕ)
+lines_of line = unwrap_or (expansions line) (line ∷ [])
+
 -- the entries that are left out below a root
 abbrev pub excluded_asked : Asked → List ℕ → Excluded
-excluded_asked asked root = excluded_by (texts_of asked.excludes.items) root
+excluded_asked asked root = excluded_by (flat_map lines_of (texts_of asked.excludes.items)) root
 
 -- all answers below a root
 abbrev pub yielded_below : Functions → Texts → Asked → List ℕ → List (Item Worth Worth)
@@ -70,9 +85,13 @@ yielded_below fs texts asked root =
 abbrev pub roots_asked : Asked → List (List ℕ)
 roots_asked asked = if length asked.roots.items == 0 then dot ∷ [] else texts_of asked.roots.items
 
--- all answers, one root after another
-abbrev pub yielded_by : Functions → Texts → Asked → List (Item Worth Worth)
-yielded_by fs texts asked = flat_map (yielded_below fs texts asked) (roots_asked asked)
+-- the answers below a root that aren't below a find, or all of them if what is below is looked for
+abbrev pub unpruned_below : Functions → Texts → Asked → Sought → List ℕ → List (Item Worth Worth)
+unpruned_below fs texts asked sought root = unpruned sought (yielded_below fs texts asked root)
+
+-- the same, one root after another
+abbrev pub yielded_by : Functions → Texts → Asked → Sought → List (Item Worth Worth)
+yielded_by fs texts asked sought = flat_map (unpruned_below fs texts asked sought) (roots_asked asked)
 
 -- the written form of paths, for a terminal or not
 abbrev pub style_asked : Bool → Asked → Style
@@ -90,19 +109,30 @@ front_if wanted texts = if wanted then Some (front_at (texts.absolute_of [])) el
 -- what is looked for, by the texts that pass and the text in front of a relative path
 abbrev pub sought_before : Option (List ℕ) → Asked → (List ℕ → Bool → Bool) → Sought
 sought_before front asked takes = record {
-  wanted = record { depths = asked.depths; kinds = asked.kinds; extensions = texts_of asked.extensions.items; sizes = asked.sizes.items; times = asked.times };
+  wanted = record { depths = asked.depths; kinds = asked.kinds; extensions = texts_of asked.extensions.items; sizes = asked.sizes.items; owner = asked.owner; times = asked.times };
   takes = takes;
   front = front;
+  prunes = asked.prune;
 }
 
 -- the same over texts that always answer the same
 abbrev pub sought_asked : Texts → Asked → (List ℕ → Bool → Bool) → Sought
 sought_asked texts asked = sought_before (front_if asked.full_path texts) asked
 
+-- the colors of printed paths, if they have some
+abbrev pub painting_asked : Screen → Asked → Option Painting
+painting_asked screen asked =
+    if asked.colored then Some (record { colors = palette_in screen.ls_colors.now; follow = asked.follow }) else None
+
 -- the form of printed paths, with this text in front of a relative one
-abbrev pub form_before : Option (List ℕ) → Bool → Asked → Form
-form_before front on_terminal asked = record { style = style_asked on_terminal asked; front = front }
+abbrev pub form_before : Option (List ℕ) → Screen → Asked → Form
+form_before front screen asked = record {
+  style = style_asked screen.is_terminal asked;
+  front = front;
+  details = asked.details;
+  painting = painting_asked screen asked;
+}
 
 -- the same over texts that always answer the same
-abbrev pub form_asked : Texts → Bool → Asked → Form
-form_asked texts on_terminal asked = form_before (front_if asked.absolute texts) on_terminal asked
+abbrev pub form_asked : Texts → Screen → Asked → Form
+form_asked texts screen asked = form_before (front_if asked.absolute texts) screen asked

@@ -1,11 +1,13 @@
 //! A call of the program.
-ghost use Rattle.std.specs.Prelude.{◌≡◌, ◌≤◌, ◌⊎◌, ℕ, None, Some, true, flat_map, is_some, map, string_bytes, IfOk};
+ghost use Rattle.std.specs.Prelude.{◌≡◌, ◌≤◌, ◌⊎◌, None, true, flat_map, is_some, map, string_bytes, IfOk};
 ghost use Rattle.std.specs.Arc.{arc_value};
 ghost use Rattle.std.specs.Option.{option_map};
-ghost use Rattle.seek_words.specs.Asks.{texts_of};
+ghost use Rattle.program_parts.specs.Values.{texts_of};
 ghost use Rattle.seek_words.specs.AsksFor.{AskForText};
 ghost use Rattle.seek_words.specs.Filter.{sought_of};
+ghost use Rattle.seek_words.specs.Layout.{form_in};
 ghost use Rattle.seek_words.specs.Lines.{form_of};
+ghost use Rattle.seek_words.specs.Paint.{painting_of};
 ghost use Rattle.seek_words.specs.Subject.{front_of};
 ghost use Rattle.seek_found.specs.Call.{AskForSearch, Ends};
 ghost use Rattle.seek_found.specs.Roots.{AreBelow};
@@ -14,13 +16,15 @@ ghost use Rattle.seek_found.specs.SoughtTest.{takes_of};
 ghost use Rattle.seek_search.specs.Goes.{FindsOne, PrintsYielded, YieldedBelow};
 ghost use Rattle.seek_search.specs.Printed.{PrintsAll, PrintsThose};
 ghost use Rattle.seek_search.specs.Run.{PrintsAsked, Searches};
-ghost use Rattle.seek_search.specs.Search.{front_if, limit_asked, roots_asked, style_asked, yielded_below, yielded_by};
+ghost use Rattle.seek_search.specs.Search.{form_before, front_if, limit_asked, painting_asked, roots_asked, style_asked, unpruned_below, yielded_by};
 
 use crate::kept_links::KeptLinks;
 use crate::search::{HonouringWalk, PlainWalk, Search};
-use jwalk::Crew;
 use jwalk::file_system::{Fault, FileSystem};
 use jwalk_ignore::texts::Texts;
+use program_parts::halt::Halt;
+use program_walks::crew::crew_of;
+use seek_colors::palette::Palette;
 use seek_found::call::{Ended, read_call, status_of};
 use seek_found::printer::Printer;
 use seek_found::report::report_hidden;
@@ -29,44 +33,20 @@ use seek_found::sought_test::SoughtTest;
 use seek_found::times::times_of;
 use seek_words::asked::Asked;
 use seek_words::filter::Filter;
-use seek_words::halt::Halt;
 use seek_words::hidden::finds_none_shown;
+use seek_words::layout::Layout;
 use seek_words::lines::Lines;
+use seek_words::paint::Paint;
 use seek_words::paths::Style;
+use seek_words::screen::Screen;
 use seek_words::subject::AbsolutePath;
 use seek_words::wanted::Wanted;
 use std::alloc::{AllocError, Global};
 use std::io;
 use std::io::Write;
 use std::sync::{Arc, Wait};
-use std::thread::{Threads, available_parallelism};
+use std::thread::Threads;
 use std::time::Clock;
-
-/// Returns as many threads as are asked for, or else as can run at a time.
-fn threads_of<T: Threads>(rt: &T, asked: &Asked<'_>) -> usize
-    ensures { (threads : ℕ) → asked.now.threads ≡ Some threads → result ≡ threads }
-{
-    match asked.threads {
-        Some(threads) => threads,
-        None => match available_parallelism(rt) {
-            Ok(threads) => threads.get(),
-            Err(_) => 1,
-        },
-    }
-}
-
-/// One thread needs no crew.
-fn crew_of<T: Wait + Threads + Clock + Clone + Drop>(
-    rt: &T,
-    alloc: Global,
-    asked: &Asked<'_>,
-) -> Result<Option<Arc<Crew<T>>>, AllocError> {
-    let threads = threads_of(rt, asked);
-    if threads < 2 {
-        return Ok(None);
-    }
-    Ok(Some(Arc::new(alloc, Crew::new(rt.clone()?, 1, threads))?))
-}
 
 fn shared<V: Drop>(alloc: Global, value: V) -> Result<Arc<V>, AllocError>
     ensures { IfOk result (λ it. arc_value it ≡ value) }
@@ -116,6 +96,38 @@ fn style_of(on_terminal: bool, asked: &Asked<'_>) -> Style
     }
 }
 
+fn paint_of(
+    alloc: Global,
+    screen: Screen<'_>,
+    asked: &Asked<'_>,
+) -> Result<Option<Paint>, AllocError>
+    ensures { IfOk result (λ paint. option_map painting_of paint ≡ painting_asked screen.entry asked.now) }
+{
+    if !asked.colored {
+        return Ok(None);
+    }
+    Ok(Some(Paint {
+        palette: Palette::read(alloc, screen.ls_colors)?,
+        follow: asked.follow,
+    }))
+}
+
+fn layout_of(
+    alloc: Global,
+    screen: Screen<'_>,
+    asked: &Asked<'_>,
+    absolute: Option<AbsolutePath>,
+) -> Result<Layout, AllocError>
+    ensures { IfOk result (λ layout. form_in layout ≡ form_before (option_map front_of absolute) screen.entry asked.now) }
+{
+    Ok(Layout {
+        style: style_of(screen.is_terminal, asked),
+        absolute,
+        details: asked.details,
+        paint: paint_of(alloc, screen, asked)?,
+    })
+}
+
 /// Searches the two halves of the roots in turn. Returns whether there was no error.
 fn search_each<
     T: Wait + Threads + Clock + Clone + Drop + Send + Sync + 'static,
@@ -132,13 +144,12 @@ fn search_each<
     out: &mut W,
     err: &mut E,
 ) -> Result<bool, Halt>
-    ensures yielded { IfOk result (PrintsThose (λ may_stop. AreBelow (YieldedBelow ⟦<PlainWalk<T, S> as Iterator>⟧.next_gives
+    ensures yielded { IfOk result (PrintsThose (λ sought may_stop. AreBelow (YieldedBelow ⟦<PlainWalk<T, S> as Iterator>⟧.next_gives
         ⟦<HonouringWalk<T, S, X> as Iterator>⟧.next_gives (arc_value search.now.disk) (arc_value search.now.texts)
-        search.now.asked.now) may_stop (texts_of roots.now)) printer.old printer.new (W.contents out.old) (W.contents out.new)) }
+        search.now.asked.now sought) may_stop (texts_of roots.now)) printer.old printer.new (W.contents out.old) (W.contents out.new)) }
     ensures whole { IfOk result (λ clean. S.IsFixed (arc_value search.now.disk) → X.IsFixed (arc_value search.now.texts)
-        → PrintsAll
-        (flat_map (yielded_below (S.functions (arc_value search.now.disk)) (X.functions (arc_value search.now.texts)) search.now.asked.now)
-        (texts_of roots.now)) printer.old printer.new (W.contents out.old) (W.contents out.new) clean) }
+        → PrintsAll (λ sought. flat_map (unpruned_below (S.functions (arc_value search.now.disk))
+        (X.functions (arc_value search.now.texts)) search.now.asked.now sought) (texts_of roots.now)) printer.old printer.new (W.contents out.old) (W.contents out.new) clean) }
     ensures sought { sought_of takes_of printer.new.filter ≡ sought_of takes_of printer.old.filter }
     ensures form { form_of printer.new.lines ≡ form_of printer.old.lines }
 {
@@ -171,9 +182,9 @@ fn search_roots<
     out: &mut W,
     err: &mut E,
 ) -> Result<bool, Halt>
-    ensures yielded { IfOk result (PrintsThose (λ may_stop. AreBelow (YieldedBelow ⟦<PlainWalk<T, S> as Iterator>⟧.next_gives
+    ensures yielded { IfOk result (PrintsThose (λ sought may_stop. AreBelow (YieldedBelow ⟦<PlainWalk<T, S> as Iterator>⟧.next_gives
         ⟦<HonouringWalk<T, S, X> as Iterator>⟧.next_gives (arc_value search.now.disk) (arc_value search.now.texts)
-        search.now.asked.now) may_stop (roots_asked search.now.asked.now)) printer.old printer.new
+        search.now.asked.now sought) may_stop (roots_asked search.now.asked.now)) printer.old printer.new
         (W.contents out.old) (W.contents out.new)) }
     ensures whole { IfOk result (λ clean. S.IsFixed (arc_value search.now.disk) → X.IsFixed (arc_value search.now.texts)
         → PrintsAll
@@ -202,18 +213,18 @@ fn search_asked<
     texts: X,
     asked: &Asked<'_>,
     sought: &Sought,
-    on_terminal: bool,
+    screen: Screen<'_>,
     out: &mut W,
     err: &mut E,
 ) -> Result<Ended, Halt>
     ensures yielded { IfOk result (λ ended. PrintsYielded ⟦<PlainWalk<T, KeptLinks<S>> as Iterator>⟧.next_gives
-        ⟦<HonouringWalk<T, KeptLinks<S>, X> as Iterator>⟧.next_gives disk texts on_terminal asked.now (takes_by sought.now)
+        ⟦<HonouringWalk<T, KeptLinks<S>, X> as Iterator>⟧.next_gives disk texts screen.entry asked.now (takes_by sought.now)
         (W.contents out.old) (W.contents out.new) ended.clean) }
     ensures found { IfOk result (λ ended. asked.now.quiet ≡ true → ended.full ≡ true
         → FindsOne ⟦<PlainWalk<T, KeptLinks<S>> as Iterator>⟧.next_gives
         ⟦<HonouringWalk<T, KeptLinks<S>, X> as Iterator>⟧.next_gives disk texts asked.now (takes_by sought.now)) }
     ensures whole { IfOk result (λ ended. limit_asked asked.now ≡ None → ended.clean ≡ true → S.IsFixed disk → X.IsFixed texts
-        → PrintsAsked (S.functions disk) (X.functions texts) on_terminal asked.now sought.now
+        → PrintsAsked (S.functions disk) (X.functions texts) screen.entry asked.now sought.now
         (W.contents out.old) (W.contents out.new)) }
 {
     let wanted = Wanted {
@@ -221,15 +232,18 @@ fn search_asked<
         kinds: asked.kinds,
         extensions: asked.extensions.as_slice(),
         sizes: asked.sizes.as_slice(),
+        owner: asked.owner,
         times: asked.times,
     };
     let filter = Filter {
         wanted,
         test: SoughtTest::new(alloc, sought)?,
         path: path_of(alloc, asked.full_path, &texts)?,
+        prunes: asked.prune,
     };
     let absolute = path_of(alloc, asked.absolute, &texts)?;
-    let lines = Lines::new(alloc, style_of(on_terminal, asked), absolute)?;
+    let layout = layout_of(alloc, screen, asked, absolute)?;
+    let lines = Lines::new(alloc, layout)?;
     let left = limit_of(asked);
     let mut printer = Printer {
         filter,
@@ -247,7 +261,7 @@ fn search_asked<
             },
         )?,
         texts: shared(alloc, texts)?,
-        crew: crew_of(rt, alloc, asked)?,
+        crew: crew_of(rt, alloc, asked.threads)?,
     };
     let clean = search_roots(alloc, &search, &mut printer, out, err)?;
     printer.lines.finish(out)?;
@@ -262,7 +276,7 @@ fn search_asked<
 
 /// Searches the disk as the words ask. The first word is the program's name. Prints the path of each entry that is
 /// looked for, and reports errors on `err`. Returns the status. If the output is a terminal, control characters in
-/// paths are written as question marks.
+/// paths are written as question marks, and paths are in colors, unless the words or the screen say otherwise.
 ///
 /// The status is 0 if everything was searched, or as much as was asked for, and there was no error. It is 1 if there
 /// was one, if the times that are named aren't known, if memory ran out, or if the output can't be written. It is 2 for
@@ -282,7 +296,7 @@ pub fn run<
     disk: S,
     texts: X,
     words: &[String],
-    on_terminal: bool,
+    screen: Screen<'_>,
     out: &mut W,
     err: &mut E,
 ) -> u8
@@ -294,7 +308,7 @@ pub fn run<
     ensures done { result ≡ 0 → AskForText (map string_bytes words.now)
         ⊎ Searches ⟦<PlainWalk<T, KeptLinks<S>> as Iterator>⟧.next_gives
         ⟦<HonouringWalk<T, KeptLinks<S>, X> as Iterator>⟧.next_gives disk texts
-        (S.IsFixed disk × X.IsFixed texts) (S.functions disk) (X.functions texts) on_terminal
+        (S.IsFixed disk × X.IsFixed texts) (S.functions disk) (X.functions texts) screen.entry
         (map string_bytes words.now) (W.contents out.old) (W.contents out.new) }
 {
     let (mut asked, sought) = match read_call(alloc, words, out, err) {
@@ -308,24 +322,16 @@ pub fn run<
             return 1;
         }
     }
+    asked.colored = screen.is_colored(asked.color);
     if asked.quiet {
         let mut sink = io::sink();
         let ended = search_asked(
-            rt, clock, alloc, disk, texts, &asked, &sought, false, &mut sink, err,
+            rt, clock, alloc, disk, texts, &asked, &sought, screen, &mut sink, err,
         );
         return status_of(true, ended, err);
     }
     let ended = search_asked(
-        rt,
-        clock,
-        alloc,
-        disk,
-        texts,
-        &asked,
-        &sought,
-        on_terminal,
-        out,
-        err,
+        rt, clock, alloc, disk, texts, &asked, &sought, screen, out, err,
     );
     status_of(false, ended, err)
 }

@@ -11,24 +11,26 @@ ghost use Rattle.jwalk_ignore.specs.Callback.Excluding.{excluded_of};
 ghost use Rattle.jwalk_ignore.specs.Callback.Kept.{ignoring_walk};
 ghost use Rattle.seek_search.specs.Goes.{IsHonouring, IsPlain, Yielded, YieldedBelow};
 ghost use Rattle.seek_search.specs.Printed.{PrintsAll, PrintsThose, PrintsWalk};
-ghost use Rattle.seek_search.specs.Search.{all_below, excluded_asked, kept_below, walk_options, yielded_below};
+ghost use Rattle.seek_search.specs.Search.{all_below, excluded_asked, kept_below, settings_asked, unpruned_below, walk_options};
+ghost use Rattle.seek_found.specs.Prune.{unpruned};
 ghost use Rattle.seek_found.specs.SoughtTest.{takes_of};
 
-use crate::options::WalkOptions;
+use crate::excluded::excluding_of;
 use jwalk::crew::Session;
 use jwalk::file_system::FileSystem;
-use jwalk::read_dir::{NoProcess, ProcessReadDir};
+use jwalk::read_dir::ProcessReadDir;
 use jwalk::{ClientState, Crew, DirEntryIter, WalkDirGeneric};
 use jwalk_ignore::builder::with_hidden_shown;
 use jwalk_ignore::excluding::Excluding;
 use jwalk_ignore::ignore_files::IgnoreFiles;
 use jwalk_ignore::kept_rules::{KeptRules, KeptStates};
 use jwalk_ignore::texts::Texts;
+use program_parts::halt::Halt;
+use program_walks::options::{Plain, WalkOptions};
 use seek_found::found::print_found;
 use seek_found::printer::Printer;
 use seek_found::sought_test::SoughtTest;
 use seek_words::asked::Asked;
-use seek_words::halt::Halt;
 use std::alloc::Global;
 use std::io::Write;
 use std::sync::{Arc, Wait};
@@ -43,9 +45,6 @@ pub(crate) type PlainWalk<T, S> = CrewWalk<T, ((), ()), Arc<S>, Excluding>;
 
 /// A walk with ignore files.
 pub(crate) type HonouringWalk<T, S, X> = CrewWalk<T, KeptStates, Arc<S>, KeptRules<X>>;
-
-/// A walk that has not begun, with the states of ignore files.
-type Plain<T, S> = WalkDirGeneric<KeptStates, Arc<S>, NoProcess, Global, Crew<T>>;
 
 /// A crew may read for the walk.
 fn print_begun<
@@ -78,6 +77,18 @@ where
     print_found(&mut answers, printer, clock, out, err)
 }
 
+/// Returns the rules that are asked for, from these texts.
+fn rules_of<X: Texts>(asked: &Asked<'_>, texts: X) -> IgnoreFiles<X>
+    ensures texts { texts_of result ≡ texts }
+    ensures settings { settings_of result ≡ settings_asked asked.now }
+{
+    IgnoreFiles::new(texts)
+        .keep_hidden(asked.hidden)
+        .version_control(!asked.no_vcs)
+        .above_the_root(!asked.no_parents)
+        .fdignore(true)
+}
+
 /// The walk honours these rules.
 fn search_walk<
     T: Wait + Threads + Clock + Clone + Drop + Send + Sync + 'static,
@@ -95,9 +106,9 @@ fn search_walk<
     err: &mut E,
 ) -> Result<bool, Halt>
     ensures whole { IfOk result (λ clean. S.IsFixed (arc_value (file_system_of walk)) → X.IsFixed (arc_value (texts_of rules.rules))
-        → rules_alone (state_of walk) ≡ no_rules_yet → PrintsAll
+        → rules_alone (state_of walk) ≡ no_rules_yet → PrintsAll (λ sought. unpruned sought
         (ignoring_walk (S.functions (arc_value (file_system_of walk))) (X.functions (arc_value (texts_of rules.rules)))
-        (settings_of rules.rules) (excluded_of (next_of rules.rules)) (options_of walk) (root_of walk))
+        (settings_of rules.rules) (excluded_of (next_of rules.rules)) (options_of walk) (root_of walk)))
         printer.old printer.new (W.contents out.old) (W.contents out.new) clean) }
     ensures yielded { IfOk result (PrintsThose (Yielded ⟦<HonouringWalk<T, S, X> as Iterator>⟧.next_gives
         (Sets (record (with_callback rules (described walk)) { options = with_skip_hidden false (options_of walk) })))
@@ -147,9 +158,9 @@ impl<
         out: &mut W,
         err: &mut E,
     ) -> Result<bool, Halt>
-        ensures whole { IfOk result (λ clean. S.IsFixed (arc_value self.now.disk) → PrintsAll
+        ensures whole { IfOk result (λ clean. S.IsFixed (arc_value self.now.disk) → PrintsAll (λ sought. unpruned sought
             (all_below (S.functions (arc_value self.now.disk)) self.now.asked.now
-            (excluded_asked self.now.asked.now root.now) root.now)
+            (excluded_asked self.now.asked.now root.now) root.now))
             printer.old printer.new (W.contents out.old) (W.contents out.new) clean) }
         ensures yielded { IfOk result (PrintsThose (Yielded ⟦<PlainWalk<T, S> as Iterator>⟧.next_gives
             (IsPlain (arc_value self.now.disk) self.now.asked.now root.now))
@@ -157,7 +168,7 @@ impl<
         ensures sought { sought_of takes_of printer.new.filter ≡ sought_of takes_of printer.old.filter }
         ensures form { form_of printer.new.lines ≡ form_of printer.old.lines }
     {
-        let excluding = Excluding::new(alloc, self.asked.excludes.as_slice(), root)?;
+        let excluding = excluding_of(alloc, self.asked.excludes.as_slice(), root)?;
         let root = String::from_str(alloc, root)?;
         let disk = self.disk.clone()?;
         let walk = self
@@ -182,9 +193,9 @@ impl<
         err: &mut E,
     ) -> Result<bool, Halt>
         ensures whole { IfOk result (λ clean. S.IsFixed (arc_value self.now.disk) → X.IsFixed (arc_value self.now.texts)
-            → PrintsAll
+            → PrintsAll (λ sought. unpruned sought
             (kept_below (S.functions (arc_value self.now.disk)) (X.functions (arc_value self.now.texts)) self.now.asked.now
-            (excluded_asked self.now.asked.now root.now) root.now)
+            (excluded_asked self.now.asked.now root.now) root.now))
             printer.old printer.new (W.contents out.old) (W.contents out.new) clean) }
         ensures yielded { IfOk result (PrintsThose (Yielded ⟦<HonouringWalk<T, S, X> as Iterator>⟧.next_gives
             (IsHonouring (arc_value self.now.disk) (arc_value self.now.texts) self.now.asked.now root.now))
@@ -192,10 +203,8 @@ impl<
         ensures sought { sought_of takes_of printer.new.filter ≡ sought_of takes_of printer.old.filter }
         ensures form { form_of printer.new.lines ≡ form_of printer.old.lines }
     {
-        let excluding = Excluding::new(alloc, self.asked.excludes.as_slice(), root)?;
-        let rules = IgnoreFiles::new(self.texts.clone()?)
-            .keep_hidden(self.asked.hidden)
-            .then(excluding);
+        let excluding = excluding_of(alloc, self.asked.excludes.as_slice(), root)?;
+        let rules = rules_of(self.asked, self.texts.clone()?).then(excluding);
         let root = String::from_str(alloc, root)?;
         let disk = self.disk.clone()?;
         let walk = self
@@ -214,12 +223,12 @@ impl<
         err: &mut E,
     ) -> Result<bool, Halt>
         ensures whole { IfOk result (λ clean. S.IsFixed (arc_value self.now.disk) → X.IsFixed (arc_value self.now.texts)
-            → PrintsAll
-            (yielded_below (S.functions (arc_value self.now.disk)) (X.functions (arc_value self.now.texts)) self.now.asked.now root.now)
+            → PrintsAll (λ sought. unpruned_below (S.functions (arc_value self.now.disk)) (X.functions (arc_value self.now.texts))
+            self.now.asked.now sought root.now)
             printer.old printer.new (W.contents out.old) (W.contents out.new) clean) }
-        ensures yielded { IfOk result (PrintsThose (λ may_stop. YieldedBelow ⟦<PlainWalk<T, S> as Iterator>⟧.next_gives
+        ensures yielded { IfOk result (PrintsThose (λ sought may_stop. YieldedBelow ⟦<PlainWalk<T, S> as Iterator>⟧.next_gives
             ⟦<HonouringWalk<T, S, X> as Iterator>⟧.next_gives (arc_value self.now.disk) (arc_value self.now.texts)
-            self.now.asked.now may_stop root.now) printer.old printer.new (W.contents out.old) (W.contents out.new)) }
+            self.now.asked.now sought may_stop root.now) printer.old printer.new (W.contents out.old) (W.contents out.new)) }
         ensures sought { sought_of takes_of printer.new.filter ≡ sought_of takes_of printer.old.filter }
         ensures form { form_of printer.new.lines ≡ form_of printer.old.lines }
     {

@@ -4,6 +4,5 @@ pub mod EndFacts
 pub mod CaseFacts
 pub mod ExtensionFacts
 pub mod PathFacts
-pub mod MaskedFacts
 pub mod SizeFacts
 pub mod TimeFacts

@@ -1,44 +1,56 @@
 -- The meaning of words, by the values of options.
-use Rattle.std.specs.Prelude.{◌≡◌, ℕ, ◌<◌, ◌^◌, ◌==◌, Bool, ◌||◌, true, false, nat_lt, List, [], map, bytes_eq, codes, Option, Some, None, option_map, unwrap_or, SomeIff, if◌then◌else◌}
-use Rattle.std.specs.Borrow.{Bor}
+use Rattle.std.specs.Prelude.{◌≡◌, ℕ, ◌==◌, Bool, ◌&&◌, ◌||◌, true, false, List, [], ◌++◌, map, bytes_eq, codes, Option, Some, None, option_map, unwrap_or, if◌then◌else◌}
 use Rattle.std.specs.List.{list_any}
-use Rattle.std.specs.Str.Parse.{IsNumeral, digits_value, without_leading_plus}
-use Rattle.clap.specs.Words.{Row, Text, all_of, count_of, first_of, one_of}
+use Rattle.clap.specs.Words.{Row, Text, first_of, one_of}
+use Rattle.program_parts.specs.Values.{is_named, values_in, texts_of, IsNumberOf}
+use Rattle.seek_words.specs.Color.{color_in}
+use Rattle.seek_words.specs.Owner.{owner_in}
 use Rattle.seek_words.specs.Size.{size_in}
 use Rattle.seek_words.specs.Time.{time_in}
 use Rattle.seek_words.specs.declared.case.Case.{Case}
 use Rattle.seek_words.specs.declared.case.Case.TheVariants.{Smart, Ignored, Kept}
+use Rattle.seek_words.specs.declared.color.Color.{Color}
+use Rattle.seek_words.specs.declared.color.Color.TheVariants.{Auto}
 use Rattle.seek_words.specs.declared.depths.Depths.{Depths}
 use Rattle.seek_words.specs.declared.kinds.Kinds.{Kinds}
 use Rattle.seek_words.specs.declared.asked.Asked.{Asked}
 
--- whether an option of one word was named
-abbrev pub is_named : List Row → Text → Bool
-is_named rows id = nat_lt 0 (count_of id rows)
-
 -- whether one of two options of one word was named
 abbrev pub is_either_named : List Row → Text → Text → Bool
 is_either_named rows id other = is_named rows id || is_named rows other
-
--- the values of an option
-abbrev pub values_in : List Row → Text → List Text
-values_in rows id = unwrap_or (all_of id rows) []
-
--- The number of a text, if it has one of 64 bits.
-abbrev pub IsNumberOf : Option Text → Option ℕ → Type 0
-IsNumberOf None number = number ≡ None
-IsNumberOf (Some text) number =
-    SomeIff number (IsNumeral 10 (without_leading_plus text) × (digits_value 10 (without_leading_plus text) < 2 ^ 64)) (digits_value 10 (without_leading_plus text))
 
 -- The greatest number of printed paths.
 pub record AreResultsIn (rows : List Row) (most : Option ℕ) : Type 0 where
   pub one : is_named rows (codes "one-result") ≡ true → most ≡ Some 1
   pub named : is_named rows (codes "one-result") ≡ false → IsNumberOf (one_of (codes "max-results") rows) most
 
--- whether the case of letters counts
-abbrev pub case_in : List Row → Case
-case_in rows =
-    if is_named rows (codes "ignore-case") then Ignored else if is_named rows (codes "case-sensitive") then Kept else Smart
+-- Of two options of which the last counts, the one that is named is asked for, and just one of them if both are.
+pub record ChoosesOne (named named' asked asked' : Bool) : Type 0 where
+  pub first : asked ≡ true → named ≡ true
+  pub second : asked' ≡ true → named' ≡ true
+  pub some : (asked || asked') ≡ (named || named')
+  pub one : (asked && asked') ≡ false
+
+abbrev ignores : Case → Bool
+ignores Ignored = true
+ignores _ = false
+
+abbrev keeps : Case → Bool
+keeps Kept = true
+keeps _ = false
+
+-- Whether the case of letters counts.
+abbrev pub IsCaseIn : List Row → Case → Type 0
+IsCaseIn rows case =
+    ChoosesOne (is_named rows (codes "ignore-case")) (is_named rows (codes "case-sensitive")) (ignores case) (keeps case)
+
+-- Whether the pattern is a glob or a text.
+abbrev pub AreReadingsIn : List Row → Bool → Bool → Type 0
+AreReadingsIn rows = ChoosesOne (is_named rows (codes "glob")) (is_named rows (codes "fixed-strings"))
+
+-- the roots
+abbrev pub roots_in : List Row → List Text
+roots_in rows = values_in rows (codes "root") ++ values_in rows (codes "search-path")
 
 -- the depths by an exact one, a least and a greatest
 abbrev pub depths_by : Option ℕ → Option ℕ → Option ℕ → Depths
@@ -69,9 +81,9 @@ kinds_in names = record {
   other = names_one names (codes "o") (codes "other");
 }
 
--- the texts of words
-abbrev pub texts_of : List (Bor Text) → List Text
-texts_of = map (λ it. it.now)
+-- When paths are printed in colors.
+abbrev pub IsColorIn : Option Text → Color → Type 0
+IsColorIn named color = Some color ≡ unwrap_or (option_map color_in named) (Some Auto)
 
 -- whether a byte is a slash
 abbrev pub is_slash : ℕ → Bool
@@ -80,14 +92,15 @@ is_slash byte = byte == 47
 -- What the values of options ask for.
 pub record Asks (rows : List Row) (asked : Asked) : Type 0 where
   pub pattern : asked.pattern.now ≡ unwrap_or (first_of (codes "pattern") rows) []
-  pub roots : texts_of asked.roots.items ≡ values_in rows (codes "root")
-  pub glob : asked.glob ≡ is_named rows (codes "glob")
-  pub fixed : asked.fixed ≡ is_named rows (codes "fixed-strings")
+  pub roots : texts_of asked.roots.items ≡ roots_in rows
+  pub readings : AreReadingsIn rows asked.glob asked.fixed
   pub others : texts_of asked.others.items ≡ values_in rows (codes "and")
   pub full_path : asked.full_path ≡ is_named rows (codes "full-path")
-  pub case : asked.case ≡ case_in rows
+  pub case : IsCaseIn rows asked.case
   pub hidden : asked.hidden ≡ is_either_named rows (codes "hidden") (codes "unrestricted")
   pub no_ignore : asked.no_ignore ≡ is_either_named rows (codes "no-ignore") (codes "unrestricted")
+  pub no_vcs : asked.no_vcs ≡ is_named rows (codes "no-ignore-vcs")
+  pub no_parents : asked.no_parents ≡ is_named rows (codes "no-ignore-parent")
   pub follow : asked.follow ≡ is_named rows (codes "follow")
   pub one_file_system : asked.one_file_system ≡ is_named rows (codes "one-file-system")
   pub sort : asked.sort ≡ is_named rows (codes "sort")
@@ -95,12 +108,16 @@ pub record Asks (rows : List Row) (asked : Asked) : Type 0 where
   pub kinds : asked.kinds ≡ kinds_in (values_in rows (codes "type"))
   pub extensions : texts_of asked.extensions.items ≡ values_in rows (codes "extension")
   pub sizes : map Some asked.sizes.items ≡ map size_in (values_in rows (codes "size"))
+  pub owner : option_map Some asked.owner ≡ option_map owner_in (first_of (codes "owner") rows)
   pub changed_within : option_map Some asked.changed_within ≡ option_map time_in (first_of (codes "changed-within") rows)
   pub changed_before : option_map Some asked.changed_before ≡ option_map time_in (first_of (codes "changed-before") rows)
   pub newer_than : option_map (λ it. it.now) asked.newer_than ≡ first_of (codes "newer-than-file") rows
+  pub prune : asked.prune ≡ is_named rows (codes "prune")
   pub excludes : texts_of asked.excludes.items ≡ values_in rows (codes "exclude")
   pub max_results : AreResultsIn rows asked.max_results
   pub quiet : asked.quiet ≡ is_named rows (codes "quiet")
   pub absolute : asked.absolute ≡ is_named rows (codes "absolute-path")
+  pub details : asked.details ≡ is_named rows (codes "list-details")
+  pub color : IsColorIn (first_of (codes "color") rows) asked.color
   pub print0 : asked.print0 ≡ is_named rows (codes "print0")
   pub threads : IsNumberOf (one_of (codes "threads") rows) asked.threads

@@ -7,4 +7,9 @@ use Rattle.seek_words.specs.declared.filter.Filter.{Filter}
 
 -- what a filter looks for
 abbrev pub sought_of : {T : Type 0} → (T → List ℕ → Bool → Bool) → Filter T → Sought
-sought_of takes filter = record { wanted = wants_of filter.wanted; takes = takes filter.test; front = option_map front_of filter.path }
+sought_of takes filter = record {
+  wanted = wants_of filter.wanted;
+  takes = takes filter.test;
+  front = option_map front_of filter.path;
+  prunes = filter.prunes;
+}

@@ -6,12 +6,13 @@ use Rattle.jwalk_model.specs.declared.metadata.Metadata.{Metadata}
 use Rattle.seek_words.specs.Absolute.{absolute_path}
 use Rattle.seek_words.specs.Wanted.{Wants, is_wanted}
 
--- what is looked for: the depths, types, extensions, sizes and times, the texts that pass, and the text in front of a
--- relative path if absolute paths are tested
+-- what is looked for: the depths, types, extensions, sizes and times, the texts that pass, the text in front of a
+-- relative path if absolute paths are tested, and whether nothing below an entry that is found is looked for
 pub record Sought : Type 0 where
   pub wanted : Wants
   pub takes : List ℕ → Bool → Bool
   pub front : Option (List ℕ)
+  pub prunes : Bool
 
 -- the text that is tested: the name of an entry, or its absolute path
 abbrev pub subject : Option (List ℕ) → List ℕ → List ℕ → List ℕ

@@ -2,8 +2,10 @@
 ghost use Rattle.std.specs.Prelude.{◌≡◌};
 
 use crate::case::Case;
+use crate::color::Color;
 use crate::depths::Depths;
 use crate::kinds::Kinds;
+use crate::owner::Owner;
 use crate::size::Size;
 use crate::time::Time;
 use crate::times::Times;
@@ -30,6 +32,10 @@ pub struct Asked<'w> {
     pub hidden: bool,
     /// No ignore files are read.
     pub no_ignore: bool,
+    /// `.gitignore` and `.git/info/exclude` aren't read.
+    pub no_vcs: bool,
+    /// No ignore files above a root are read.
+    pub no_parents: bool,
     /// Links are followed.
     pub follow: bool,
     /// Directories on another file system than the root aren't read.
@@ -44,12 +50,16 @@ pub struct Asked<'w> {
     pub extensions: Vec<&'w str, Global>,
     /// The sizes of the files that are looked for, or none for any entry.
     pub sizes: Vec<Size, Global>,
+    /// The owner of what is looked for, if one is named.
+    pub owner: Option<Owner>,
     /// Entries were modified later than this, if it is named.
     pub changed_within: Option<Time>,
     /// Entries were modified before this, if it is named.
     pub changed_before: Option<Time>,
     /// Entries were modified later than this file, if it is named.
     pub newer_than: Option<&'w str>,
+    /// What is below a directory that is found isn't looked for.
+    pub prune: bool,
     /// The times at which entries were modified, by the clock and the disk. The words alone don't set it.
     pub times: Times,
     /// Lines of an ignore file, for entries to leave out.
@@ -60,6 +70,12 @@ pub struct Asked<'w> {
     pub quiet: bool,
     /// Absolute paths are printed.
     pub absolute: bool,
+    /// Details of an entry are printed in front of its path.
+    pub details: bool,
+    /// When paths are printed in colors.
+    pub color: Color,
+    /// Paths are printed in colors, by what they are printed to. The words alone don't set it.
+    pub colored: bool,
     /// A zero byte follows each path, in place of a line feed.
     pub print0: bool,
     /// The number of threads that read directories, if that was named.
@@ -67,7 +83,7 @@ pub struct Asked<'w> {
 }
 
 impl<'w> Asked<'w> {
-    ghost use Rattle.seek_words.specs.Metadata.{names_time, needs_metadata};
+    ghost use Rattle.seek_words.specs.Metadata.{names_time, needs_metadata, shows_metadata};
 
     fn names_time(&self) -> bool
         ensures { result ≡ names_time self.now }
@@ -75,10 +91,20 @@ impl<'w> Asked<'w> {
         self.changed_within.is_some() || self.changed_before.is_some() || self.newer_than.is_some()
     }
 
+    fn shows_metadata(&self) -> bool
+        ensures { result ≡ shows_metadata self.now }
+    {
+        self.details || self.colored
+    }
+
     /// Returns whether the call asks for metadata of entries.
     pub fn needs_metadata(&self) -> bool
         ensures { result ≡ needs_metadata self.now }
     {
-        !self.sizes.is_empty() || self.names_time() || self.kinds.names_mode()
+        self.shows_metadata()
+            || !self.sizes.is_empty()
+            || self.owner.is_some()
+            || self.names_time()
+            || self.kinds.names_mode()
     }
 }

@@ -1,9 +1,13 @@
 //! The command line.
 ghost use Rattle.std.specs.Prelude.{◌≡◌, ◌∷◌, [], false, map, IfOk};
 ghost use Rattle.clap.specs.Words.{app_of, rule_of};
-ghost use Rattle.seek_words.specs.Command.{flag_rule, long_flag_rule, valued_rule, listed_rule, number_rule, threads_rule, kind_rule, kind_names, and_rule, within_rule, max_depth_rule, one_rule, file_system_rule, with_name, pattern_rule, root_rule, named_app, with_rules, pattern_rules, case_rules, walk_rules, reach_rules, time_rules, print_rules, HasRule, HaveRules, AreFilters, IsSeek};
+ghost use Rattle.program_parts.specs.Rules.{root_rule, with_rules, HaveRules};
+ghost use Rattle.seek_words.specs.Command.{kind_rule, kind_names, and_rule, search_rule, before_rule, quiet_rule, within_rule, max_depth_rule, one_rule, owner_rule, file_system_rule, with_name, pattern_rule, named_app, pattern_rules, case_rules, walk_rules, ignore_rules, reach_rules, time_rules, print_rules, HasRule, AreFilters, IsSeek};
 
 use clap::{Arg, ArgAction, Command};
+use program_parts::options::{
+    flag, listed, long_flag, number, root_option, threads_option, valued,
+};
 use std::alloc::{AllocError, Global};
 
 static KINDS: [&str; 19] = [
@@ -28,62 +32,11 @@ static KINDS: [&str; 19] = [
     "other",
 ];
 
-/// The option may be repeated. Its name is the long word.
-fn flag<'a>(alloc: Global, id: &'a str, short: char, help: &'a str) -> Arg<'a>
-    ensures rule { rule_of result ≡ flag_rule id.entry.now short }
-    ensures local { result.global ≡ false }
-{
-    Arg::new(alloc, id)
-        .short(short)
-        .long(id)
-        .action(ArgAction::Count)
-        .help(help)
-}
-
-/// The option may be repeated.
-fn long_flag<'a>(alloc: Global, id: &'a str, help: &'a str) -> Arg<'a>
-    ensures rule { rule_of result ≡ long_flag_rule id.entry.now }
-    ensures local { result.global ≡ false }
-{
-    Arg::new(alloc, id)
-        .long(id)
-        .action(ArgAction::Count)
-        .help(help)
-}
-
 fn also_named<'a>(arg: Arg<'a>, name: &'a str) -> Result<Arg<'a>, AllocError>
     ensures rule { IfOk result (λ it. rule_of it ≡ with_name name.entry.now (rule_of arg.entry)) }
     ensures local { IfOk result (λ it. it.global ≡ arg.entry.global) }
 {
     arg.visible_alias(name)
-}
-
-fn valued<'a>(alloc: Global, id: &'a str, value: &'a str, help: &'a str) -> Arg<'a>
-    ensures rule { rule_of result ≡ valued_rule id.entry.now }
-    ensures local { result.global ≡ false }
-{
-    Arg::new(alloc, id)
-        .long(id)
-        .value_name(value)
-        .action(ArgAction::Set)
-        .help(help)
-}
-
-/// Each word of the option has one value.
-fn listed<'a>(alloc: Global, id: &'a str, short: char, value: &'a str, help: &'a str) -> Arg<'a>
-    ensures rule { rule_of result ≡ listed_rule id.entry.now short }
-    ensures local { result.global ≡ false }
-{
-    valued(alloc, id, value, help)
-        .short(short)
-        .action(ArgAction::Append)
-}
-
-fn number<'a>(alloc: Global, id: &'a str, help: &'a str) -> Arg<'a>
-    ensures rule { rule_of result ≡ number_rule id.entry.now }
-    ensures local { result.global ≡ false }
-{
-    valued(alloc, id, "N", help).value_parser(clap::value_parser!(usize))
 }
 
 fn and_option<'a>(alloc: Global) -> Arg<'a>
@@ -144,20 +97,6 @@ fn case_options<'a>(alloc: Global) -> Result<Vec<Arg<'a>>, AllocError>
     ]?)
 }
 
-fn threads_option<'a>(alloc: Global) -> Arg<'a>
-    ensures rule { rule_of result ≡ threads_rule }
-    ensures local { result.global ≡ false }
-{
-    valued(
-        alloc,
-        "threads",
-        "N",
-        "Threads that read directories [default: as many as can run at a time]",
-    )
-    .short('j')
-    .value_parser(clap::value_parser!(usize).range(1..))
-}
-
 fn walk_options<'a>(alloc: Global) -> Result<Vec<Arg<'a>>, AllocError>
     ensures { IfOk result (λ options. HaveRules options.items walk_rules) }
 {
@@ -176,6 +115,30 @@ fn walk_options<'a>(alloc: Global) -> Result<Vec<Arg<'a>>, AllocError>
     ]?)
 }
 
+fn search_option<'a>(alloc: Global) -> Arg<'a>
+    ensures rule { rule_of result ≡ search_rule }
+    ensures local { result.global ≡ false }
+{
+    valued(alloc, "search-path", "PATH", "One more root").action(ArgAction::Append)
+}
+
+fn ignore_options<'a>(alloc: Global) -> Result<Vec<Arg<'a>>, AllocError>
+    ensures { IfOk result (λ options. HaveRules options.items ignore_rules) }
+{
+    Ok(vec![in alloc;
+        long_flag(
+            alloc,
+            "no-ignore-vcs",
+            "Read no .gitignore and no .git/info/exclude",
+        ),
+        long_flag(
+            alloc,
+            "no-ignore-parent",
+            "Read no ignore files above a root",
+        ),
+    ]?)
+}
+
 fn file_system_option<'a>(alloc: Global) -> Result<Arg<'a>, AllocError>
     ensures { IfOk result (HasRule file_system_rule) }
 {
@@ -191,7 +154,13 @@ fn reach_options<'a>(alloc: Global) -> Result<Vec<Arg<'a>>, AllocError>
     ensures { IfOk result (λ options. HaveRules options.items reach_rules) }
 {
     Ok(vec![in alloc;
+        search_option(alloc),
         file_system_option(alloc)?,
+        long_flag(
+            alloc,
+            "prune",
+            "Don't look for anything below a directory that is found",
+        ),
         long_flag(alloc, "sort", "The entries of a directory by their names",),
         threads_option(alloc),
     ]?)
@@ -219,6 +188,19 @@ fn max_depth_option<'a>(alloc: Global) -> Result<Arg<'a>, AllocError>
     also_named(depth, "maxdepth")
 }
 
+fn owner_option<'a>(alloc: Global) -> Arg<'a>
+    ensures rule { rule_of result ≡ owner_rule }
+    ensures local { result.global ≡ false }
+{
+    valued(
+        alloc,
+        "owner",
+        "USER:GROUP",
+        "The numbers of the owner and the group; !N for any but N",
+    )
+    .short('o')
+}
+
 fn filter_options<'a>(alloc: Global) -> Result<Vec<Arg<'a>>, AllocError>
     ensures { IfOk result (λ options. AreFilters options.items) }
 {
@@ -235,6 +217,7 @@ fn filter_options<'a>(alloc: Global) -> Result<Vec<Arg<'a>>, AllocError>
             "SIZE",
             "The size of a file: +N and a unit for at least, -N for at most, N for exactly that",
         ),
+        owner_option(alloc),
     ]?)
 }
 
@@ -247,7 +230,14 @@ fn within_option<'a>(alloc: Global) -> Result<Arg<'a>, AllocError>
         "TIME",
         "Modified later than this: how long ago, as 2h, or a date",
     );
-    also_named(within, "newer")
+    also_named(also_named(within, "newer")?, "change-newer-than")
+}
+
+fn before_option<'a>(alloc: Global) -> Result<Arg<'a>, AllocError>
+    ensures { IfOk result (HasRule before_rule) }
+{
+    let before = valued(alloc, "changed-before", "TIME", "Modified before this");
+    also_named(before, "change-older-than")
 }
 
 fn time_options<'a>(alloc: Global) -> Result<Vec<Arg<'a>>, AllocError>
@@ -255,7 +245,7 @@ fn time_options<'a>(alloc: Global) -> Result<Vec<Arg<'a>>, AllocError>
 {
     Ok(vec![in alloc;
         within_option(alloc)?,
-        valued(alloc, "changed-before", "TIME", "Modified before this",),
+        before_option(alloc)?,
         valued(
             alloc,
             "newer-than-file",
@@ -263,6 +253,18 @@ fn time_options<'a>(alloc: Global) -> Result<Vec<Arg<'a>>, AllocError>
             "Modified later than this file",
         ),
     ]?)
+}
+
+fn quiet_option<'a>(alloc: Global) -> Result<Arg<'a>, AllocError>
+    ensures { IfOk result (HasRule quiet_rule) }
+{
+    let quiet = flag(
+        alloc,
+        "quiet",
+        'q',
+        "Print nothing: the status says whether there is a result",
+    );
+    also_named(quiet, "has-results")
 }
 
 fn one_option<'a>(alloc: Global) -> Arg<'a>
@@ -281,13 +283,25 @@ fn print_options<'a>(alloc: Global) -> Result<Vec<Arg<'a>>, AllocError>
     Ok(vec![in alloc;
         number(alloc, "max-results", "Print at most N paths"),
         one_option(alloc),
+        quiet_option(alloc)?,
+        flag(alloc, "absolute-path", 'a', "Print absolute paths"),
         flag(
             alloc,
-            "quiet",
-            'q',
-            "Print nothing: the status says whether there is a result",
+            "list-details",
+            'l',
+            "Print mode, names, owner, group, size and time of an entry in front of its path",
         ),
-        flag(alloc, "absolute-path", 'a', "Print absolute paths"),
+        valued(
+            alloc,
+            "color",
+            "WHEN",
+            "When to print colors: auto, always or never",
+        ),
+        long_flag(
+            alloc,
+            "strip-cwd-prefix",
+            "Print no `./` in front, which is so without it too",
+        ),
         flag(
             alloc,
             "print0",
@@ -295,17 +309,6 @@ fn print_options<'a>(alloc: Global) -> Result<Vec<Arg<'a>>, AllocError>
             "A zero byte behind each path, in place of a line feed",
         ),
     ]?)
-}
-
-fn root_option<'a>(alloc: Global) -> Arg<'a>
-    ensures rule { rule_of result ≡ root_rule }
-    ensures local { result.global ≡ false }
-{
-    Arg::new(alloc, "root")
-        .value_name("ROOT")
-        .action(ArgAction::Append)
-        .num_args(0..)
-        .help("Where to look [default: the folder that it runs in]")
 }
 
 fn named<'a>(alloc: Global) -> Result<Command<'a>, AllocError>
@@ -318,7 +321,7 @@ fn named<'a>(alloc: Global) -> Result<Command<'a>, AllocError>
         .version("1.0")
         .about("Prints the paths of entries by their names")
         .arg(pattern)?
-        .arg(root_option(alloc))
+        .arg(root_option(alloc, "Where to look [default: the folder that it runs in]"))
 }
 
 pub(crate) fn command<'a>(alloc: Global) -> Result<Command<'a>, AllocError>
@@ -327,6 +330,7 @@ pub(crate) fn command<'a>(alloc: Global) -> Result<Command<'a>, AllocError>
     let patterns = pattern_options(alloc)?;
     let cases = case_options(alloc)?;
     let walked = walk_options(alloc)?;
+    let ignored = ignore_options(alloc)?;
     let reached = reach_options(alloc)?;
     let filtered = filter_options(alloc)?;
     let timed = time_options(alloc)?;
@@ -335,6 +339,7 @@ pub(crate) fn command<'a>(alloc: Global) -> Result<Command<'a>, AllocError>
         .args(patterns)?
         .args(cases)?
         .args(walked)?
+        .args(ignored)?
         .args(reached)?
         .args(filtered)?
         .args(timed)?

@@ -21,6 +21,8 @@ pub struct Filter<'w, T: NameTest> {
     pub test: T,
     /// The absolute path of an entry, if the test is of it and not of the name.
     pub path: Option<AbsolutePath>,
+    /// Nothing below an entry that passes is looked for.
+    pub prunes: bool,
 }
 
 fn passes_test<T: NameTest>(

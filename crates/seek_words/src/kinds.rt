@@ -7,13 +7,13 @@ use crate::seen::details_seen;
 use jwalk_model::file_type::FileType;
 use jwalk_model::metadata::Metadata;
 
-fn is_executable(mode: u32) -> bool
+pub(crate) fn is_executable(mode: u32) -> bool
     ensures { result ≡ is_executable mode }
 {
     mode & 0o111 != 0
 }
 
-fn has_format(mode: u32, format: u32) -> bool
+pub(crate) fn has_format(mode: u32, format: u32) -> bool
     ensures { result ≡ has_format mode format }
 {
     mode & 0o170000 == format

@@ -3,20 +3,24 @@
 
 pub mod asked;
 pub mod case;
+pub mod color;
 mod command;
 pub mod depths;
 pub mod expression;
 pub mod extension;
 pub mod filter;
-pub mod halt;
 pub mod hidden;
 pub mod kinds;
+pub mod layout;
 pub mod lines;
-pub mod masked;
 pub mod name_test;
+pub mod owner;
+pub mod paint;
 pub mod paths;
 pub mod refusal;
+pub mod screen;
 pub mod seen;
+pub mod shown;
 pub mod size;
 pub mod subject;
 pub mod time;

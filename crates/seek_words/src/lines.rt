@@ -1,19 +1,16 @@
 //! The printed lines.
 ghost use Rattle.std.specs.Prelude.{◌≡◌, ◌++◌, true, false, [], IfOk, OnOk};
-ghost use Rattle.std.specs.Option.{option_map};
+ghost use Rattle.std.specs.Option.{option_copied};
 ghost use Rattle.std.specs.Io.KnownBytes.{Appends, append_known};
-ghost use Rattle.seek_words.specs.Subject.{front_of};
+ghost use Rattle.seek_words.specs.Layout.{form_in};
 
-use crate::halt::Halt;
-use crate::paths::Style;
-use crate::subject::AbsolutePath;
+use crate::layout::Layout;
+use crate::shown::Shown;
+use program_parts::gathered::Gathered;
+use program_parts::halt::Halt;
 use std::alloc::{AllocError, Global};
 use std::io::Write;
 use std::time::{Clock, Duration};
-
-/// The number of bytes of lines that are gathered before they are written. A buffer of twice the length takes the last
-/// line, too. It stays below 64 KiB, at which a free makes the C library's allocator merge all its small pieces.
-const GATHERED: usize = 16384;
 
 /// How many milliseconds a line is gathered at most while answers come.
 const LONGEST: u128 = 100;
@@ -22,35 +19,29 @@ const LONGEST: u128 = 100;
 /// each line is written at once.
 #[derive(Drop)]
 pub struct Lines {
-    style: Style,
-    /// The absolute path of an entry, if that is printed.
-    absolute: Option<AbsolutePath>,
-    gathered: Vec<u8>,
+    layout: Layout,
+    gathered: Gathered,
     has_printed: bool,
     oldest: Option<Duration>,
 }
 
 impl Lines {
-    ghost use Rattle.seek_words.specs.Lines.{form_line, form_of, gathered_of, has_printed};
+    ghost use Rattle.seek_words.specs.Layout.{form_line};
+    ghost use Rattle.seek_words.specs.Lines.{form_of, gathered_of, has_printed};
 
-    /// Returns no lines, for paths of this style: absolute ones, if `absolute` says below which folder.
+    /// Returns no lines, of this layout.
     ///
     /// # Errors
     ///
     /// If memory runs out.
-    pub fn new(
-        alloc: Global,
-        style: Style,
-        absolute: Option<AbsolutePath>,
-    ) -> Result<Self, AllocError>
-        ensures form { IfOk result (λ lines. form_of lines ≡ record { style = style; front = option_map front_of absolute }) }
+    pub fn new(alloc: Global, layout: Layout) -> Result<Self, AllocError>
+        ensures form { IfOk result (λ lines. form_of lines ≡ form_in layout) }
         ensures empty { IfOk result (λ lines. gathered_of lines ≡ []) }
         ensures none { IfOk result (λ lines. has_printed lines ≡ false) }
     {
         Ok(Lines {
-            style,
-            absolute,
-            gathered: Vec::with_capacity(alloc, 2 * GATHERED)?,
+            layout,
+            gathered: Gathered::new(alloc)?,
             has_printed: false,
             oldest: None,
         })
@@ -63,19 +54,6 @@ impl Lines {
         self.has_printed
     }
 
-    fn gather(&mut self, folder: &str, name: &str) -> Result<(), AllocError>
-        ensures gathered { OnOk result (gathered_of self.new ≡ gathered_of self.old ++ form_line (form_of self.old) folder.now name.now) }
-        ensures form { form_of self.new ≡ form_of self.old }
-    {
-        match &mut self.absolute {
-            None => self.style.write(folder, name, &mut self.gathered),
-            Some(path) => {
-                path.set(folder, name)?;
-                self.style.write_path(path.as_str(), &mut self.gathered)
-            }
-        }
-    }
-
     /// Leaves nothing gathered.
     fn write_gathered<W: Write>(&mut self, out: &mut W) -> Result<(), Halt>
         ensures written { OnOk result (Appends (W.contents out.old) (W.contents out.new) (gathered_of self.old)) }
@@ -83,33 +61,31 @@ impl Lines {
         ensures form { form_of self.new ≡ form_of self.old }
         ensures as_before { has_printed self.new ≡ has_printed self.old }
     {
-        if out.write_all(self.gathered.as_slice()).is_err() {
-            return Err(Halt::Output);
-        }
-        self.gathered.clear();
+        self.gathered.write(out)?;
         self.oldest = None;
         Ok(())
     }
 
-    /// Prints the line of a name in a folder. The line is gathered. The lines are written once there are enough, or at
+    /// Prints the line of an entry. The line is gathered. The lines are written once there are enough, or at
     /// once for a terminal.
     ///
     /// # Errors
     ///
     /// If memory runs out, or if the output can't be written.
-    pub fn print<W: Write>(&mut self, folder: &str, name: &str, out: &mut W) -> Result<(), Halt>
+    pub fn print<W: Write>(&mut self, entry: Shown<'_>, out: &mut W) -> Result<(), Halt>
         ensures printed { OnOk result (Appends (append_known (W.contents out.old) (gathered_of self.old))
-            (append_known (W.contents out.new) (gathered_of self.new)) (form_line (form_of self.old) folder.now name.now)) }
+            (append_known (W.contents out.new) (gathered_of self.new)) (form_line (form_of self.old) entry.entry.file_type
+            (option_copied entry.entry.seen) entry.entry.folder.now entry.entry.name.now)) }
         ensures at_once { OnOk result ((form_of self.old).style.to_terminal ≡ true → gathered_of self.new ≡ []) }
         ensures has_printed { OnOk result (has_printed self.new ≡ true) }
         ensures form { form_of self.new ≡ form_of self.old }
     {
-        self.gather(folder, name)?;
+        self.layout.write(entry, &mut self.gathered.bytes)?;
         self.has_printed = true;
-        if self.gathered.len() < GATHERED && !self.style.to_terminal {
-            return Ok(());
+        if self.gathered.are_due(self.layout.style.to_terminal) {
+            self.write_gathered(out)?;
         }
-        self.write_gathered(out)
+        Ok(())
     }
 
     /// Writes the lines that are gathered, if the first of these calls that met the oldest was 100 milliseconds ago. The
@@ -124,7 +100,7 @@ impl Lines {
         ensures form { form_of self.new ≡ form_of self.old }
         ensures as_before { has_printed self.new ≡ has_printed self.old }
     {
-        if self.gathered.is_empty() {
+        if self.gathered.bytes.is_empty() {
             return Ok(());
         }
         let Ok(now) = clock.monotonic() else {
@@ -148,10 +124,6 @@ impl Lines {
     pub fn finish<W: Write>(&mut self, out: &mut W) -> Result<(), Halt>
         ensures written { OnOk result (Appends (W.contents out.old) (W.contents out.new) (gathered_of self.old)) }
     {
-        self.write_gathered(out)?;
-        if out.flush().is_err() {
-            return Err(Halt::Output);
-        }
-        Ok(())
+        self.gathered.finish(out)
     }
 }

@@ -1,9 +1,8 @@
 //! The refusals of words.
 ghost use Rattle.std.specs.Prelude.{◌≡◌};
-ghost use Rattle.seek_words.specs.Status.{status_of_kind};
 
 use clap::Error;
-use clap::error::ErrorKind;
+use program_parts::refusal::status_of_kind;
 use std::alloc::AllocError;
 use std::fmt;
 
@@ -16,23 +15,16 @@ pub enum Refusal<'w> {
     Conflict(&'static str, &'static str),
     /// This isn't a size.
     NoSize(&'w str),
+    /// This isn't an owner.
+    NoOwner(&'w str),
     /// This isn't a time.
     NoTime(&'w str),
+    /// This doesn't say when to print colors.
+    NoColor(&'w str),
     /// This pattern has a slash, and isn't compared with paths.
     Slash(&'w str),
     /// Memory ran out.
     Memory,
-}
-
-/// Help and the version have the status 0.
-fn status_of_kind(kind: ErrorKind) -> u8
-    ensures { result ≡ status_of_kind kind }
-{
-    match kind {
-        ErrorKind::DisplayHelp | ErrorKind::DisplayVersion => 0,
-        ErrorKind::OutOfMemory => 1,
-        _ => 2,
-    }
 }
 
 impl<'w> Refusal<'w> {
@@ -45,9 +37,8 @@ impl<'w> Refusal<'w> {
     {
         match self {
             Refusal::Words(error) => status_of_kind(error.kind()),
-            Refusal::Conflict(_, _) | Refusal::NoSize(_) | Refusal::NoTime(_) | Refusal::Slash(_) =>
-                2,
             Refusal::Memory => 1,
+            _ => 2,
         }
     }
 }
@@ -80,6 +71,14 @@ impl<'w> fmt::Display for Refusal<'w> {
             Refusal::NoTime(text) => writeln!(
                 f,
                 "seek: '{text}' is no time: write how long ago it is, as in 2h or 3days, or a date, as in 2024-05-01 or '2024-05-01 10:00:00'"
+            ),
+            Refusal::NoOwner(text) => writeln!(
+                f,
+                "seek: '{text}' is no owner: write numbers, as in 1000, 1000:100 or :100, with a ! in front for any but that"
+            ),
+            Refusal::NoColor(text) => writeln!(
+                f,
+                "seek: '{text}' doesn't say when to print colors: write auto, always or never"
             ),
             Refusal::Slash(pattern) => writeln!(
                 f,

@@ -1,10 +1,12 @@
 //! The entries that are looked for, apart from the pattern.
 ghost use Rattle.std.specs.Prelude.{◌≡◌};
 ghost use Rattle.std.specs.Option.{option_copied};
+ghost use Rattle.seek_words.specs.Owner.{has_owner};
 
 use crate::depths::Depths;
 use crate::extension::has_one;
 use crate::kinds::Kinds;
+use crate::owner::Owner;
 use crate::size::{Size, is_sized};
 use crate::times::Times;
 use jwalk_model::file_type::FileType;
@@ -21,8 +23,19 @@ pub struct Wanted<'w> {
     pub extensions: &'w [&'w str],
     /// The sizes of files, or none for any entry.
     pub sizes: &'w [Size],
+    /// The owner, if one is named.
+    pub owner: Option<Owner>,
     /// The times at which entries were modified.
     pub times: Times,
+}
+
+fn has_owner(owner: Option<Owner>, seen: Option<&Metadata>) -> bool
+    ensures { result ≡ has_owner owner (option_copied seen.entry) }
+{
+    match owner {
+        Some(owner) => owner.has(seen),
+        None => true,
+    }
 }
 
 impl<'w> Wanted<'w> {
@@ -42,6 +55,7 @@ impl<'w> Wanted<'w> {
             && self.kinds.has(file_type, seen)
             && has_one(name, self.extensions)
             && is_sized(self.sizes, file_type, seen)
+            && has_owner(self.owner, seen)
             && self.times.has(seen)
     }
 }

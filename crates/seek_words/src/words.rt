@@ -1,58 +1,36 @@
 //! The meaning of words.
 ghost use Rattle.std.specs.Prelude.{◌≡◌, [], codes, is_some, map, option_map, unwrap_or, IfOk, IfErr, Some};
 ghost use Rattle.std.specs.List.{list_any};
-ghost use Rattle.clap.specs.Words.{found_of, rows_of, first_of, one_of};
-ghost use Rattle.seek_words.specs.Asks.{is_either_named, is_named, values_in, texts_of, IsNumberOf, case_in, depths_by, AreDepthsIn, names_one, kinds_in, is_slash, AreResultsIn, Asks};
+ghost use Rattle.clap.specs.Words.{found_of, rows_of, first_of};
+ghost use Rattle.program_parts.specs.Values.{is_named, values_in, texts_of};
+ghost use Rattle.seek_words.specs.Asks.{is_either_named, ChoosesOne, IsCaseIn, IsColorIn, AreReadingsIn, roots_in, depths_by, AreDepthsIn, names_one, kinds_in, is_slash, AreResultsIn, Asks};
 ghost use Rattle.seek_words.specs.AsksFor.{AskFor, GiveValues};
-ghost use Rattle.seek_words.specs.Conflict.{has_conflict, has_value};
-ghost use Rattle.seek_words.specs.Refusal.{IsRefusedFor, IsRefusedSize, IsRefusedTime, IsRefusedValue};
+ghost use Rattle.seek_words.specs.Conflict.{has_conflict};
+ghost use Rattle.seek_words.specs.Refusal.{IsRefusedFor, IsRefusedColor, IsRefusedOwner, IsRefusedSize, IsRefusedTime, IsRefusedValue};
+ghost use Rattle.seek_words.specs.Owner.{owner_in};
 ghost use Rattle.seek_words.specs.Size.{size_in};
 ghost use Rattle.seek_words.specs.Time.{time_in};
 
 use crate::asked::Asked;
 use crate::case::Case;
+use crate::color::Color;
 use crate::command::command;
 use crate::depths::Depths;
 use crate::kinds::Kinds;
+use crate::owner::Owner;
 use crate::refusal::Refusal;
 use crate::size::Size;
 use crate::time::Time;
 use crate::times::Times;
 use clap::ArgMatches;
+use program_parts::values::{has_value, is_named, number_of, values_of};
 use std::alloc::{AllocError, Global};
 use std::convert::AsStr;
-
-fn is_named(found: &ArgMatches<'_>, id: &str) -> bool
-    ensures { result ≡ is_named (rows_of (found_of found.now)) id.now }
-{
-    found.get_count(id) > 0
-}
 
 fn is_either_named(found: &ArgMatches<'_>, id: &str, other: &str) -> bool
     ensures { result ≡ is_either_named (rows_of (found_of found.now)) id.now other.now }
 {
     is_named(found, id) || is_named(found, other)
-}
-
-fn copied<'w>(alloc: Global, texts: &[&'w str]) -> Result<Vec<&'w str>, AllocError>
-    ensures { IfOk result (λ copy. copy.items ≡ texts.now) }
-{
-    let mut copy = Vec::new(alloc);
-    copy.extend_from_slice(texts)?;
-    Ok(copy)
-}
-
-fn values_of<'w>(
-    alloc: Global,
-    found: &ArgMatches<'w>,
-    id: &str,
-) -> Result<Vec<&'w str>, AllocError>
-    ensures { IfOk result (λ values. texts_of values.items ≡ values_in (rows_of (found_of found.now)) id.now) }
-{
-    match found.get_strs(id) {
-        Some(values) => copied(alloc, values),
-        None => Ok(Vec::new(alloc)),
-    }
 }
 
 fn pattern_of<'w>(found: &ArgMatches<'w>) -> &'w str
@@ -70,12 +48,6 @@ fn value_of<'w>(found: &ArgMatches<'w>, id: &str) -> Option<&'w str>
     found.get_str(id)
 }
 
-fn number_of(found: &ArgMatches<'_>, id: &str) -> Option<usize>
-    ensures { IsNumberOf (one_of id.now (rows_of (found_of found.now))) result }
-{
-    found.get_one::<usize>(id)
-}
-
 fn results_of(found: &ArgMatches<'_>) -> Option<usize>
     ensures { AreResultsIn (rows_of (found_of found.now)) result }
 {
@@ -85,15 +57,62 @@ fn results_of(found: &ArgMatches<'_>) -> Option<usize>
     number_of(found, "max-results")
 }
 
-fn case_of(found: &ArgMatches<'_>) -> Case
-    ensures { result ≡ case_in (rows_of (found_of found.now)) }
+fn roots_of<'w>(alloc: Global, found: &ArgMatches<'w>) -> Result<Vec<&'w str>, AllocError>
+    ensures { IfOk result (λ roots. texts_of roots.items ≡ roots_in (rows_of (found_of found.now))) }
 {
-    if is_named(found, "ignore-case") {
-        Case::Ignored
-    } else if is_named(found, "case-sensitive") {
-        Case::Kept
-    } else {
-        Case::Smart
+    let mut roots = values_of(alloc, found, "root")?;
+    let more = values_of(alloc, found, "search-path")?;
+    roots.extend_from_slice(more.as_slice())?;
+    Ok(roots)
+}
+
+/// Returns the place of the last word that names an option, or 0.
+fn last_place(found: &ArgMatches<'_>, id: &str) -> usize {
+    match found.indices_of(id) {
+        Some([.., last]) => *last,
+        _ => 0,
+    }
+}
+
+/// Returns which of two options is named, and the last of them if both are.
+fn last_named(found: &ArgMatches<'_>, one: &str, other: &str) -> (bool, bool)
+    ensures { ChoosesOne (is_named (rows_of (found_of found.now)) one.now) (is_named (rows_of (found_of found.now)) other.now) result.0 result.1 }
+{
+    match (is_named(found, one), is_named(found, other)) {
+        (true, true) => {
+            let is_first = last_place(found, other) < last_place(found, one);
+            (is_first, !is_first)
+        }
+        named => named,
+    }
+}
+
+fn readings_of(found: &ArgMatches<'_>) -> (bool, bool)
+    ensures { AreReadingsIn (rows_of (found_of found.now)) result.0 result.1 }
+{
+    last_named(found, "glob", "fixed-strings")
+}
+
+fn case_of(found: &ArgMatches<'_>) -> Case
+    ensures { IsCaseIn (rows_of (found_of found.now)) result }
+{
+    match last_named(found, "ignore-case", "case-sensitive") {
+        (true, _) => Case::Ignored,
+        (_, true) => Case::Kept,
+        _ => Case::Smart,
+    }
+}
+
+fn color_of<'w>(found: &ArgMatches<'w>) -> Result<Color, Refusal<'w>>
+    ensures color { IfOk result (IsColorIn (first_of (codes "color") (rows_of (found_of found.now)))) }
+    ensures refused { IfErr result (IsRefusedColor (first_of (codes "color") (rows_of (found_of found.now)))) }
+{
+    let Some(text) = value_of(found, "color") else {
+        return Ok(Color::Auto);
+    };
+    match Color::read(text) {
+        Some(color) => Ok(color),
+        None => Err(Refusal::NoColor(text)),
     }
 }
 
@@ -166,6 +185,19 @@ fn sizes_named<'w>(alloc: Global, found: &ArgMatches<'w>) -> Result<Vec<Size>, R
     sizes_of(alloc, texts.as_slice())
 }
 
+fn owner_named<'w>(found: &ArgMatches<'w>) -> Result<Option<Owner>, Refusal<'w>>
+    ensures owner { IfOk result (λ owner. option_map Some owner ≡ option_map owner_in (first_of (codes "owner") (rows_of (found_of found.now)))) }
+    ensures refused { IfErr result (IsRefusedOwner (first_of (codes "owner") (rows_of (found_of found.now)))) }
+{
+    let Some(text) = value_of(found, "owner") else {
+        return Ok(None);
+    };
+    match Owner::read(text) {
+        Some(owner) => Ok(Some(owner)),
+        None => Err(Refusal::NoOwner(text)),
+    }
+}
+
 fn time_named<'w>(found: &ArgMatches<'w>, id: &str) -> Result<Option<Time>, Refusal<'w>>
     ensures time { IfOk result (λ time. option_map Some time ≡ option_map time_in (first_of id.now (rows_of (found_of found.now)))) }
     ensures refused { IfErr result (IsRefusedTime (first_of id.now (rows_of (found_of found.now)))) }
@@ -191,16 +223,19 @@ fn asked_of<'w>(alloc: Global, found: &ArgMatches<'w>) -> Result<Asked<'w>, Refu
     ensures asked { IfOk result (Asks (rows_of (found_of found.now))) }
     ensures refused { IfErr result (IsRefusedValue (rows_of (found_of found.now))) }
 {
+    let (glob, fixed) = readings_of(found);
     Ok(Asked {
         pattern: pattern_of(found),
-        roots: values_of(alloc, found, "root")?,
-        glob: is_named(found, "glob"),
-        fixed: is_named(found, "fixed-strings"),
+        roots: roots_of(alloc, found)?,
+        glob,
+        fixed,
         others: values_of(alloc, found, "and")?,
         full_path: is_named(found, "full-path"),
         case: case_of(found),
         hidden: is_either_named(found, "hidden", "unrestricted"),
         no_ignore: is_either_named(found, "no-ignore", "unrestricted"),
+        no_vcs: is_named(found, "no-ignore-vcs"),
+        no_parents: is_named(found, "no-ignore-parent"),
         follow: is_named(found, "follow"),
         one_file_system: is_named(found, "one-file-system"),
         sort: is_named(found, "sort"),
@@ -208,14 +243,19 @@ fn asked_of<'w>(alloc: Global, found: &ArgMatches<'w>) -> Result<Asked<'w>, Refu
         kinds: kinds_named(alloc, found)?,
         extensions: values_of(alloc, found, "extension")?,
         sizes: sizes_named(alloc, found)?,
+        owner: owner_named(found)?,
         changed_within: time_named(found, "changed-within")?,
         changed_before: time_named(found, "changed-before")?,
         newer_than: value_of(found, "newer-than-file"),
+        prune: is_named(found, "prune"),
         times: Times::ANY,
         excludes: values_of(alloc, found, "exclude")?,
         max_results: results_of(found),
         quiet: is_named(found, "quiet"),
         absolute: is_named(found, "absolute-path"),
+        details: is_named(found, "list-details"),
+        color: color_of(found)?,
+        colored: false,
         print0: is_named(found, "print0"),
         threads: number_of(found, "threads"),
     })
@@ -227,21 +267,9 @@ fn has_slash(text: &str) -> bool
     text.as_bytes().iter().any(|byte| *byte == b'/')
 }
 
-fn has_value(found: &ArgMatches<'_>, id: &str) -> bool
-    ensures { result ≡ has_value (rows_of (found_of found.now)) id.now }
-{
-    found.get_str(id).is_some()
-}
-
 fn conflict_of(found: &ArgMatches<'_>) -> Option<(&'static str, &'static str)>
     ensures { is_some result ≡ has_conflict (rows_of (found_of found.now)) }
 {
-    if is_named(found, "ignore-case") && is_named(found, "case-sensitive") {
-        return Some(("ignore-case", "case-sensitive"));
-    }
-    if is_named(found, "glob") && is_named(found, "fixed-strings") {
-        return Some(("glob", "fixed-strings"));
-    }
     if !has_value(found, "exact-depth") {
         return None;
     }
@@ -268,8 +296,8 @@ fn matches_of<'w, S: AsStr>(alloc: Global, words: &'w [S]) -> Result<ArgMatches<
 ///
 /// # Errors
 ///
-/// If the words are bad or ask for help or the version; if two options exclude each other; if a size or a time is bad;
-/// if the pattern has a slash and isn't compared with paths; or if memory runs out.
+/// If the words are bad or ask for help or the version; if two options exclude each other; if a size, an owner, a time
+/// or a word of `--color` is bad; if the pattern has a slash and isn't compared with paths; or if memory runs out.
 pub fn read_words<'w, S: AsStr>(alloc: Global, words: &'w [S]) -> Result<Asked<'w>, Refusal<'w>>
     ensures asked { IfOk result (AskFor (map S.text words.entry.now)) }
     ensures refused { IfErr result (IsRefusedFor (map S.text words.entry.now)) }

@@ -8,6 +8,7 @@ mod planted;
 mod refused;
 mod rows;
 mod rules;
+mod settings;
 mod starts;
 mod tree_rows;
 mod trees;

@@ -1,4 +1,5 @@
 //! Runs of the program `seek`.
+mod braces;
 mod disk;
 mod errors;
 mod folder;

@@ -44,6 +44,73 @@ fn case_sensitive(rt: HostRuntime) {
 }
 
 #[test]
+fn the_last_of_two_words_counts(rt: HostRuntime) {
+    prints(&rt, &["-i", "-s", "txt", "/t"], "/t/a.txt\n");
+    prints(&rt, &["-is", "txt", "/t"], "/t/a.txt\n");
+    prints(&rt, &["-isi", "TXT", "/t"], "/t/a.txt\n/t/B.TXT\n");
+    prints(
+        &rt,
+        &["-g", "-F", ".t", "/t"],
+        "/t/a.txt\n/t/B.TXT\n/t/sub/notes.tar.gz\n",
+    );
+    prints(&rt, &["-F", "*.txt", "/t", "-g"], "/t/a.txt\n/t/B.TXT\n");
+}
+
+#[test]
+fn more_roots(rt: HostRuntime) {
+    prints(
+        &rt,
+        &["^c|^a", "--search-path=/t/sub"],
+        "/t/sub/c.rs\n/t/sub/deep/a.rs\n",
+    );
+    prints(
+        &rt,
+        &[
+            "^a",
+            "--search-path",
+            "/t/sub",
+            "/t",
+            "--search-path=/t/sub/deep",
+        ],
+        "/t/a.txt\n/t/sub/deep/a.rs\n/t/sub/deep/a.rs\n/t/sub/deep/a.rs\n",
+    );
+}
+
+/// The lines are those of `fd`, which ends the paths of directories with a slash.
+#[test]
+fn colors(rt: HostRuntime) {
+    const LINES: &str =
+        "\x1b[34m/t/\x1b[0ma.txt\n\x1b[34m/t/sub/\x1b[0m\x1b[31mc.rs\x1b[0m\n\x1b[34m/t/sub/deep/\x1b[0m\x1b[31ma.rs\x1b[0m\n\x1b[34m/t/\x1b[0m\x1b[01;36mlink\x1b[0m\n";
+    prints(&rt, &["--color", "always", "^a|rs$|link", "/t"], LINES);
+    prints(
+        &rt,
+        &["--color=always", "^sub", "/t"],
+        "\x1b[34m/t/\x1b[0m\x1b[34msub\x1b[0m\n",
+    );
+    prints(&rt, &["--color=auto", "^sub", "/t"], "/t/sub\n");
+    prints(&rt, &["--color=never", "^sub", "/t"], "/t/sub\n");
+}
+
+#[test]
+fn details_that_are_not_known(rt: HostRuntime) {
+    prints(
+        &rt,
+        &["-l", "^sub", "/t"],
+        "d?????????   ?     ?     ?          0                   ? /t/sub\n",
+    );
+}
+
+#[test]
+fn owners_that_are_not_known(rt: HostRuntime) {
+    prints(&rt, &["-o", "!0", ".", "/t"], "");
+}
+
+#[test]
+fn no_folder_in_front(rt: HostRuntime) {
+    prints(&rt, &["--strip-cwd-prefix", "^sub", "/t"], "/t/sub\n");
+}
+
+#[test]
 fn hidden(rt: HostRuntime) {
     prints(&rt, &["hid", "/t"], "");
     prints(&rt, &["-H", "hid", "/t"], "/t/.hidden\n");
@@ -399,6 +466,67 @@ fn quiet(rt: HostRuntime) {
         (&["-q", "txt", "/no", "/t"], TREE, &[], ("", MISSING, 0)),
         (&["-q", "txt", "/no"], TREE, &[], ("", MISSING, 1)),
         (&["-q1", "-I", "txt", "/t"], TREE, &[], ("", "", 0)),
+    ];
+    all_come(&rt, ROWS);
+}
+
+#[test]
+fn prune(rt: HostRuntime) {
+    prints(&rt, &["--prune", "^sub|^c", "/t"], "/t/sub\n");
+    prints(
+        &rt,
+        &["--prune", ".", "/t"],
+        "/t/a.txt\n/t/B.TXT\n/t/sub\n/t/link\n/t/down\n",
+    );
+    prints(
+        &rt,
+        &["--prune", "-tf", "rs$", "/t"],
+        "/t/sub/c.rs\n/t/sub/deep/a.rs\n",
+    );
+    prints(
+        &rt,
+        &["--prune", "deep|rs$", "/t"],
+        "/t/sub/c.rs\n/t/sub/deep\n",
+    );
+    prints(
+        &rt,
+        &["--prune", "--max-results=2", "sub|deep|down", "/t"],
+        "/t/sub\n/t/down\n",
+    );
+    prints(
+        &rt,
+        &["--prune", "-I", "^sub|^c", "/t", "/t/sub"],
+        "/t/sub\n/t/sub/c.rs\n",
+    );
+}
+
+#[test]
+fn prune_and_errors(rt: HostRuntime) {
+    const DENIED: &str = "d /r\nd /r/x\nd /r/x/y\nf 1 /r/x/y/a\nf 1 /r/z\nx /r/x/y\n";
+    const TOLD: &str = "seek: /r/x/y: permission denied\n";
+    const BACK: &str = "d /r\nd /r/x\nl ..\t/r/x/up\nf 1 /r/x/z\nf 1 /r/z\n";
+    const LED: &str = "seek: /r/x/up: a link that leads back to /r\n";
+    const ROWS: &[Row] = &[
+        (
+            &["--prune", ".", "/r"],
+            DENIED,
+            &[],
+            ("/r/x\n/r/z\n", "", 0),
+        ),
+        (&["--prune", "y", "/r"], DENIED, &[], ("/r/x/y\n", TOLD, 1)),
+        (&["--prune", "z", "/r"], DENIED, &[], ("/r/z\n", TOLD, 1)),
+        (
+            &["-L", "--prune", ".", "/r"],
+            BACK,
+            &[],
+            ("/r/x\n/r/z\n", "", 0),
+        ),
+        (
+            &["-L", "--prune", "z", "/r"],
+            BACK,
+            &[],
+            ("/r/x/z\n/r/z\n", LED, 1),
+        ),
     ];
     all_come(&rt, ROWS);
 }

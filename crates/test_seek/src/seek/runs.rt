@@ -4,6 +4,7 @@ use jwalk::file_system::FileSystem;
 use jwalk_ignore::memory_texts::MemoryTexts;
 use jwalk_ignore::texts::Texts;
 use seek_search::run::run;
+use seek_words::screen::Screen;
 use std::alloc::{AllocError, Global};
 use std::process::Abort;
 use std::time::Clock;
@@ -62,7 +63,11 @@ pub(crate) fn called_by<S: FileSystem + Send + Sync + 'static, X: Texts + Send +
             disk,
             texts,
             words.as_slice(),
-            on_terminal,
+            Screen {
+                is_terminal: on_terminal,
+                no_color: true,
+                ls_colors: "di=34:*.rs=31",
+            },
             out,
             err,
         ),

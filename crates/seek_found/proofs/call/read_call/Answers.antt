@@ -4,8 +4,8 @@ use Rattle.seek_found.proofs.call.read_call.Goals as goal
 
 pub returns-in-Err-clause-ended : goal.returns-in-Err-clause-ended
 returns-in-Err-clause-ended g c = record {
-  ends = refused_ends (map string_bytes c.args.words.now) c.in-Err.refusal c.refuse.result c.in-Err.ensures.refused c.refuse.ensures.refused c.refuse.ensures.text;
-  text = text_asked (map string_bytes c.args.words.now) c.in-Err.refusal c.refuse.result c.in-Err.ensures.refused c.refuse.ensures.refused;
+  ends = refused_ends (map string_bytes c.args.words.now) c.in-Err.refusal c.refuse_words.result c.in-Err.ensures.refused c.refuse_words.ensures.refused c.refuse_words.ensures.text;
+  text = text_asked (map string_bytes c.args.words.now) c.in-Err.refusal c.refuse_words.result c.in-Err.ensures.refused c.refuse_words.ensures.refused;
 }
 
 pub returns-in-Ok-read-clause-asked : goal.returns-in-Ok-read-clause-asked

@@ -3,13 +3,16 @@ use Rattle.std.specs.Io.KnownBytes.{Appends, append_known}
 use Rattle.jwalk_job.specs.Entry.{item}
 use Rattle.seek_words.specs.Filter.{sought_of}
 use Rattle.seek_words.specs.Lines.{form_of, gathered_of}
-use Rattle.seek_found.specs.Found.{found_line}
+use Rattle.std.specs.List.{list_all}
+use Rattle.seek_found.specs.Found.{found_lines, is_clean}
 use Rattle.seek_found.specs.Limit.{left_after}
+use Rattle.seek_found.specs.Prune.{unpruned_behind}
+use Rattle.seek_found.proofs.PruneFacts.{next_below}
 use Rattle.seek_found.proofs.FoundFacts.{appends_nothing, none_found, one_found, enough_found, all_found}
 use Rattle.seek_found.proofs.found.print_found.Goals as goal
 
-pub loop-answers-init : goal.loop-answers-init
-loop-answers-init g c = record {
+pub loop-below-init : goal.loop-below-init
+loop-below-init g c = record {
   can = c.requires.can;
   ends = c.requires.ends;
   so_far = none_found g.I.Iterator.next_gives c.args.answers.now
@@ -19,26 +22,30 @@ loop-answers-init g c = record {
   form = refl;
 }
 
-pub loop-answers-preserved : goal.loop-answers-preserved
-loop-answers-preserved g c =
-    let held = c.loop-answers.invariant in
+pub loop-below-preserved : goal.loop-below-preserved
+loop-below-preserved g c =
+    let held = c.loop-below.invariant in
     let on = c.in-Some.ensures.goes.on held.ends in
-    let old = append_known (g.W.Write.contents c.loop-answers.out) (gathered_of c.loop-answers.printer.lines) in
+    let old = append_known (g.W.Write.contents c.loop-below.out) (gathered_of c.loop-below.printer.lines) in
     let mid = append_known (g.W.Write.contents c.print.new.out) (gathered_of c.print.new.self.lines) in
     let new = append_known (g.W.Write.contents c.write_old.new.out) (gathered_of c.write_old.new.self) in
     let answer = item c.in-Some.answer in
+    let above = c.loop-below.below in
+    let below = c.print.new.below in
     let sought = sought_of g.T.NameTest.takes c.args.printer.now.filter in
-    let found = subst (λ s. Appends old mid (found_line s (form_of c.loop-answers.printer.lines) answer)) held.sought c.in_ok-clean.ensures.printed in
-    let printed = subst (λ s. Appends old mid (found_line sought s answer)) held.form found in
+    let found = subst (λ s. Appends old mid (found_lines s (form_of c.loop-below.printer.lines) (unpruned_behind s above (answer ∷ [])))) held.sought c.in_ok-clean.ensures.printed in
+    let printed = subst (λ s. Appends old mid (found_lines sought s (unpruned_behind sought above (answer ∷ [])))) held.form found in
     record {
       can = on.0;
       ends = on.1;
       so_far = one_found g.I.Iterator.next_gives c.args.answers.now sought (form_of c.args.printer.now.lines) c.args.printer.now.left
-          c.loop-answers.answers c.next.new.self c.loop-answers.printer.left c.print.new.self.left
+          c.loop-below.answers c.next.new.self c.loop-below.printer.left c.print.new.self.left above below
           (append_known (g.W.Write.contents c.args.out.now) (gathered_of c.args.printer.now.lines)) old new
-          c.loop-answers.clean c.in_ok-clean.field-0 c.in-Some.answer held.so_far (c.is_full.ensures.room c.loop-answers-test.true) c.in-Some.ensures.steps
-          (appends_nothing old mid new (found_line sought (form_of c.args.printer.now.lines) answer) printed c.in_ok-write_old.ensures.kept)
-          (subst (λ s. c.print.new.self.left ≡ left_after s c.loop-answers.printer.left (answer ∷ [])) held.sought c.in_ok-clean.ensures.left) c.in_ok-clean.ensures.clean;
+          c.loop-below.clean c.in_ok-clean.field-0 c.in-Some.answer held.so_far (c.is_full.ensures.room c.loop-below-test.true) c.in-Some.ensures.steps
+          (appends_nothing old mid new (found_lines sought (form_of c.args.printer.now.lines) (unpruned_behind sought above (answer ∷ []))) printed c.in_ok-write_old.ensures.kept)
+          (subst (λ s. c.print.new.self.left ≡ left_after s c.loop-below.printer.left (unpruned_behind s above (answer ∷ []))) held.sought c.in_ok-clean.ensures.left)
+          (subst (λ s. below ≡ next_below s above answer) held.sought c.in_ok-clean.ensures.below)
+          (subst (λ s. c.in_ok-clean.field-0 ≡ list_all is_clean (unpruned_behind s above (answer ∷ []))) held.sought c.in_ok-clean.ensures.clean);
       sought = c.print.ensures.sought ∙ held.sought;
       form = c.write_old.ensures.form ∙ (c.print.ensures.form ∙ held.form);
     }
@@ -46,13 +53,13 @@ loop-answers-preserved g c =
 pub returns-clause-printed : goal.returns-clause-printed
 returns-clause-printed g c =
     enough_found g.I.Iterator.next_gives c.args.answers.now
-    (sought_of g.T.NameTest.takes c.args.printer.now.filter) (form_of c.args.printer.now.lines) c.args.printer.now.left c.loop-answers.answers c.loop-answers.printer.left
+    (sought_of g.T.NameTest.takes c.args.printer.now.filter) (form_of c.args.printer.now.lines) c.args.printer.now.left c.loop-below.answers c.loop-below.printer.left c.loop-below.below
     (append_known (g.W.Write.contents c.args.out.now) (gathered_of c.args.printer.now.lines))
-    (append_known (g.W.Write.contents c.loop-answers.out) (gathered_of c.loop-answers.printer.lines)) c.loop-answers.clean c.loop-answers.invariant.so_far (c.is_full.ensures.full c.loop-answers-test.false)
+    (append_known (g.W.Write.contents c.loop-below.out) (gathered_of c.loop-below.printer.lines)) c.loop-below.clean c.loop-below.invariant.so_far (c.is_full.ensures.full c.loop-below-test.false)
 
 pub returns-in_default-clause-printed : goal.returns-in_default-clause-printed
 returns-in_default-clause-printed g c =
     all_found g.I.Iterator.next_gives c.args.answers.now
-    (sought_of g.T.NameTest.takes c.args.printer.now.filter) (form_of c.args.printer.now.lines) c.args.printer.now.left c.loop-answers.answers c.next.new.self c.loop-answers.printer.left
+    (sought_of g.T.NameTest.takes c.args.printer.now.filter) (form_of c.args.printer.now.lines) c.args.printer.now.left c.loop-below.answers c.next.new.self c.loop-below.printer.left c.loop-below.below
     (append_known (g.W.Write.contents c.args.out.now) (gathered_of c.args.printer.now.lines))
-    (append_known (g.W.Write.contents c.loop-answers.out) (gathered_of c.loop-answers.printer.lines)) c.loop-answers.clean c.loop-answers.invariant.so_far c.in_default.ensures.steps
+    (append_known (g.W.Write.contents c.loop-below.out) (gathered_of c.loop-below.printer.lines)) c.loop-below.clean c.loop-below.invariant.so_far c.in_default.ensures.steps

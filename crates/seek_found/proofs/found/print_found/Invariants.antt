@@ -6,13 +6,13 @@ use Rattle.seek_words.specs.Lines.{form_of, gathered_of}
 use Rattle.seek_found.proofs.FoundFacts.{FoundSoFar}
 use Rattle.seek_found.proofs.found.print_found.Given as goal
 
-abbrev pub invariant-loop-answers : goal.invariant-loop-answers
-invariant-loop-answers g l =
+abbrev pub invariant-loop-below : goal.invariant-loop-below
+invariant-loop-below g l =
     record {
       can : g.I.Iterator.can_next l.answers;
       ends : IsFinite (g.I.Iterator.remaining l.answers);
       so_far : FoundSoFar g.I.Iterator.next_gives l.fn.answers
-          (sought_of g.T.NameTest.takes l.fn.printer.filter) (form_of l.fn.printer.lines) l.fn.printer.left l.answers l.printer.left
+          (sought_of g.T.NameTest.takes l.fn.printer.filter) (form_of l.fn.printer.lines) l.fn.printer.left l.answers l.printer.left l.below
           (append_known (g.W.Write.contents l.fn.out) (gathered_of l.fn.printer.lines))
           (append_known (g.W.Write.contents l.out) (gathered_of l.printer.lines)) l.clean;
       sought : sought_of g.T.NameTest.takes l.printer.filter ≡ sought_of g.T.NameTest.takes l.fn.printer.filter;
@@ -20,5 +20,5 @@ invariant-loop-answers g l =
     }
 
 -- the greatest number of answers to come
-abbrev pub decreases-loop-answers : goal.decreases-loop-answers
-decreases-loop-answers g l = size (g.I.Iterator.remaining l.answers)
+abbrev pub decreases-loop-below : goal.decreases-loop-below
+decreases-loop-below g l = size (g.I.Iterator.remaining l.answers)

@@ -1,6 +1,6 @@
 use Rattle.std.proofs.Common.{◌≡◌, ◌∙◌, ◌+◌, List, [], ◌∷◌, ◌++◌, ap, arith, length, subst, sym, take}
 use Rattle.std.proofs.Math.Seq.{take-length}
-use Rattle.seek_words.specs.Asks.{texts_of}
+use Rattle.program_parts.specs.Values.{texts_of}
 use Rattle.seek_found.specs.BadPattern.{AreBadPatterns}
 use Rattle.seek_found.specs.Sought.{ArePatternsOf}
 use Rattle.seek_found.specs.declared.name_pattern.NamePattern.{NamePattern}

@@ -1,5 +1,5 @@
 use Rattle.std.proofs.Common.{take}
-use Rattle.seek_words.specs.Asks.{texts_of}
+use Rattle.program_parts.specs.Values.{texts_of}
 use Rattle.seek_found.specs.Sought.{ArePatternsOf}
 use Rattle.seek_found.proofs.sought.patterns_of.Given as goal
 

@@ -1,8 +1,8 @@
 use Rattle.std.proofs.Common.{◌∙◌, inl, inr, map, refl, string_bytes, sym}
 use Rattle.std.proofs.lemmas.Bool.{true≢false}
 use Rattle.seek_found.proofs.EndFacts.{bad_ends, ends_most, searched_ends}
-use Rattle.seek_found.proofs.TimedFacts.{timed_for}
-use Rattle.seek_words.proofs.AsksFacts.{timed_ask_for}
+use Rattle.seek_found.proofs.ShownFacts.{shown_for}
+use Rattle.seek_words.proofs.AsksFacts.{shown_ask_for}
 use Rattle.seek_search.proofs.RunFacts.{ok_twice, one_not_none}
 use Rattle.seek_search.proofs.run.run.Goals as goal
 
@@ -32,9 +32,10 @@ returns-then-asked-clause-done g c = λ zero.
     let found = ok_twice c.search_asked-ended.result _ _ (c.status_of.ensures.done zero) c.search_asked-ended.ensures.found in
     inr (record {
       asked = _;
-      ask = timed_ask_for _ _ _ read.0;
+      ask = shown_ask_for _ _ _ _ read.0;
       sought = _;
-      is_for = timed_for _ _ _ read.1;
+      is_for = shown_for _ _ _ _ read.1;
+      colored = c.is_colored.ensures;
       times = λ both.
           let known = c.in-Ok-times_of.ensures both.0 in record { now = known.now; after = known.after; before = known.before; after_file = known.after_file };
       quiet = λ quiet. (c.in-Ok.ensures.unwritten, found.2 quiet found.1);
@@ -58,9 +59,10 @@ returns-clause-done g c = λ zero.
     let whole = ok_twice c.search_asked-ended-2.result _ _ (c.status_of-2.ensures.done zero) ended.whole in
     inr (record {
       asked = _;
-      ask = timed_ask_for _ _ _ read.0;
+      ask = shown_ask_for _ _ _ _ read.0;
       sought = _;
-      is_for = timed_for _ _ _ read.1;
+      is_for = shown_for _ _ _ _ read.1;
+      colored = c.is_colored.ensures;
       times = λ both.
           let known = c.in-Ok-times_of.ensures both.0 in record { now = known.now; after = known.after; before = known.before; after_file = known.after_file };
       quiet = λ quiet. absurd (true≢false (sym quiet ∙ c.if-asked.false));

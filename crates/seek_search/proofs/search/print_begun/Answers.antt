@@ -2,11 +2,14 @@ use Rattle.std.proofs.Common.{◌∙◌, map, inl, inr, refl, subst, sym}
 use Rattle.std.proofs.lemmas.Result.{IfOk-weaker}
 use Rattle.jwalk.specs.jwalk_job.Entry.{item}
 use Rattle.jwalk.specs.WalkDir.{stateless}
-use Rattle.jwalk.proofs.CleanFacts.{clean_whole}
+use Rattle.jwalk.proofs.CleanFacts.{whole_unless_busy}
 use Rattle.jwalk.proofs.WholeFacts.{steady_begun}
+use Rattle.seek_words.specs.Filter.{sought_of}
+use Rattle.seek_found.specs.SoughtTest.{takes_of}
 use Rattle.seek_found.proofs.FoundFacts.{found_unlimited}
 use Rattle.seek_found.proofs.RootsFacts.{counted_printed}
-use Rattle.seek_found.proofs.WholeFacts.{clean_entries, printed_whole}
+use Rattle.seek_found.proofs.WholeFacts.{deep_errors, printed_whole}
+use Rattle.seek_search.proofs.SearchFacts.{none_busy, none_refused}
 use Rattle.seek_search.proofs.search.print_begun.Goals as goal
 
 pub print_found-requires-clause-can : goal.print_found-requires-clause-can
@@ -21,8 +24,11 @@ returns-clause-whole g c =
     (λ clean prints. λ given steady none is.
     let steadily = steady_begun _ _ _ _ _ given walk it begun.steady begun.starts steady in
     elim prints.calls [
-      | inl drains ↦ printed_whole given _ _ _ _ clean (map item prints.answered) _ is prints.all prints.lines
-          (clean_whole _ _ _ _ _ given walk it prints.answered begun.begins.0 begun.begins.1.holds steadily begun.starts steady drains (clean_entries prints.answered (sym prints.all ∙ is)))
+      | inl drains ↦
+          let sought = sought_of takes_of c.args.printer.now.filter in
+          let deep = deep_errors sought prints.answered (sym prints.all ∙ is) in
+          printed_whole given sought _ _ _ clean (map item prints.answered) _ is prints.all prints.lines
+          (whole_unless_busy _ _ _ _ _ given walk it prints.answered begun.begins.0 begun.begins.1.holds steadily begun.starts steady drains (none_refused prints.answered deep) (none_busy prints.answered deep))
       | inr stopped ↦ absurd (found_unlimited prints none stopped.0)
     ])
     c.print_found.ensures.printed

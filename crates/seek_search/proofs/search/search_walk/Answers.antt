@@ -9,6 +9,9 @@ use Rattle.jwalk_ignore.specs.Callback.Given.{rules_alone}
 use Rattle.jwalk_ignore.specs.Callback.IgnoreViews.{ignoring, next_of, settings_of, texts_of}
 use Rattle.jwalk_ignore.specs.Callback.Excluding.{excluded_of, excluding}
 use Rattle.jwalk_ignore.specs.Callback.Kept.{given_kept}
+use Rattle.seek_words.specs.Filter.{sought_of}
+use Rattle.seek_found.specs.Prune.{unpruned}
+use Rattle.seek_found.specs.SoughtTest.{takes_of}
 use Rattle.seek_found.proofs.CleanFacts.{printed_as}
 use Rattle.jwalk_ignore.proofs.KeptFacts.{ignores_kept, whole_of}
 use Rattle.seek_found.proofs.RootsFacts.{printed_such}
@@ -34,7 +37,7 @@ returns-clause-whole g c =
       clones = λ x y h. ap (λ chain. both (chain_worth chain) blank) h.0;
       default = λ x h. refl;
     } in
-    printed_as (whole_of made (ap g.S.FileSystem.functions over) set.options set.root (ap rules_alone set.state ∙ state)) (whole given steady none is))
+    printed_as (ap (unpruned (sought_of takes_of c.args.printer.now.filter)) (whole_of made (ap g.S.FileSystem.functions over) set.options set.root (ap rules_alone set.state ∙ state))) (whole given steady none is))
     c.print_begun.ensures.whole
 
 pub returns-clause-yielded : goal.returns-clause-yielded

@@ -3,7 +3,7 @@ use Rattle.std.proofs.lemmas.Result.{IfOk-weaker}
 use Rattle.clap.specs.Simple.{app_of_fields}
 use Rattle.clap.specs.Words.{App, app_of, rule_of}
 use Rattle.seek_words.specs.Command.{named_app, pattern_rule}
-use Rattle.seek_words.proofs.CommandFacts.{one_added}
+use Rattle.program_parts.proofs.RuleFacts.{one_added}
 use Rattle.seek_words.proofs.command.named.Goals as goal
 
 pub returns : goal.returns

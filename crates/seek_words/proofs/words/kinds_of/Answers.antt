@@ -1,5 +1,6 @@
 use Rattle.std.proofs.Common.{rules, ◌≡◌, refl}
-use Rattle.seek_words.specs.Asks.{kinds_in, texts_of}
+use Rattle.program_parts.specs.Values.{texts_of}
+use Rattle.seek_words.specs.Asks.{kinds_in}
 use Rattle.seek_words.proofs.words.kinds_of.Goals as goal
 
 pub returns : goal.returns

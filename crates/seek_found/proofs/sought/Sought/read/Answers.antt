@@ -1,6 +1,6 @@
 use Rattle.std.proofs.Common.{ap, inl, inr, subst}
 use Rattle.std.specs.Prelude.{List, ℕ}
-use Rattle.seek_words.specs.Asks.{texts_of}
+use Rattle.program_parts.specs.Values.{texts_of}
 use Rattle.seek_found.specs.BadPattern.{AreBadPatterns, IsBadFor}
 use Rattle.seek_found.specs.Sought.{ArePatternsOf}
 use Rattle.seek_found.proofs.SoughtFacts.{returned}
@@ -14,7 +14,7 @@ pub returns-in_err-others-clause-rejected : goal.returns-in_err-others-clause-re
 returns-in_err-others-clause-rejected c =
     let bad = c.in_err-others.field-0.0 in
     returned (IsBadFor c.args.asked.now) c.from_residual-in_err-others.result bad c.from_residual-in_err-others.ensures.1
-    (inr (subst (λ (ts : List (List ℕ)). AreBadPatterns c.args.asked.now ts bad) (ap texts_of c.as_slice.ensures.value) c.in_err-others.ensures.rejected))
+    (inr (inl (subst (λ (ts : List (List ℕ)). AreBadPatterns c.args.asked.now ts bad) (ap texts_of c.as_slice.ensures.value) c.in_err-others.ensures.rejected)))
 
 pub returns-clause-sought : goal.returns-clause-sought
 returns-clause-sought c = record {

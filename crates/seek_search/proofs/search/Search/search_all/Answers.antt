@@ -1,19 +1,23 @@
 use Rattle.std.proofs.Common.{◌≡◌, ◌∙◌, ap, refl, subst, sym}
-use Rattle.std.specs.Prelude.{is_some}
+use Rattle.std.specs.Prelude.{flat_map, is_some}
 use Rattle.std.specs.Arc.{arc_value}
 use Rattle.std.proofs.lemmas.Result.{IfOk-weaker}
 use Rattle.jwalk.specs.jwalk_model.Counted.{blank}
 use Rattle.jwalk.specs.jwalk_job.Job.{IsSteady}
 use Rattle.jwalk.specs.WalkDir.{file_system_of, callback_of, options_of, root_of}
-use Rattle.seek_search.specs.Options.{options_for, with_crew}
-use Rattle.seek_search.specs.declared.options.WalkOptions.{WalkOptions}
-use Rattle.seek_words.specs.Asks.{texts_of}
+use Rattle.program_walks.specs.Options.{options_for, with_crew}
+use Rattle.program_walks.specs.declared.options.WalkOptions.{WalkOptions}
+use Rattle.program_walks.proofs.CrewFacts.{same_by_crew}
+use Rattle.program_parts.specs.Values.{texts_of}
 use Rattle.jwalk_ignore.specs.Callback.Excluding.{Excluded, excluded_by, excluded_of, excluding}
 use Rattle.jwalk_ignore.specs.Callback.Kept.{given_excluding}
-use Rattle.seek_search.specs.Search.{excluded_asked, options_asked}
+use Rattle.seek_search.specs.Search.{excluded_asked, lines_of, options_asked}
+use Rattle.seek_words.specs.Filter.{sought_of}
+use Rattle.seek_found.specs.Prune.{unpruned}
+use Rattle.seek_found.specs.SoughtTest.{takes_of}
 use Rattle.seek_found.proofs.CleanFacts.{printed_as}
 use Rattle.jwalk_ignore.proofs.KeptFacts.{whole_of}
-use Rattle.seek_search.proofs.SearchFacts.{same_by_crew, yielded_so}
+use Rattle.seek_search.proofs.SearchFacts.{yielded_so}
 use Rattle.seek_found.proofs.RootsFacts.{printed_such}
 use Rattle.seek_search.specs.Goes.{IsPlain}
 use Rattle.seek_search.proofs.search.Search.search_all.Goals as goal
@@ -29,7 +33,7 @@ returns-clause-whole g c =
     let given = given_excluding excluded in
     let over : arc_value (file_system_of walk) ≡ arc_value self.disk = ap arc_value (set.file_system ∙ built.file_system) ∙ c.in_ok-disk.ensures.cases in
     let lines : excluded_of (callback_of walk) ≡ excluded
-    = ap excluded_of set.callback ∙ c.in_ok-excluding.ensures ∙ ap (λ l. excluded_by (texts_of l) c.args.root.now) c.as_slice.ensures.value in
+    = ap excluded_of set.callback ∙ c.in_ok-excluding.ensures ∙ ap (λ l. excluded_by (flat_map lines_of (texts_of l)) c.args.root.now) c.as_slice.ensures.value in
     let options : options_of walk ≡ with_crew (is_some self.crew) (options_asked asked)
     = set.options ∙ built.options ∙ ap (λ (o : WalkOptions). options_for o (is_some self.crew)) c.options.ensures in
     let root : root_of walk ≡ c.args.root.now = set.root ∙ built.root ∙ c.in_ok-root.ensures.ok in
@@ -42,9 +46,9 @@ returns-clause-whole g c =
       clones = λ x y h. refl;
       default = λ x h. refl;
     } in
-    printed_as
+    printed_as (ap (unpruned (sought_of takes_of c.args.printer.now.filter))
     (whole_of (excluding excluded) (ap g.S.FileSystem.functions over) options root refl
-    ∙ same_by_crew (excluding excluded) (is_some self.crew) (g.S.FileSystem.functions (arc_value self.disk)) (options_asked asked) c.args.root.now blank)
+    ∙ same_by_crew (excluding excluded) (is_some self.crew) (g.S.FileSystem.functions (arc_value self.disk)) (options_asked asked) c.args.root.now blank))
     (whole given steady none is))
     c.print_begun.ensures.whole
 
@@ -60,6 +64,6 @@ returns-clause-yielded g c =
       below = set.root ∙ built.root ∙ c.in_ok-root.ensures.ok;
       by_crew = is_some self.crew;
       options = set.options ∙ built.options ∙ ap (λ (o : WalkOptions). options_for o (is_some self.crew)) c.options.ensures;
-      excluded = ap excluded_of set.callback ∙ c.in_ok-excluding.ensures ∙ ap (λ l. excluded_by (texts_of l) c.args.root.now) c.as_slice.ensures.value;
+      excluded = ap excluded_of set.callback ∙ c.in_ok-excluding.ensures ∙ ap (λ l. excluded_by (flat_map lines_of (texts_of l)) c.args.root.now) c.as_slice.ensures.value;
     } in
     IfOk-weaker c.print_begun.result _ _ (λ clean. printed_such (yielded_so _ (λ it is. subst (IsPlain (arc_value self.disk) asked c.args.root.now) (sym is) plain))) c.print_begun.ensures.yielded

@@ -1,5 +1,5 @@
 use Rattle.std.proofs.Common.{◌≡◌, ◌∙◌, false, ap, subst, sym}
-use Rattle.std.specs.Prelude.{is_some}
+use Rattle.std.specs.Prelude.{flat_map, is_some}
 use Rattle.std.specs.Arc.{arc_value}
 use Rattle.std.proofs.lemmas.Result.{IfOk-weaker}
 use Rattle.jwalk.specs.jwalk_model.Counted.{blank, both}
@@ -8,16 +8,19 @@ use Rattle.jwalk.specs.WalkDir.{file_system_of, options_of, state_of}
 use Rattle.jwalk_ignore.specs.Rules.ChainWorth.{chain_worth}
 use Rattle.jwalk_ignore.specs.Callback.Given.{no_rules_yet, rules_alone}
 use Rattle.jwalk_ignore.specs.Callback.IgnoreViews.{ignoring, next_of, settings_of, texts_of as texts_in}
-use Rattle.jwalk_ignore.specs.declared.callback.settings.Settings.{Settings}
-use Rattle.seek_search.specs.Options.{options_for, with_crew}
-use Rattle.seek_search.specs.declared.options.WalkOptions.{WalkOptions}
+use Rattle.program_walks.specs.Options.{options_for, with_crew}
+use Rattle.program_walks.specs.declared.options.WalkOptions.{WalkOptions}
+use Rattle.program_walks.proofs.CrewFacts.{hidden_by_crew}
+use Rattle.seek_words.specs.Filter.{sought_of}
+use Rattle.seek_found.specs.Prune.{unpruned}
+use Rattle.seek_found.specs.SoughtTest.{takes_of}
 use Rattle.seek_found.proofs.CleanFacts.{printed_as}
 use Rattle.seek_found.proofs.RootsFacts.{printed_such}
-use Rattle.seek_words.specs.Asks.{texts_of}
+use Rattle.program_parts.specs.Values.{texts_of}
 use Rattle.jwalk_ignore.specs.Callback.Excluding.{excluded_by, excluded_of, excluding}
-use Rattle.seek_search.specs.Search.{excluded_asked, options_asked, settings_asked}
+use Rattle.seek_search.specs.Search.{excluded_asked, lines_of, options_asked, settings_asked}
 use Rattle.jwalk_ignore.proofs.KeptFacts.{ignoring_same}
-use Rattle.seek_search.proofs.SearchFacts.{hidden_by_crew, yielded_so}
+use Rattle.seek_search.proofs.SearchFacts.{yielded_so}
 use Rattle.seek_search.proofs.search.Search.search_kept.Goals as goal
 
 pub returns-clause-whole : goal.returns-clause-whole
@@ -31,19 +34,19 @@ returns-clause-whole g c =
     let texts = g.X.Texts.functions (arc_value self.texts) in
     let over : arc_value (file_system_of walk) ≡ arc_value self.disk = ap arc_value built.file_system ∙ c.in_ok-disk.ensures.cases in
     let from : arc_value (texts_in rules) ≡ arc_value self.texts
-    = ap arc_value (c.then-rules.ensures.texts ∙ c.keep_hidden.ensures.texts ∙ c.new-2.ensures.texts) ∙ c.in_ok-clone.ensures.cases in
+    = ap arc_value (c.then-rules.ensures.texts ∙ c.rules_of.ensures.texts) ∙ c.in_ok-clone.ensures.cases in
     let settings : settings_of rules ≡ settings_asked asked
-    = c.then-rules.ensures.settings ∙ c.keep_hidden.ensures.settings ∙ ap (λ (s : Settings). record s { keeps_hidden = asked.hidden }) c.new-2.ensures.settings in
+    = c.then-rules.ensures.settings ∙ c.rules_of.ensures.settings in
     let lines : excluded_of (next_of rules) ≡ excluded
-    = ap excluded_of c.then-rules.ensures.next ∙ c.in_ok-excluding.ensures ∙ ap (λ l. excluded_by (texts_of l) c.args.root.now) c.as_slice.ensures.value in
+    = ap excluded_of c.then-rules.ensures.next ∙ c.in_ok-excluding.ensures ∙ ap (λ l. excluded_by (flat_map lines_of (texts_of l)) c.args.root.now) c.as_slice.ensures.value in
     let options : options_of walk ≡ with_crew (is_some self.crew) (options_asked asked)
     = built.options ∙ ap (λ (o : WalkOptions). options_for o (is_some self.crew)) c.options.ensures in
     let state : rules_alone (state_of walk) ≡ no_rules_yet = ap (λ chain. both (chain_worth chain) blank) built.state.0 in
     IfOk-weaker c.search_walk.result _ _
     (λ clean whole. λ fixed told none is.
-    printed_as
+    printed_as (ap (unpruned (sought_of takes_of c.args.printer.now.filter))
     (ignoring_same (ap g.S.FileSystem.functions over) (ap g.X.Texts.functions from) settings lines options (built.root ∙ c.in_ok-root.ensures.ok)
-    ∙ hidden_by_crew (ignoring (settings_asked asked) texts (excluding excluded)) (is_some self.crew) (g.S.FileSystem.functions (arc_value self.disk)) (options_asked asked) c.args.root.now no_rules_yet)
+    ∙ hidden_by_crew (ignoring (settings_asked asked) texts (excluding excluded)) (is_some self.crew) (g.S.FileSystem.functions (arc_value self.disk)) (options_asked asked) c.args.root.now no_rules_yet))
     (whole (subst g.S.FileSystem.IsFixed (sym over) fixed) (subst g.X.Texts.IsFixed (sym from) told) state none is))
     c.search_walk.ensures.whole
 
@@ -59,9 +62,9 @@ returns-clause-yielded g c =
       below = is.root ∙ built.root ∙ c.in_ok-root.ensures.ok;
       by_crew = is_some self.crew;
       options = is.options ∙ ap (with_skip_hidden false) (built.options ∙ ap (λ (o : WalkOptions). options_for o (is_some self.crew)) c.options.ensures);
-      texts_read = ap (λ x. arc_value (texts_in x.rules)) is.callback ∙ ap arc_value (set.texts ∙ c.keep_hidden.ensures.texts ∙ c.new-2.ensures.texts) ∙ c.in_ok-clone.ensures.cases;
-      settings = ap (λ x. settings_of x.rules) is.callback ∙ set.settings ∙ c.keep_hidden.ensures.settings ∙ ap (λ (s : Settings). record s { keeps_hidden = asked.hidden }) c.new-2.ensures.settings;
-      excluded = ap (λ x. excluded_of (next_of x.rules)) is.callback ∙ ap excluded_of set.next ∙ c.in_ok-excluding.ensures ∙ ap (λ l. excluded_by (texts_of l) c.args.root.now) c.as_slice.ensures.value;
+      texts_read = ap (λ x. arc_value (texts_in x.rules)) is.callback ∙ ap arc_value (set.texts ∙ c.rules_of.ensures.texts) ∙ c.in_ok-clone.ensures.cases;
+      settings = ap (λ x. settings_of x.rules) is.callback ∙ set.settings ∙ c.rules_of.ensures.settings;
+      excluded = ap (λ x. excluded_of (next_of x.rules)) is.callback ∙ ap excluded_of set.next ∙ c.in_ok-excluding.ensures ∙ ap (λ l. excluded_by (flat_map lines_of (texts_of l)) c.args.root.now) c.as_slice.ensures.value;
       begins = ap rules_alone is.state ∙ ap (λ chain. both (chain_worth chain) blank) built.state.0;
     })))
     c.search_walk.ensures.yielded

@@ -1,0 +1,55 @@
+//! The lines of `-E`.
+ghost use Rattle.std.specs.Prelude.{◌≡◌, flat_map, map, string_bytes, IfOk};
+ghost use Rattle.jwalk_ignore.specs.Callback.Excluding.{excluded_by, excluded_of};
+ghost use Rattle.program_parts.specs.Values.{texts_of};
+ghost use Rattle.seek_search.specs.Search.{lines_of};
+
+use jwalk_ignore::excluding::Excluding;
+use seek_braces::expansions;
+use std::alloc::{AllocError, Global};
+
+/// Returns the lines that a line is short for.
+fn lines_of(alloc: Global, line: &str) -> Result<Vec<String>, AllocError>
+    ensures { IfOk result (λ lines. map string_bytes lines.items ≡ lines_of line.now) }
+{
+    if let Some(lines) = expansions(alloc, line)? {
+        return Ok(lines);
+    }
+    let mut lines = Vec::new(alloc);
+    lines.push(String::from_str(alloc, line)?)?;
+    Ok(lines)
+}
+
+fn all_lines(alloc: Global, lines: &[&str]) -> Result<Vec<String>, AllocError>
+    ensures { IfOk result (λ all. map string_bytes all.items ≡ flat_map lines_of (texts_of lines.now)) }
+{
+    let mut all = Vec::new(alloc);
+    for line in lines {
+        let mut more = lines_of(alloc, line)?;
+        all.append(&mut more)?;
+    }
+    Ok(all)
+}
+
+fn borrowed(alloc: Global, lines: &[String]) -> Result<Vec<&str>, AllocError>
+    ensures { IfOk result (λ texts. texts_of texts.items ≡ map string_bytes lines.now) }
+{
+    let mut texts = Vec::with_capacity(alloc, lines.len())?;
+    for line in lines {
+        texts.push(line.as_str())?;
+    }
+    Ok(texts)
+}
+
+/// Returns the callback that leaves out what these lines name below a root.
+pub(crate) fn excluding_of(
+    alloc: Global,
+    lines: &[&str],
+    root: &str,
+) -> Result<Excluding, AllocError>
+    ensures { IfOk result (λ it. excluded_of it ≡ excluded_by (flat_map lines_of (texts_of lines.now)) root.now) }
+{
+    let all = all_lines(alloc, lines)?;
+    let texts = borrowed(alloc, all.as_slice())?;
+    Excluding::new(alloc, texts.as_slice(), root)
+}

@@ -1,0 +1,104 @@
+//! The layout of printed lines.
+ghost use Rattle.std.specs.Prelude.{◌≡◌, ◌++◌, string_bytes, IfOk, OnOk};
+ghost use Rattle.std.specs.Option.{option_copied, option_map};
+ghost use Rattle.seek_words.specs.Layout.{folder_text, plain_line};
+ghost use Rattle.seek_words.specs.Subject.{front_of};
+
+use crate::paint::Paint;
+use crate::paths::Style;
+use crate::shown::Shown;
+use crate::subject::AbsolutePath;
+use seek_details::details::push_details;
+use std::alloc::{AllocError, Global};
+
+/// The layout of printed lines.
+#[derive(Drop)]
+pub struct Layout {
+    /// The written form of paths.
+    pub style: Style,
+    /// The absolute path of an entry, if that is printed.
+    pub absolute: Option<AbsolutePath>,
+    /// Details of an entry are in front of its path.
+    pub details: bool,
+    /// The colors of paths, if they have some.
+    pub paint: Option<Paint>,
+}
+
+fn push_plain(
+    style: Style,
+    absolute: &mut Option<AbsolutePath>,
+    entry: Shown<'_>,
+    out: &mut Vec<u8, Global>,
+) -> Result<(), AllocError>
+    ensures line { OnOk result (out.new.items ≡ out.old.items
+        ++ plain_line style (option_map front_of absolute.old) entry.entry.folder.now entry.entry.name.now) }
+    ensures front { option_map front_of absolute.new ≡ option_map front_of absolute.old }
+{
+    match absolute {
+        None => style.write(entry.folder, entry.name, out),
+        Some(path) => {
+            path.set(entry.folder, entry.name)?;
+            style.write_path(path.as_str(), out)
+        }
+    }
+}
+
+fn shown_folder(
+    alloc: Global,
+    style: Style,
+    absolute: &mut Option<AbsolutePath>,
+    folder: &str,
+) -> Result<String, AllocError>
+    ensures folder { IfOk result (λ shown. string_bytes shown ≡ folder_text style (option_map front_of absolute.old) folder.now) }
+    ensures front { option_map front_of absolute.new ≡ option_map front_of absolute.old }
+{
+    match absolute {
+        None => style.shown_text(alloc, style.folder(folder)),
+        Some(path) => {
+            path.set(folder, "")?;
+            style.shown_text(alloc, path.as_str())
+        }
+    }
+}
+
+impl Layout {
+    ghost use Rattle.seek_words.specs.Layout.{form_in, form_line, line_in};
+
+    fn write_line(&mut self, entry: Shown<'_>, out: &mut Vec<u8, Global>) -> Result<(), AllocError>
+        ensures line { OnOk result (out.new.items ≡ out.old.items ++ line_in (form_in self.old) entry.entry.file_type
+            (option_copied entry.entry.seen) entry.entry.folder.now entry.entry.name.now) }
+        ensures form { form_in self.new ≡ form_in self.old }
+    {
+        let Some(paint) = &self.paint else {
+            return push_plain(self.style, &mut self.absolute, entry, out);
+        };
+        let alloc = *out.allocator();
+        let folder = shown_folder(alloc, self.style, &mut self.absolute, entry.folder)?;
+        let name = self.style.shown_text(alloc, entry.name)?;
+        paint.write(
+            entry.file_type,
+            entry.seen,
+            folder.as_str(),
+            name.as_str(),
+            out,
+        )?;
+        out.push(self.style.separator)?;
+        Ok(())
+    }
+
+    /// Appends the line of an entry to `out`.
+    ///
+    /// # Errors
+    ///
+    /// If memory runs out.
+    pub fn write(&mut self, entry: Shown<'_>, out: &mut Vec<u8, Global>) -> Result<(), AllocError>
+        ensures line { OnOk result (out.new.items ≡ out.old.items ++ form_line (form_in self.old) entry.entry.file_type
+            (option_copied entry.entry.seen) entry.entry.folder.now entry.entry.name.now) }
+        ensures form { form_in self.new ≡ form_in self.old }
+    {
+        if self.details {
+            push_details(entry.seen, out)?;
+        }
+        self.write_line(entry, out)
+    }
+}
