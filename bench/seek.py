@@ -3,6 +3,7 @@
 
     python3 bench/seek.py trees COUNT SEED [PROGRAM]       random trees with ignore files, beside git, rg and fd
     python3 bench/seek.py beside FOLDER.. [PROGRAM]        folders on disk, beside rg and fd, and git where it is a work tree
+    python3 bench/seek.py words [PROGRAM]                  the words that fd has too, beside fd, over one small tree
     python3 bench/seek.py speed [FOLDER] [PROGRAM]         times, beside fd and find
 
 Build the program first: (cd crates/seek && rt run). PROGRAM is another one, named by a path with a slash, and begins with
@@ -19,6 +20,9 @@ Each random tree is a fresh repository with an empty index and no settings of th
 Every second tree is for git alone, which knows no `.ignore`; the others are for rg and fd, and have such files. What rg
 and fd read otherwise than git documents is left out there: a tab at a line's end, two slashes, three stars, and classes of
 all other bytes. Lists are compared as sets, without names that aren't UTF-8, and each difference is printed with its tree.
+
+With `words` each row of `WORDS` is a call of both programs in a folder with files of known sizes, times and modes, links
+and ignore files. What they print is compared as lists without order, without a `./` in front or a slash behind.
 
 The times are of one warm run after another: each turn runs all programs once, and the least of nine turns counts. The
 second tree has 20,000 directories and 500 ignore files of 20 patterns; it is made in FOLDER, or in a temporary folder.
@@ -206,6 +210,73 @@ def beside(folders):
     return 1 if differences else 0
 
 
+# Words that mean the same in both programs.
+WORDS = [
+    *[[pattern] for pattern in ["a.foo", "foo", "^b", "C", "c", "xyz", "two", r"\.rs$", "[ab]"]],
+    *[["-g", glob] for glob in ["*.foo", "*.{foo,rs}", "{a,b{,x}}.foo", "[ac].foo", "C*"]],
+    *[["-F", text] for text in [".foo", "a.", "*"]],
+    *[[word, "FOO"] for word in ["-i", "-s", "-is", "-si"]],
+    *[["-e", text] for text in ["foo", ".foo", "rs", "FOO"]],
+    *[["-t", kind] for kind in ["f", "d", "l", "x", "p", "file", "directory", "symlink", "executable", "pipe"]],
+    *[["-t", "f", "-t", "l"], ["-g", "-F", ".foo"], ["-F", "*.foo", "-g"], ["-p", "one/two"], ["foo", "--and", "a"]],
+    *[[f"-S{size}"] for size in ["+1k", "-1k", "1k", "+1ki", "-2ki", "10b", "+0b"]],
+    *[[f"--changed-within={time}"] for time in ["1h", "2weeks", "2020-01-01 00:00:00"]],
+    *[[f"--changed-before={time}"] for time in ["1h", "2weeks", "2020-01-01 00:00:00"]],
+    ["--newer", "1h"], ["--change-newer-than", "1h"], ["--change-older-than", "1h"],
+    *[[f"--owner={owner}"] for owner in [f"{os.getuid()}", f"!{os.getuid()}", f":{os.getgid()}", f"{os.getuid()}:!{os.getgid()}"]],
+    *[[word] for word in ["-H", "-I", "-u", "-HI", "-L", "-a", "-0", "--no-ignore-vcs", "--no-ignore-parent", "--one-file-system"]],
+    ["-H", "--no-ignore-vcs"], ["-L", "-t", "l"], ["-L", "-t", "d"], ["-a", "foo"], ["--strip-cwd-prefix", "foo"],
+    *[[word] for word in ["-d1", "-d2", "--max-depth=3", "--maxdepth=1", "--min-depth=2", "--exact-depth=2"]],
+    *[["-E", line] for line in ["*.foo", "two", "*.{foo,rs}"]],
+    *[["--prune", pattern] for pattern in ["two", "o", "."]],
+    *[["--max-results=0", "foo"], ["-1", "a.foo"], ["-q", "foo"], ["-q", "xyz"], ["--has-results", "foo"]],
+    *[["foo", "one"], ["foo", "one", "link"], ["--search-path", "one", "foo"], ["foo", "one/../one/two"], [".", "nowhere"]],
+    *[["--color=always", pattern] for pattern in ["a.foo", "b.foo", "x$", "xyz"]], ["--color=never", "foo"],
+]
+
+
+def grow(top):
+    """Makes the tree of `words`, in a repository."""
+    os.makedirs(os.path.join(top, "one", "two", "three"))
+    os.mkdir(os.path.join(top, ".git"))
+    sizes = {"a.foo": 10, "one/b.foo": 1000, "one/two/c.foo": 1024, "one/two/C.Foo2": 5000, "one/two/three/d.rs": 0}
+    for name in ["ignored-by-fd", "ignored-by-git", ".hidden.foo", "one/x", "one/old.foo", "spaces in it"]:
+        sizes[name] = 0
+    for name, size in sizes.items():
+        write(os.path.join(top, name), b"#" * size)
+    write(os.path.join(top, ".fdignore"), b"ignored-by-fd\n")
+    write(os.path.join(top, ".gitignore"), b"ignored-by-git\n")
+    os.chmod(os.path.join(top, "one", "x"), 0o755)
+    os.utime(os.path.join(top, "one", "old.foo"), (1_500_000_000, 1_500_000_000))
+    os.mkfifo(os.path.join(top, "one", "pipe"))
+    os.symlink("one/two", os.path.join(top, "link"))
+    os.symlink("nowhere", os.path.join(top, "one", "broken"))
+
+
+def settled_lines(printed):
+    """The printed paths, in an order of their own, without a `./` in front, or a slash behind in its own color."""
+    text = printed.decode(errors="replace").replace("\0", "\n").replace("\x1b[01;34m/\x1b[0m", "")
+    return sorted(line.removeprefix("./").rstrip("/") for line in text.split("\n") if line)
+
+
+def words():
+    if not FD:
+        sys.exit("there is no fd here")
+    environment = dict(ENVIRONMENT, LS_COLORS="di=01;34:ln=36:ex=32:*.foo=31")
+    differences = 0
+    with tempfile.TemporaryDirectory() as folder:
+        grow(folder)
+        for row in WORDS:
+            calls = [[FD, "--no-global-ignore-file", *row], [PROGRAM, *row]]
+            said = [subprocess.run(call, cwd=folder, env=environment, stdin=subprocess.DEVNULL, capture_output=True) for call in calls]
+            one, other = [(settled_lines(it.stdout), it.returncode == 0) for it in said]
+            if one != other:
+                differences += 1
+                print(f"{' '.join(row)}: fd {one}, seek {other}")
+    print(f"{differences} of {len(WORDS)} calls differ")
+    return 1 if differences else 0
+
+
 def large(folder):
     """20,000 directories, each with two files, and 500 ignore files of 20 patterns."""
     top = os.path.join(folder, "large")
@@ -263,6 +334,8 @@ def main():
             sys.exit(trees(int(count), seed))
         case ["beside", *folders]:
             sys.exit(beside(folders))
+        case ["words"]:
+            sys.exit(words())
         case ["speed"]:
             with tempfile.TemporaryDirectory() as folder:
                 speed(folder)
