@@ -19,6 +19,14 @@ pub mod PlacedFacts
 mod ReceivedFacts
 mod AheadFacts
 mod PassFacts
+mod StepInFacts
+mod PlacedInFacts
+mod PassInFacts
+mod SourceInFacts
+mod PreparedInFacts
+mod PreparedByFacts
+pub mod AnswerInFacts
+pub mod FillInFacts
 mod PreparedPassFacts
 pub mod AnswerFacts
 pub mod FillFacts

@@ -11,4 +11,11 @@ pub mod Parallelism
 pub mod CrewReads
 pub mod ReadDirIter
 pub mod Step
+pub mod ReadsIn
+pub mod Source
+pub mod StepIn
+pub mod Sources
+pub mod SourceFacts
+pub mod Entries
+pub mod ReadingsBy
 pub mod DirEntryIter

@@ -1,0 +1,135 @@
+//! A walk's answers, where threads read the directories that are read together.
+ghost use Rattle.std.specs.Prelude.{◌≡◌, ◌≢◌, true, false, []};
+ghost use Rattle.jwalk_job.specs.Job.{callback};
+
+use crate::entries::Entries;
+use crate::read_dir_iter::ReadDirIter;
+use crate::readers::{Missed, Readers};
+use crate::readings::Readings;
+use jwalk_fs::file_system::FileSystem;
+use jwalk_job::client_state::ClientState;
+use jwalk_job::dir_entry::DirEntry;
+use jwalk_job::error::Error;
+use jwalk_job::item::{Item, List};
+use jwalk_job::process_read_dir::ProcessReadDir;
+use std::alloc::{AllocError, Allocator};
+use std::thread::Threads;
+
+impl<
+    C: ClientState + Send,
+    S: FileSystem + Send + Sync,
+    P: ProcessReadDir<C, A> + Send + Sync,
+    A: Allocator + Copy + Send + Sync,
+    L: Readers<C, S, P, A>,
+> Entries<C, A, ReadDirIter<C, S, P, A, L>>
+where
+    C::ReadDirState: Send,
+    C::DirEntryState: Send,
+{
+    ghost use Rattle.jwalk_core.specs.ReadDirIter.{job_of, to_read};
+    ghost use Rattle.jwalk_core.specs.Entries.{items_of, Prepares, Passes, GoesOn, Answers, Fills};
+    ghost use Rattle.jwalk_core.specs.Step.{IsAtDirectory};
+
+    /// Returns whether the next item is a directory's entry, which is to be read if any is left.
+    fn is_at_directory(&self) -> bool
+        ensures yes { result ≡ true → to_read self.now.reads ≢ []
+            → IsAtDirectory (items_of self.now) (to_read self.now.reads) }
+        ensures no { result ≡ false → ¬ IsAtDirectory (items_of self.now) (to_read self.now.reads) }
+    {
+        match self.items.last() {
+            Some(Ok(found)) => found.read_children.is_some(),
+            Some(Err(_error)) => false,
+            None => false,
+        }
+    }
+
+    /// Makes sure that the next item can be passed without a reading. Nothing is read unless that item enters a
+    /// directory.
+    fn prepare_on<R: Threads + Sync>(&mut self, rt: &R) -> Result<(), AllocError>
+        requires { P.IsLawful (callback (job_of self.old.reads)) }
+        ensures { Prepares ⟦<ReadDirIter<C, S, P, A, L> as Readings<C, A>>⟧
+            self.old result self.new }
+    {
+        if !self.is_at_directory() {
+            return Ok(());
+        }
+        self.reads.prepare_on(rt)
+    }
+
+    /// Passes the next item on, like `pass`.
+    fn pass_on<R: Threads + Sync>(
+        &mut self,
+        rt: &R,
+    ) -> Result<Option<Item<C, A>>, Missed>
+        requires { P.IsLawful (callback (job_of self.old.reads)) }
+        ensures { Passes ⟦<ReadDirIter<C, S, P, A, L> as Readings<C, A>>⟧
+            self.old result self.new }
+    {
+        self.prepare_on(rt)?;
+        self.pass()
+    }
+
+    /// Returns the next item that is yielded, like `next_kept`.
+    fn next_kept_on<R: Threads + Sync>(
+        &mut self,
+        rt: &R,
+    ) -> Result<Option<Item<C, A>>, Missed>
+        requires { P.IsLawful (callback (job_of self.old.reads)) }
+        ensures { GoesOn ⟦<ReadDirIter<C, S, P, A, L> as Readings<C, A>>⟧
+            self.old result self.new }
+    {
+        while let Some(passed) = self.pass_on(rt)? {
+            if let Some(answer) = self.unless_too_shallow(passed) {
+                return Ok(Some(answer));
+            }
+        }
+        Ok(None)
+    }
+
+    /// Returns the next answer, like `Iterator::next`, with threads of this runtime to read the directories that are
+    /// read together.
+    ///
+    /// `while let Some(answer) = walk.next_on(&rt)` is the loop that uses several threads. A `for` loop, and an
+    /// iterator's adapters, call `Iterator::next`: the answers and their order are the same there. Over a crew both may
+    /// block for a reading or for a lock.
+    pub fn next_on<R: Threads + Sync>(&mut self, rt: &R) -> Option<Item<C, A>>
+        requires { P.IsLawful (callback (job_of self.old.reads)) }
+        ensures { Answers ⟦<ReadDirIter<C, S, P, A, L> as Readings<C, A>>⟧
+            self.old result self.new }
+    {
+        if self.refused {
+            self.refused = false;
+            return Some(Err(Error::memory()));
+        }
+        let came = self.next_kept_on(rt);
+        self.answer(came)
+    }
+
+    /// Appends up to `n` answers to `out`, like [`fill`](Entries::fill), with threads of this runtime to read the
+    /// directories that are read together.
+    ///
+    /// # Errors
+    ///
+    /// If memory runs out for the place, as with `fill`.
+    pub fn fill_on<R: Threads + Sync>(
+        &mut self,
+        rt: &R,
+        n: usize,
+        out: &mut List<C, A>,
+    ) -> Result<usize, AllocError>
+        requires { P.IsLawful (callback (job_of self.old.reads)) }
+        ensures { Fills ⟦<ReadDirIter<C, S, P, A, L> as Readings<C, A>>⟧
+            n self.old out.old.items result out.new.items self.new }
+    {
+        let mut filled = 0;
+        while filled < n {
+            out.reserve(1)?;
+            let Some(answer) = self.next_on(rt) else {
+                return Ok(filled);
+            };
+            out.push_reserved(answer);
+            filled += 1;
+        }
+        Ok(filled)
+    }
+}

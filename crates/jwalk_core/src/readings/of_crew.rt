@@ -1,0 +1,67 @@
+//! A crew's readings.
+ghost use Rattle.std.specs.Prelude.{◌≡◌, ◌≢◌, ◌≤◌, ℕ, List, [], length, IfOk, IfErr, OnErr};
+ghost use Rattle.jwalk_job.specs.declared.job.Job.{Job};
+ghost use Rattle.jwalk_job.specs.Job.{callback};
+ghost use Rattle.jwalk_core.specs.CrewReads as crew;
+ghost use Rattle.jwalk_core.specs.CrewReads.{IsSteadyCrew};
+ghost use Rattle.jwalk_core.specs.ReadAhead.{nothing_ahead};
+ghost use Rattle.jwalk_core.specs.Sources.{crew_source};
+ghost use Rattle.jwalk_core.specs.SourceFacts.{is_crew_source};
+
+use crate::crew_reads::CrewReads;
+use crate::readers::{Missed, Readers};
+use crate::readings::Readings;
+use jwalk_fs::file_system::FileSystem;
+use jwalk_job::client_state::ClientState;
+use jwalk_job::dir_entry::DirEntry;
+use jwalk_job::options::Options;
+use jwalk_job::process_read_dir::ProcessReadDir;
+use jwalk_job::read_dir::Outcome;
+use std::alloc::Allocator;
+
+impl<C: ClientState, S: FileSystem, P: ProcessReadDir<C, A>, A: Allocator + Copy, L: Readers<C, S, P, A>> Readings<C, A>
+    for CrewReads<C, S, P, A, L> {
+    ghost Base = { Job C S P A C.ReadDirState C.DirEntryState };
+
+    ghost base = { λ w. crew.job_of w };
+
+    ghost source = { λ b. crew_source S.FileSystem P.ProcessReadDir C.ReadDirState.Clone C.DirEntryState.Default b };
+
+    ghost can_read = { λ b. P.IsLawful (callback b) };
+
+    ghost to_read = { crew.to_read };
+
+    ghost frontier = { crew.frontier_of };
+
+    ghost read_ahead = { λ w. nothing_ahead };
+
+    ghost most = { crew.most_ahead L.Readers };
+
+    ghost ready = { λ w n. (n ≤ crew.most_ahead L.Readers w) × crew.CountsAhead L.Readers w n };
+
+    ghost steady = { IsSteadyCrew S.FileSystem P.ProcessReadDir C.ReadDirState.Clone C.DirEntryState.Default L.Readers };
+
+    ghost sound = { λ b. is_crew_source S.FileSystem P.ProcessReadDir C.ReadDirState.Clone C.DirEntryState.Default b };
+
+    ghost clones = { λ it g steady. steady.steady.clones };
+
+    fn read_next(&mut self) -> Result<Option<Outcome<C, A>>, Missed> {
+        CrewReads::read_next(self)
+    }
+
+    fn is_next(&self, found: &DirEntry<C, A>) -> bool {
+        CrewReads::is_next(self, found)
+    }
+
+    fn options(&self) -> Options {
+        self.job().options()
+    }
+
+    fn ahead(&self) -> usize {
+        CrewReads::ahead(self)
+    }
+
+    fn stop(&mut self) {
+        CrewReads::stop(self);
+    }
+}
