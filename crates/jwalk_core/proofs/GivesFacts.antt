@@ -34,7 +34,8 @@ use Rattle.jwalk_core.specs.declared.read_dir_iter.ReadDirIter.{ReadDirIter}
 use Rattle.jwalk_core.specs.declared.read_dir_iter.ReadDirIter.TheVariants.{Walk, CrewWalk}
 use Rattle.jwalk_core.specs.CrewReads.{IsNextBelow}
 use Rattle.jwalk_core.specs.ReadDirIter.{by_crew, job_of, to_read, width_of, read_ahead, early_of, frontier_of, next_address, Tells, GivesError, GivesFirst, GivesPreorder, most_ahead, Known, EntersNextBy, IsSteadyReads, StartsSteady, StaysSteady, Gives, GivesOf}
-use Rattle.jwalk_core.proofs.KnownFacts.{tells_memory, clones_if_steady, known_if_steady, gives_of}
+use Rattle.jwalk_core.specs.SourceFacts.{tells_memory}
+use Rattle.jwalk_core.proofs.KnownFacts.{clones_if_steady, known_if_steady, gives_of}
 
 module _ {C S P A R E : Type 0} (clone : Clone.Ghosts R) (known : Spec R → Outcome R E → Type 0) (job : Job C S P A R E) (old new : List (Spec R)) where
   module _ (files : FileSystem.Ghosts S) (given : Given R E) (cloned : ClonesCount clone given) (as_given : (s : Spec R) (o : Outcome R E) → known s o → IsAsGiven files given job s o) where

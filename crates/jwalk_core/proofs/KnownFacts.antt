@@ -18,14 +18,10 @@ use Rattle.jwalk_core.specs.declared.read_dir_iter.ReadDirIter.{ReadDirIter}
 use Rattle.jwalk_core.specs.declared.read_dir_iter.ReadDirIter.TheVariants.{Walk, CrewWalk}
 use Rattle.jwalk_core.specs.CrewReads.{failure_of, NotLost, IsNextBelow}
 use Rattle.jwalk_core.specs.ReadDirIter as readings
+use Rattle.jwalk_core.specs.SourceFacts.{tells_memory}
 use Rattle.jwalk_core.specs.ReadDirIter.{Tells, GivesFirst, IsSteadyReads, KnownBy}
 
--- any walk may end early because memory ran out
-pub tells_memory : (b : Bool) (f : Failure) → f ≡ memory → Tells b f
-tells_memory false f is = is
-tells_memory true f is = inl is
-
--- so may one that passes on that memory ran out
+-- a walk may end early that passes on that memory ran out
 pub tells_refusal : {T : Type 0} (b : Bool) (r : Result T Missed) → IsErrAnd r (λ m. m ≡ Memory) → IfErr r (λ m. Tells b (failure_of m))
 tells_refusal b (Ok x) refused = tt
 tells_refusal b (Err m) refused = tells_memory b (failure_of m) (ap failure_of refused)

@@ -14,20 +14,15 @@ mod CrewFacts
 pub mod CrewSteadyFacts
 mod GivesFacts
 mod PreparedReadFacts
-mod ItemFacts
-pub mod PlacedFacts
+mod SourceInFacts
 mod ReceivedFacts
 mod AheadFacts
+mod StepFacts
+pub mod PlacedFacts
 mod PassFacts
-mod StepInFacts
-mod PlacedInFacts
-mod PassInFacts
-mod SourceInFacts
-mod PreparedInFacts
-mod PreparedByFacts
-pub mod AnswerInFacts
-pub mod FillInFacts
 mod PreparedPassFacts
+mod PreparedByFacts
 pub mod AnswerFacts
+pub mod StartFacts
 pub mod FillFacts
 pub mod SameFacts

@@ -1,15 +1,10 @@
 -- The next reading is prepared, and then read.
 use Rattle.std.proofs.Common.{◌≡◌, ◌∙◌, ◌≤◌, ℕ, ◌+◌, Bool, true, false, List, ◌∷◌, ◌++◌, length, Option, Some, None, Result, Ok, Err, inl, inr, sym, ap, subst, arith, ⊎_elim}
-use Rattle.std.proofs.Math.Nat.{min-le_left}
-use Rattle.std.proofs.lemmas.List.{length-map}
-use Rattle.std.proofs.lemmas.List.Sorted.{length_permutation}
-use lib.ListN.{length-append}
 use Rattle.std.specs.declared.clone.Clone as Clone
 use Rattle.std.specs.declared.default.Default as Default
 use Rattle.jwalk_model.specs.Error.{memory}
 use Rattle.jwalk_model.specs.ReadDir.{Spec, Outcome, IsLawfulReading}
 use Rattle.jwalk_fs.specs.declared.file_system.FileSystem as FileSystem
-use Rattle.jwalk_order.specs.Addressed.{addresses_of}
 use Rattle.jwalk_order.specs.Frontier as order
 use Rattle.jwalk_job.specs.declared.process_read_dir.ProcessReadDir as ProcessReadDir
 use Rattle.jwalk_job.specs.declared.error.Error.{Error}
@@ -19,31 +14,16 @@ use Rattle.jwalk_job.specs.declared.read_dir.ReadDir.{ReadDir}
 use Rattle.jwalk_job.specs.Job.{greatest_depth}
 use Rattle.jwalk_job.specs.ReadDir.{outcome}
 use Rattle.jwalk_core.specs.Reads.{ReadsNextBy}
-use Rattle.jwalk_core.specs.ReadAhead.{ReadAhead, HandsOnAt, ReadsLeast, MakesReady}
+use Rattle.jwalk_core.specs.ReadAhead.{ReadAhead, MakesReady}
 use Rattle.jwalk_core.proofs.BatchPrepareFacts.{ready_enters}
 use Rattle.jwalk_core.specs.declared.readers.Readers as Readers
 use Rattle.jwalk_core.specs.declared.read_dir_iter.ReadDirIter.{ReadDirIter}
 use Rattle.jwalk_core.specs.ReadDirIter.{by_crew, job_of, to_read, width_of, read_ahead, early_of, next_address, GivesError, GivesFirst, most_ahead, Known, EntersBy, EntersFirst, IsSteadyReads, StaysSteady, ReadsForNext, Prepares, Gives}
-use Rattle.jwalk_core.proofs.KnownFacts.{tells_memory, known_by}
+use Rattle.jwalk_core.specs.SourceFacts.{tells_memory, enters_fewer}
+use Rattle.jwalk_core.proofs.KnownFacts.{known_by}
 use Rattle.jwalk_core.proofs.GivesFacts.{gives_stopped}
 
--- the reading that is handed on leaves those that are done
-one_leaves : {R : Type 0} (at : List ℕ) (old new : ReadAhead R) → HandsOnAt at old new → length old.done ≡ length new.done + 1
-one_leaves at old new hands = omega (arith, length_permutation old.done (at ∷ new.done) hands.done)
-
 module _ {C S P A R E : Type 0} (files : FileSystem.Ghosts S) (process : ProcessReadDir.Ghosts P C A R E) (clone : Clone.Ghosts R) (defaults : Default.Ghosts E) (job : Job C S P A R E) (width : ℕ) where
-  least_join : (old new : ReadAhead R) → ReadsLeast files process clone defaults job width old new → length new.done ≤ length old.done + width
-  least_join old new reads =
-      omega (arith, length_permutation (addresses_of reads.batch ++ reads.left.done) new.done reads.join.done, length-append (addresses_of reads.batch) reads.left.done, length-map reads.batch (λ x. x.at), ap length reads.leave.done, reads.number, min-le_left width (length old.queue))
-
-  -- A directory that is entered leaves those that are done, and at most the width of others join them.
-  pub enters_fewer : (b : Bool) (at : List ℕ) (old new : ReadAhead R) → EntersBy files process clone defaults b job width at old new → length new.done + 1 ≤ length old.done + width
-  enters_fewer true at old new enters = omega (arith, ap (λ a. length a.done) enters.0, enters.1)
-  enters_fewer false at old new enters = elim enters [
-    | inl before ↦ omega (arith, one_leaves at old new before.1)
-    | inr reads ↦ omega (arith, least_join old reads.1.0 reads.1.1, one_leaves at reads.1.0 new reads.1.2)
-  ]
-
   -- what was made ready is entered without a reading more
   pub enters_prepared : (b own : Bool) (its : Job C S P A R E) (many : ℕ) (at there : List ℕ) (old mid new : ReadAhead R) → b ≡ false → own ≡ b → its ≡ job → many ≡ width → there ≡ at → MakesReady files process clone defaults job width at old mid → EntersBy files process clone defaults own its many there mid new → EntersBy files process clone defaults b job width at old new
   enters_prepared b own its many at there old mid new none same is_job is_width is_at ready enters =

@@ -15,8 +15,7 @@ use Rattle.jwalk_job.specs.Entry.{item}
 use Rattle.jwalk_job.specs.Given.{Given, counted_item}
 use Rattle.jwalk_job.specs.Job.{greatest_depth, job_by}
 use Rattle.jwalk_core.specs.declared.readers.Readers as Readers
-use Rattle.jwalk_core.specs.declared.dir_entry_iter.DirEntryIter.{DirEntryIter}
-use Rattle.jwalk_core.specs.DirEntryIter.{job_of, min_depth_of, to_come, TellsMemory, IsSteadyWalk, Answers}
+use Rattle.jwalk_core.specs.DirEntryIter.{DirEntryIter, job_of, unread_of, min_depth_of, to_come, TellsMemory, IsSteadyWalk, Answers}
 use Rattle.jwalk_core.proofs.AnswerFacts.{held_by_nothing}
 
 module _ {C S P A R E : Type 0} (files : FileSystem.Ghosts S) (process : ProcessReadDir.Ghosts P C A R E) (clone : Clone.Ghosts R) (defaults : Default.Ghosts E) (given : Given R E) where
@@ -32,7 +31,7 @@ module _ {C S P A R E : Type 0} (files : FileSystem.Ghosts S) (process : Process
   answered_first : {L : Type 0} (readers : Readers.Ghosts L C S P A R E) (old new : DirEntryIter C S P A L R E) (answer : Option (Result (DirEntry C A R E) (Error A))) → IsSteadyWalk files process clone defaults readers old given → Answers files process clone defaults readers old answer new → IfSome (option_map item answer) (λ a. ¬ TellsMemory a)
       → (to_come files given old ≡ coming_from (counted_answer answer) (to_come files given new)) × (answer ≡ None → to_come files given new ≡ [])
   answered_first readers old new None steady call told =
-      let nothing_left : to_come files given new ≡ [] = ap (value.to_come (reading (job_by files given (job_of new))) (min_depth_of new) (greatest_depth (job_of new))) (held_by_nothing given new call.ended) in
+      let nothing_left : to_come files given new ≡ [] = ap (value.to_come (reading (job_by files given (job_of new))) (min_depth_of new) (greatest_depth (job_of new))) (held_by_nothing given (unread_of new) new call.ended) in
       (call.coming given steady ∙ sym nothing_left, λ none. nothing_left)
   answered_first readers old new (Some x) steady call told = elim (call.coming given steady) [
     | inl stops ↦ absurd (told (subst TellsMemory (sym stops.told) stops.tells))

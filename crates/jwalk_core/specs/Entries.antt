@@ -19,12 +19,59 @@ use Rattle.jwalk_core.specs.ReadsIn.{ReadsFirstIn}
 use Rattle.jwalk_core.specs.ReadAhead.{ReadAhead, nothing_ahead}
 use Rattle.jwalk_core.specs.declared.readers.Missed.{Missed}
 use Rattle.jwalk_core.specs.CrewReads.{NotLost, failure_of}
-use Rattle.jwalk_core.specs.Step.{IsAtDirectory}
-use Rattle.jwalk_core.specs.DirEntryIter.{Position, PassesPlainly, refusal}
 use Rattle.jwalk_core.specs.Source.{Source, IsKnown}
-use Rattle.jwalk_core.specs.StepIn.{ReadsUpTo, StopsAtDirectory}
+use Rattle.jwalk_core.specs.Step.{IsAtDirectory, ReadsUpTo, StopsAtDirectory}
 use Rattle.jwalk_core.specs.declared.readings.Readings as Readings
 use Rattle.jwalk_core.specs.declared.entries.Entries.{Entries}
+
+-- The item is the error that says that memory ran out.
+abbrev pub TellsMemory : {R E : Type 0} → Item R E → Type 0
+TellsMemory (Ok e) = ⊥
+TellsMemory (Err f) = f ≡ memory
+
+-- Where a walk is.
+pub record Position (R E : Type 0) : Type 0 where
+  -- the items that were received and not passed on, the next one first
+  pub items : List (Item R E)
+  -- the directories that aren't read yet
+  pub unread : List (Spec R)
+  -- the addresses of the directories that are still to be entered, the next one first
+  pub frontier : List (List ℕ)
+  -- what isn't read yet, and what was read and not handed on, by address
+  pub ahead : ReadAhead R
+
+-- An item is passed below which no directory is to be read: nothing else changes.
+pub record PassesPlainly {R E : Type 0} (from : Position R E) (passed : Item R E) (to : Position R E) : Type 0 where
+  pub rest : List (Item R E)
+  pub first : from.items ≡ passed ∷ rest
+  pub none_below : ¬ IsAtDirectory from.items from.unread
+  pub others : to ≡ record from { items = rest }
+
+-- what is held in front where memory ran out at the start: the error that says so
+abbrev pub refusal : {R E : Type 0} → Bool → List (Pair R E)
+refusal true = record { item = Err memory; source = nothing } ∷ []
+refusal false = []
+
+module _ {R E : Type 0} where
+  -- The items that have a directory, and only they, have a source, and nothing else is unread.
+  pub record AreAllSourced (held : List (Pair R E)) (unread : List (Spec R)) : Type 0 where
+    pub each : AreSourced held
+    pub unread : unread ≡ sources held
+
+  -- The answer says why the walk ends early, and nothing is held, unread or read ahead any more.
+  pub record StopsWith (why : Failure → Type 0) (answer : Item R E) (held : List (Pair R E)) (unread : List (Spec R)) (ahead : ReadAhead R) : Type 0 where
+    pub error : Failure
+    pub told : answer ≡ Err error
+    pub tells : why error
+    pub nothing_held : held ≡ []
+    pub nothing_unread : unread ≡ []
+    pub nothing_ahead : ahead ≡ nothing_ahead
+
+module _ {C A R E : Type 0} where
+  -- None of the answers says that memory ran out, which is all that ends a steady walk early.
+  abbrev pub NoneRefused : List (Result (DirEntry C A R E) (Error A)) → Type 0
+  NoneRefused [] = Unit {0}
+  NoneRefused (x ∷ answered) = (¬ TellsMemory (item x)) × NoneRefused answered
 
 module _ {R E : Type 0} (source : Source R E) where
   -- The directory that is to be read for an item, if there is one, is the one below it.
@@ -43,9 +90,25 @@ module _ {R E : Type 0} (source : Source R E) where
   ArePlaced items specs = AreBelow (pair_up items specs)
 
 module _ {C A B R E : Type 0} where
+  -- the readings that it takes its items from
+  abbrev pub reads_of : Entries C A B R E → B
+  reads_of it = it.reads
+
+  -- whether memory ran out at the start, and the error that says so wasn't yielded yet
+  abbrev pub is_refused : Entries C A B R E → Bool
+  is_refused it = it.refused
+
   -- the items that were received and not passed on, the next one first
   abbrev pub items_of : Entries C A B R E → List (Item R E)
   items_of it = map item (reverse it.items.items)
+
+  -- these items, each with the directory below it, where these directories aren't read yet
+  abbrev pub held_with : List (Spec R) → Entries C A B R E → List (Pair R E)
+  held_with unread it = refusal it.refused ++ pair_up (items_of it) unread
+
+  -- the same, with its states as they count
+  abbrev pub counted_with : Given R E → List (Spec R) → Entries C A B R E → List (Pair Worth Worth)
+  counted_with given unread it = refusal it.refused ++ pair_up (map (counted_item given) (items_of it)) (map (counted_spec given) unread)
 
 module _ {C A B R E : Type 0} (readings : Readings.Ghosts B C A R E) where
   abbrev pub source_of : Entries C A B R E → Source R E
@@ -60,11 +123,11 @@ module _ {C A B R E : Type 0} (readings : Readings.Ghosts B C A R E) where
 
   -- the items that were received and not passed on, each with the directory below it
   abbrev pub held : Entries C A B R E → List (Pair R E)
-  held it = refusal it.refused ++ pair_up (items_of it) (unread_of it)
+  held it = held_with (unread_of it) it
 
   -- the same, with its states as they count
   abbrev pub held_by : Given R E → Entries C A B R E → List (Pair Worth Worth)
-  held_by given it = refusal it.refused ++ pair_up (map (counted_item given) (items_of it)) (map (counted_spec given) (unread_of it))
+  held_by given it = counted_with given (unread_of it) it
 
   abbrev pub min_depth_of : Entries C A B R E → ℕ
   min_depth_of it = (source_of it).options.min_depth
@@ -85,18 +148,12 @@ module _ {C A B R E : Type 0} (readings : Readings.Ghosts B C A R E) where
   IsWithin it = NoDeeper (max_depth_of it) (items_of it)
 
   -- The items that have a directory, and only they, have a source, and nothing else is unread.
-  pub record IsSourced (it : Entries C A B R E) : Type 0 where
-    pub each : AreSourced (held it)
-    pub unread : unread_of it ≡ sources (held it)
+  abbrev pub IsSourced : Entries C A B R E → Type 0
+  IsSourced it = AreAllSourced (held it) (unread_of it)
 
   -- The answer says why the walk ends early, and nothing is held, unread or read ahead any more.
-  pub record Stops (why : Failure → Type 0) (answer : Item R E) (new : Entries C A B R E) : Type 0 where
-    pub error : Failure
-    pub told : answer ≡ Err error
-    pub tells : why error
-    pub nothing_held : held new ≡ []
-    pub nothing_unread : unread_of new ≡ []
-    pub nothing_ahead : readings.read_ahead new.reads ≡ nothing_ahead
+  abbrev pub Stops : (Failure → Type 0) → Item R E → Entries C A B R E → Type 0
+  Stops why answer new = StopsWith why answer (held new) (unread_of new) (readings.read_ahead new.reads)
 
   -- These answers are the first of what was to come, and the rest is to come then.
   abbrev pub ComesFirst : Given R E → Entries C A B R E → List (Item R E) → Entries C A B R E → Type 0

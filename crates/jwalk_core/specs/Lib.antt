@@ -10,10 +10,9 @@ pub mod BatchReads
 pub mod Parallelism
 pub mod CrewReads
 pub mod ReadDirIter
-pub mod Step
 pub mod ReadsIn
+pub mod Step
 pub mod Source
-pub mod StepIn
 pub mod Sources
 pub mod SourceFacts
 pub mod Entries

@@ -3,6 +3,7 @@ ghost use Rattle.std.specs.Prelude.{◌≡◌, true, Ok, IfOk, OnErr};
 ghost use Rattle.jwalk_job.specs.Entry.{entry, item};
 
 mod on_threads;
+mod starts;
 
 use crate::crew_reads::error_of;
 use crate::readers::Missed;
@@ -35,15 +36,10 @@ impl<C: ClientState, A: Allocator + Copy, B: Readings<C, A>> Drop for Entries<C,
 
 impl<C: ClientState, A: Allocator + Copy, B: Readings<C, A>> Entries<C, A, B> {
     ghost use Rattle.std.specs.Prelude.{◌≤◌, ◌++◌, [], false, length, OnOk, IsSome, IfSome, IfNone, IsSomeAnd, option_map, map};
-    ghost use Rattle.jwalk_model.specs.Entry.{AtDepth};
-    ghost use Rattle.jwalk_model.specs.ReadDir.{children, AreClones};
-    ghost use Rattle.jwalk_model.specs.Listing.{paired, is_answered};
+    ghost use Rattle.jwalk_model.specs.Listing.{is_answered};
     ghost use Rattle.jwalk_job.specs.ReadDir.{reading, outcome};
-    ghost use Rattle.jwalk_job.specs.Given.{counted_reading, ClonesCount};
-    ghost use Rattle.jwalk_job.specs.Options as options;
-    ghost use Rattle.jwalk_job.specs.Job.{options_of};
     ghost use Rattle.jwalk_core.specs.ReadAhead.{nothing_ahead};
-    ghost use Rattle.jwalk_core.specs.Entries.{min_depth_of, items_of, unread_of, Stays, Passes, GoesOn, Answers, AnswersWhatCame, Fills, Counts};
+    ghost use Rattle.jwalk_core.specs.Entries.{reads_of, is_refused, min_depth_of, items_of, unread_of, Stays, Passes, GoesOn, Answers, AnswersWhatCame, Fills, Counts};
     ghost use Rattle.jwalk_core.specs.Step.{Receives};
 
     /// Returns the walk over these readings that holds a root's list. If `refused`, memory ran out: the walk first
@@ -53,9 +49,9 @@ impl<C: ClientState, A: Allocator + Copy, B: Readings<C, A>> Entries<C, A, B> {
         list: List<C, A>,
         refused: bool,
     ) -> Self
-        ensures reads { result.reads ≡ reads }
+        ensures reads { reads_of result ≡ reads }
         ensures items { items_of result ≡ map item list.items }
-        ensures refused { result.refused ≡ refused }
+        ensures refused { is_refused result ≡ refused }
     {
         let mut items = list;
         items.reverse();
@@ -229,7 +225,7 @@ impl<C: ClientState, A: Allocator + Copy, B: Readings<C, A>> Entries<C, A, B> {
 
     /// Returns whether memory ran out at the start, and the error that reports it was not yielded yet.
     pub fn is_refused(&self) -> bool
-        ensures { result ≡ self.now.refused }
+        ensures { result ≡ is_refused self.now }
     {
         self.refused
     }

@@ -2,7 +2,7 @@
 ghost use Rattle.std.specs.Prelude.{◌≡◌, ◌≢◌, true, false, []};
 ghost use Rattle.jwalk_job.specs.Job.{callback};
 
-use crate::entries::Entries;
+use crate::dir_entry_iter::DirEntryIter;
 use crate::read_dir_iter::ReadDirIter;
 use crate::readers::{Missed, Readers};
 use crate::readings::Readings;
@@ -21,20 +21,20 @@ impl<
     P: ProcessReadDir<C, A> + Send + Sync,
     A: Allocator + Copy + Send + Sync,
     L: Readers<C, S, P, A>,
-> Entries<C, A, ReadDirIter<C, S, P, A, L>>
+> DirEntryIter<C, S, P, A, L>
 where
     C::ReadDirState: Send,
     C::DirEntryState: Send,
 {
-    ghost use Rattle.jwalk_core.specs.ReadDirIter.{job_of, to_read};
+    ghost use Rattle.jwalk_core.specs.DirEntryIter.{job_of, unread_of};
     ghost use Rattle.jwalk_core.specs.Entries.{items_of, Prepares, Passes, GoesOn, Answers, Fills};
     ghost use Rattle.jwalk_core.specs.Step.{IsAtDirectory};
 
     /// Returns whether the next item is a directory's entry, which is to be read if any is left.
     fn is_at_directory(&self) -> bool
-        ensures yes { result ≡ true → to_read self.now.reads ≢ []
-            → IsAtDirectory (items_of self.now) (to_read self.now.reads) }
-        ensures no { result ≡ false → ¬ IsAtDirectory (items_of self.now) (to_read self.now.reads) }
+        ensures yes { result ≡ true → unread_of self.now ≢ []
+            → IsAtDirectory (items_of self.now) (unread_of self.now) }
+        ensures no { result ≡ false → ¬ IsAtDirectory (items_of self.now) (unread_of self.now) }
     {
         match self.items.last() {
             Some(Ok(found)) => found.read_children.is_some(),
@@ -46,7 +46,7 @@ where
     /// Makes sure that the next item can be passed without a reading. Nothing is read unless that item enters a
     /// directory.
     fn prepare_on<R: Threads + Sync>(&mut self, rt: &R) -> Result<(), AllocError>
-        requires { P.IsLawful (callback (job_of self.old.reads)) }
+        requires { P.IsLawful (callback (job_of self.old)) }
         ensures { Prepares ⟦<ReadDirIter<C, S, P, A, L> as Readings<C, A>>⟧
             self.old result self.new }
     {
@@ -61,7 +61,7 @@ where
         &mut self,
         rt: &R,
     ) -> Result<Option<Item<C, A>>, Missed>
-        requires { P.IsLawful (callback (job_of self.old.reads)) }
+        requires { P.IsLawful (callback (job_of self.old)) }
         ensures { Passes ⟦<ReadDirIter<C, S, P, A, L> as Readings<C, A>>⟧
             self.old result self.new }
     {
@@ -74,7 +74,7 @@ where
         &mut self,
         rt: &R,
     ) -> Result<Option<Item<C, A>>, Missed>
-        requires { P.IsLawful (callback (job_of self.old.reads)) }
+        requires { P.IsLawful (callback (job_of self.old)) }
         ensures { GoesOn ⟦<ReadDirIter<C, S, P, A, L> as Readings<C, A>>⟧
             self.old result self.new }
     {
@@ -93,7 +93,7 @@ where
     /// iterator's adapters, call `Iterator::next`: the answers and their order are the same there. Over a crew both may
     /// block for a reading or for a lock.
     pub fn next_on<R: Threads + Sync>(&mut self, rt: &R) -> Option<Item<C, A>>
-        requires { P.IsLawful (callback (job_of self.old.reads)) }
+        requires { P.IsLawful (callback (job_of self.old)) }
         ensures { Answers ⟦<ReadDirIter<C, S, P, A, L> as Readings<C, A>>⟧
             self.old result self.new }
     {
@@ -105,7 +105,7 @@ where
         self.answer(came)
     }
 
-    /// Appends up to `n` answers to `out`, like [`fill`](Entries::fill), with threads of this runtime to read the
+    /// Appends up to `n` answers to `out`, like [`fill`](DirEntryIter::fill), with threads of this runtime to read the
     /// directories that are read together.
     ///
     /// # Errors
@@ -117,7 +117,7 @@ where
         n: usize,
         out: &mut List<C, A>,
     ) -> Result<usize, AllocError>
-        requires { P.IsLawful (callback (job_of self.old.reads)) }
+        requires { P.IsLawful (callback (job_of self.old)) }
         ensures { Fills ⟦<ReadDirIter<C, S, P, A, L> as Readings<C, A>>⟧
             n self.old out.old.items result out.new.items self.new }
     {

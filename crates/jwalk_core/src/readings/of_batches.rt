@@ -1,11 +1,10 @@
 //! A walk's own batches as its readings.
-ghost use Rattle.std.specs.Prelude.{◌≡◌, ◌≢◌, ◌≤◌, ℕ, List, [], length, IfOk, IfErr, OnErr};
-ghost use Rattle.jwalk_job.specs.declared.job.Job.{Job};
+ghost use Rattle.std.specs.Prelude.{◌≡◌, ◌≢◌, ◌≤◌, List, [], length, false, IfOk, IfErr, OnErr};
 ghost use Rattle.jwalk_job.specs.Job.{callback};
 ghost use Rattle.jwalk_core.specs.BatchReads as board;
 ghost use Rattle.jwalk_core.specs.BatchReads.{IsSteadyBatches};
-ghost use Rattle.jwalk_core.specs.Sources.{batch_source};
-ghost use Rattle.jwalk_core.specs.SourceFacts.{is_batch_source};
+ghost use Rattle.jwalk_core.specs.Sources.{Base, source_by};
+ghost use Rattle.jwalk_core.specs.SourceFacts.{is_source_by};
 
 use crate::batch_reads::BatchReads;
 use crate::readers::Missed;
@@ -20,14 +19,13 @@ use std::alloc::Allocator;
 
 impl<C: ClientState, S: FileSystem, P: ProcessReadDir<C, A>, A: Allocator + Copy> Readings<C, A>
     for BatchReads<C, S, P, A> {
-    ghost Base = { Job C S P A C.ReadDirState C.DirEntryState × ℕ };
+    ghost Base = { Base C S P A C.ReadDirState C.DirEntryState };
 
-    ghost base = { λ w. (w.job, w.width) };
+    ghost base = { λ w. record { by_crew = false; job = w.job; width = w.width } };
 
-    ghost source = { λ b. batch_source S.FileSystem P.ProcessReadDir C.ReadDirState.Clone C.DirEntryState.Default
-        b.0 b.1 };
+    ghost source = { source_by S.FileSystem P.ProcessReadDir C.ReadDirState.Clone C.DirEntryState.Default };
 
-    ghost can_read = { λ b. P.IsLawful (callback b.0) };
+    ghost can_read = { λ base. P.IsLawful (callback base.job) };
 
     ghost to_read = { board.to_read };
 
@@ -41,8 +39,7 @@ impl<C: ClientState, S: FileSystem, P: ProcessReadDir<C, A>, A: Allocator + Copy
 
     ghost steady = { IsSteadyBatches S.FileSystem P.ProcessReadDir C.ReadDirState.Clone C.DirEntryState.Default };
 
-    ghost sound = { λ b. is_batch_source S.FileSystem P.ProcessReadDir C.ReadDirState.Clone C.DirEntryState.Default
-        b.0 b.1 };
+    ghost sound = { is_source_by S.FileSystem P.ProcessReadDir C.ReadDirState.Clone C.DirEntryState.Default };
 
     ghost clones = { λ it g steady. steady.steady.clones };
 

@@ -1,12 +1,11 @@
 //! A crew's readings.
-ghost use Rattle.std.specs.Prelude.{◌≡◌, ◌≢◌, ◌≤◌, ℕ, List, [], length, IfOk, IfErr, OnErr};
-ghost use Rattle.jwalk_job.specs.declared.job.Job.{Job};
+ghost use Rattle.std.specs.Prelude.{◌≡◌, ◌≢◌, ◌≤◌, List, [], length, true, IfOk, IfErr, OnErr};
 ghost use Rattle.jwalk_job.specs.Job.{callback};
 ghost use Rattle.jwalk_core.specs.CrewReads as crew;
 ghost use Rattle.jwalk_core.specs.CrewReads.{IsSteadyCrew};
 ghost use Rattle.jwalk_core.specs.ReadAhead.{nothing_ahead};
-ghost use Rattle.jwalk_core.specs.Sources.{crew_source};
-ghost use Rattle.jwalk_core.specs.SourceFacts.{is_crew_source};
+ghost use Rattle.jwalk_core.specs.Sources.{Base, source_by};
+ghost use Rattle.jwalk_core.specs.SourceFacts.{is_source_by};
 
 use crate::crew_reads::CrewReads;
 use crate::readers::{Missed, Readers};
@@ -21,13 +20,13 @@ use std::alloc::Allocator;
 
 impl<C: ClientState, S: FileSystem, P: ProcessReadDir<C, A>, A: Allocator + Copy, L: Readers<C, S, P, A>> Readings<C, A>
     for CrewReads<C, S, P, A, L> {
-    ghost Base = { Job C S P A C.ReadDirState C.DirEntryState };
+    ghost Base = { Base C S P A C.ReadDirState C.DirEntryState };
 
-    ghost base = { λ w. crew.job_of w };
+    ghost base = { λ w. record { by_crew = true; job = crew.job_of w; width = 1 } };
 
-    ghost source = { λ b. crew_source S.FileSystem P.ProcessReadDir C.ReadDirState.Clone C.DirEntryState.Default b };
+    ghost source = { source_by S.FileSystem P.ProcessReadDir C.ReadDirState.Clone C.DirEntryState.Default };
 
-    ghost can_read = { λ b. P.IsLawful (callback b) };
+    ghost can_read = { λ base. P.IsLawful (callback base.job) };
 
     ghost to_read = { crew.to_read };
 
@@ -41,7 +40,7 @@ impl<C: ClientState, S: FileSystem, P: ProcessReadDir<C, A>, A: Allocator + Copy
 
     ghost steady = { IsSteadyCrew S.FileSystem P.ProcessReadDir C.ReadDirState.Clone C.DirEntryState.Default L.Readers };
 
-    ghost sound = { λ b. is_crew_source S.FileSystem P.ProcessReadDir C.ReadDirState.Clone C.DirEntryState.Default b };
+    ghost sound = { is_source_by S.FileSystem P.ProcessReadDir C.ReadDirState.Clone C.DirEntryState.Default };
 
     ghost clones = { λ it g steady. steady.steady.clones };
 

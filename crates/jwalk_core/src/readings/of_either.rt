@@ -1,11 +1,10 @@
 //! Readings that a crew may make.
-ghost use Rattle.std.specs.Prelude.{◌≡◌, ◌≢◌, ◌≤◌, ℕ, Bool, List, [], length, IfOk, IfErr, OnErr};
-ghost use Rattle.jwalk_job.specs.declared.job.Job.{Job};
+ghost use Rattle.std.specs.Prelude.{◌≡◌, ◌≢◌, ◌≤◌, List, [], length, IfOk, IfErr, OnErr};
 ghost use Rattle.jwalk_job.specs.Job.{callback};
 ghost use Rattle.jwalk_core.specs.ReadDirIter as reads;
 ghost use Rattle.jwalk_core.specs.ReadDirIter.{IsSteadyReads};
-ghost use Rattle.jwalk_core.specs.Sources.{source_by, IsReadyBy};
-ghost use Rattle.jwalk_core.specs.SourceFacts.{is_source_by, either_clones};
+ghost use Rattle.jwalk_core.specs.Sources.{Base, base_of, source_by, AreAhead};
+ghost use Rattle.jwalk_core.specs.SourceFacts.{is_source_by, clones_by};
 
 use crate::batch_reads::BatchReads;
 use crate::crew_reads::CrewReads;
@@ -22,14 +21,13 @@ use std::alloc::Allocator;
 
 impl<C: ClientState, S: FileSystem, P: ProcessReadDir<C, A>, A: Allocator + Copy, L: Readers<C, S, P, A>> Readings<C, A>
     for ReadDirIter<C, S, P, A, L> {
-    ghost Base = { Bool × Job C S P A C.ReadDirState C.DirEntryState × ℕ };
+    ghost Base = { Base C S P A C.ReadDirState C.DirEntryState };
 
-    ghost base = { λ w. (reads.by_crew w, reads.job_of w, reads.width_of w) };
+    ghost base = { base_of };
 
-    ghost source = { λ b. source_by S.FileSystem P.ProcessReadDir C.ReadDirState.Clone C.DirEntryState.Default
-        b.0 b.1 b.2 };
+    ghost source = { source_by S.FileSystem P.ProcessReadDir C.ReadDirState.Clone C.DirEntryState.Default };
 
-    ghost can_read = { λ b. P.IsLawful (callback b.1) };
+    ghost can_read = { λ base. P.IsLawful (callback base.job) };
 
     ghost to_read = { reads.to_read };
 
@@ -39,14 +37,13 @@ impl<C: ClientState, S: FileSystem, P: ProcessReadDir<C, A>, A: Allocator + Copy
 
     ghost most = { reads.most_ahead L.Readers };
 
-    ghost ready = { IsReadyBy L.Readers };
+    ghost ready = { AreAhead L.Readers };
 
     ghost steady = { IsSteadyReads S.FileSystem P.ProcessReadDir C.ReadDirState.Clone C.DirEntryState.Default L.Readers };
 
-    ghost sound = { λ b. is_source_by S.FileSystem P.ProcessReadDir C.ReadDirState.Clone C.DirEntryState.Default
-        b.1 b.0 b.2 };
+    ghost sound = { is_source_by S.FileSystem P.ProcessReadDir C.ReadDirState.Clone C.DirEntryState.Default };
 
-    ghost clones = { either_clones S.FileSystem P.ProcessReadDir C.ReadDirState.Clone C.DirEntryState.Default L.Readers };
+    ghost clones = { clones_by S.FileSystem P.ProcessReadDir C.ReadDirState.Clone C.DirEntryState.Default L.Readers };
 
     fn read_next(&mut self) -> Result<Option<Outcome<C, A>>, Missed> {
         match self {
@@ -71,12 +68,7 @@ impl<C: ClientState, S: FileSystem, P: ProcessReadDir<C, A>, A: Allocator + Copy
     }
 
     fn ahead(&self) -> usize {
-        match self {
-            ReadDirIter::Walk(walk) => <BatchReads<C, S, P, A> as Readings<C, A>>::ahead(walk),
-            ReadDirIter::CrewWalk(reads) => {
-                <CrewReads<C, S, P, A, L> as Readings<C, A>>::ahead(reads)
-            }
-        }
+        ReadDirIter::ahead(self)
     }
 
     fn stop(&mut self) {

@@ -2,8 +2,8 @@ use Rattle.std.proofs.Common.{◌∙◌, ◌≡◌, sym, subst}
 use Rattle.jwalk_job.specs.Error.{failure}
 use Rattle.jwalk_core.specs.Entries.{source_of}
 use Rattle.jwalk_core.proofs.KnownFacts.{told_refused}
-use Rattle.jwalk_core.proofs.PassInFacts.{stays_on}
-use Rattle.jwalk_core.proofs.AnswerInFacts.{answers_reads, answers_stopped}
+use Rattle.jwalk_core.proofs.PassFacts.{stays_on}
+use Rattle.jwalk_core.proofs.AnswerFacts.{answers_reads, answers_stopped}
 use Rattle.jwalk_core.proofs.entries.Entries.answer.Goals as goal
 
 pub returns-in-Ok : goal.returns-in-Ok

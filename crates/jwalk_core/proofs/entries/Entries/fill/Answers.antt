@@ -1,5 +1,5 @@
 use Rattle.std.proofs.Common.{sym, subst, arith}
-use Rattle.jwalk_core.proofs.FillInFacts.{Filled, none_filled, one_filled, fills_up, fills_in_part, fills_all}
+use Rattle.jwalk_core.proofs.FillFacts.{Filled, none_filled, one_filled, fills_up, fills_in_part, fills_all}
 use Rattle.jwalk_core.proofs.entries.Entries.fill.Goals as goal
 
 pub loop-filled-init : goal.loop-filled-init

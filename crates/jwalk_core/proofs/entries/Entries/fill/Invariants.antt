@@ -1,5 +1,5 @@
 use Rattle.std.proofs.Common.{◌-◌}
-use Rattle.jwalk_core.proofs.FillInFacts.{Filled}
+use Rattle.jwalk_core.proofs.FillFacts.{Filled}
 use Rattle.jwalk_core.proofs.entries.Entries.fill.Given as goal
 
 -- what was filled in so far

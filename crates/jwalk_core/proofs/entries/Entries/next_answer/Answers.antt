@@ -1,4 +1,4 @@
-use Rattle.jwalk_core.proofs.AnswerInFacts.{answers_refusal}
+use Rattle.jwalk_core.proofs.AnswerFacts.{answers_refusal}
 use Rattle.jwalk_core.proofs.entries.Entries.next_answer.Goals as goal
 
 pub returns-then-self : goal.returns-then-self

@@ -1,4 +1,4 @@
-use Rattle.jwalk_core.proofs.PassInFacts.{none_passed_over, one_passed_over, passes_lighter, goes_to_answer, goes_to_end, goes_to_missed}
+use Rattle.jwalk_core.proofs.PassFacts.{none_passed_over, one_passed_over, passes_lighter, goes_to_answer, goes_to_end, goes_to_missed}
 use Rattle.jwalk_core.proofs.entries.Entries.next_kept.Goals as goal
 
 pub loop-passed-init : goal.loop-passed-init

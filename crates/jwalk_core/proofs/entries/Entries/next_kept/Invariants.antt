@@ -1,6 +1,6 @@
 use Rattle.jwalk_model.specs.Held.{pair_up, weight}
 use Rattle.jwalk_core.specs.Entries.{max_depth_of, items_of, unread_of}
-use Rattle.jwalk_core.proofs.PassInFacts.{PassedOver}
+use Rattle.jwalk_core.proofs.PassFacts.{PassedOver}
 use Rattle.jwalk_core.proofs.entries.Entries.next_kept.Given as goal
 
 -- what was passed over is left out

@@ -8,8 +8,8 @@ use Rattle.jwalk_core.specs.Source.{IsKnown}
 use Rattle.jwalk_core.proofs.StackFacts.{is_some-map}
 use Rattle.jwalk_core.proofs.ReceivedFacts.{popped}
 use Rattle.jwalk_core.proofs.ResultFacts.{none_ok, on_err, refused_not_lost, fewer_not_lost, passed_not_lost}
-use Rattle.jwalk_core.proofs.PassInFacts.{passed_alone, passed_by_reading, known_in, at_read, tells_refused, tells_passed, stays_by}
-use Rattle.jwalk_core.proofs.PlacedInFacts.{placed_next}
+use Rattle.jwalk_core.proofs.PassFacts.{passed_alone, passed_by_reading, known_in, at_read, tells_refused, tells_passed, stays_by}
+use Rattle.jwalk_core.proofs.PlacedFacts.{placed_next}
 use Rattle.jwalk_core.proofs.entries.Entries.pass.Goals as goal
 
 pub returns-in_ok-entered-in-Some-Ok : goal.returns-in_ok-entered-in-Some-Ok
