@@ -15,7 +15,7 @@ use Rattle.jwalk_job.specs.Entry.{item}
 use Rattle.jwalk_job.specs.Given.{Given, counted_item}
 use Rattle.jwalk_core.specs.declared.readings.Readings as Readings
 use Rattle.jwalk_core.specs.declared.entries.Entries.{Entries}
-use Rattle.jwalk_core.specs.Entries.{source_of, min_depth_of, max_depth_of, held, weight_of, to_come, IsWithin, IsSourced, Stops, IsSteadyWalk, Answers, ComesFirst, EndsEarly, FillCalls, Fills}
+use Rattle.jwalk_core.specs.Entries.{unread_of, source_of, min_depth_of, max_depth_of, held, weight_of, to_come, IsWithin, IsSourced, Stops, IsSteadyWalk, Answers, ComesFirst, EndsEarly, FillCalls, Fills}
 use Rattle.jwalk_core.proofs.AnswerFacts.{held_by_nothing}
 
 -- where nothing is held, nothing is yielded
@@ -178,7 +178,7 @@ module _ {C A B R E : Type 0} (readings : Readings.Ghosts B C A R E) (n : ℕ) (
   -- the call after some answers ends them
   at_end : (given : Given R E) (answered : List (Item R E)) (mid new : Entries C A B R E) → to_come readings given mid ≡ [] → held readings new ≡ [] → ComesFirst readings given old answered mid ⊎ EndsEarly readings given old answered mid → ComesFirst readings given old answered new ⊎ EndsEarly readings given old answered new
   at_end given answered mid new none over sofar = elim sofar [
-    | inl comes ↦ inl (comes ∙ ap (λ l. map (counted_item given) answered ++ l) (none ∙ sym (ap (value.to_come ((source_of readings new).reading given) (min_depth_of readings new) (max_depth_of readings new)) (held_by_nothing readings given new over))))
+    | inl comes ↦ inl (comes ∙ ap (λ l. map (counted_item given) answered ++ l) (none ∙ sym (ap (value.to_come ((source_of readings new).reading given) (min_depth_of readings new) (max_depth_of readings new)) (held_by_nothing given (unread_of readings new) new over))))
     | inr ends ↦ inr (record { before = ends.before; missed = ends.missed; beginning = ends.beginning; told = ends.told; nothing_held = over })
   ]
 

@@ -1,11 +1,12 @@
 -- What a walk begins with.
-use Rattle.std.proofs.Common.{◌≡◌, ◌∙◌, ◌≤◌, ℕ, Bool, false, true, [], ◌∷◌, ◌++◌, List, map, append-nil, Ok, Option, Some, None, refl, sym, ap, subst, arith}
+use Rattle.std.proofs.Common.{◌≡◌, ◌∙◌, ◌≤◌, ℕ, Bool, false, true, [], ◌∷◌, ◌++◌, List, map, append-nil, Ok, Err, Option, Some, None, refl, sym, ap, subst, arith}
 use Rattle.std.specs.declared.clone.Clone as Clone
 use Rattle.std.specs.declared.default.Default as Default
+use Rattle.jwalk_model.specs.Error.{memory}
 use Rattle.jwalk_model.specs.Entry.{Item, AtDepth, NoDeeper}
 use Rattle.jwalk_model.specs.ReadDir.{Spec, Reading, children, children_of, AreClones}
-use Rattle.jwalk_model.specs.Listing.{paired}
-use Rattle.jwalk_model.specs.Held.{pair_up}
+use Rattle.jwalk_model.specs.Listing.{nothing, paired}
+use Rattle.jwalk_model.specs.Held.{pair_up, sources}
 use Rattle.jwalk_model.proofs.CloneFacts.{same_length, counted_clones}
 use Rattle.jwalk_model.proofs.CountedFacts.{counted-children_of}
 use Rattle.jwalk_model.proofs.HeldFacts.{directories, as_many_of, pair_up-outcome}
@@ -17,10 +18,10 @@ use Rattle.jwalk_job.specs.Job.{IsSteadyJob}
 use Rattle.jwalk_core.specs.declared.readers.Readers as Readers
 use Rattle.jwalk_core.specs.CrewReads.{IsNextBelow}
 use Rattle.jwalk_core.specs.Sources.{base_of, source_by}
-use Rattle.jwalk_core.specs.DirEntryIter.{DirEntryIter, by_crew, job_of, items_of, unread_of, read_ahead, held_by, IsSourced, IsSteadyWalk}
+use Rattle.jwalk_core.specs.DirEntryIter.{DirEntryIter, by_crew, job_of, items_of, unread_of, read_ahead, held, held_by, IsSourced, IsSteadyWalk}
 use Rattle.jwalk_core.proofs.GivesFacts.{steady_at_rest}
 use Rattle.jwalk_core.proofs.PlacedFacts.{all_placed}
-use Rattle.jwalk_core.proofs.AnswerFacts.{held_by_with, with_sourced}
+use Rattle.jwalk_core.proofs.AnswerFacts.{held_refused, held_by_with, with_sourced}
 
 -- where no crew reads, nothing is said of the item that a directory is below
 below_alone : {R E : Type 0} (b : Bool) → b ≡ false → (x : Item R E) (s : Spec R) → IsNextBelow b x (s ∷ [])
@@ -30,6 +31,14 @@ below_alone true own x s = absurd cc
 -- a walk that no crew reads for is steady over a steady job, if nothing was read early
 pub alone_steady : {C S P A L R E : Type 0} (files : FileSystem.Ghosts S) (process : ProcessReadDir.Ghosts P C A R E) (clone : Clone.Ghosts R) (defaults : Default.Ghosts E) (readers : Readers.Ghosts L C S P A R E) (it : DirEntryIter C S P A L R E) (given : Given R E) → by_crew it ≡ false → IsSteadyJob files process clone defaults (job_of it) given → (read_ahead it).done ≡ [] → IsSteadyWalk files process clone defaults readers it given
 alone_steady files process clone defaults readers it given own steady none = record { reads = steady_at_rest files process clone defaults readers it.reads given own steady none; placed = all_placed (source_by files process clone defaults (base_of it.reads)) (below_alone (by_crew it) own) (items_of it) (unread_of it) }
+
+module _ {C S P A L R E : Type 0} (it : DirEntryIter C S P A L R E) (refused : it.refused ≡ true) (none : items_of it ≡ []) where
+  -- a walk that ran out of memory at its start, and has no items, holds only the error that says so
+  pub holds_refusal : held it ≡ record { item = Err memory; source = nothing } ∷ []
+  holds_refusal = held_refused (unread_of it) it refused ∙ ap (λ l. record { item = Err memory; source = nothing } ∷ pair_up l (unread_of it)) none
+
+  pub refusal_sourced : unread_of it ≡ [] → IsSourced it
+  refusal_sourced no_unread = record { each = rw holds_refusal (refl, tt); unread = no_unread ∙ sym (ap sources holds_refusal) }
 
 module _ {C S P A L R E : Type 0} (clone : Clone.Ghosts R) (r : Reading R E) (it : DirEntryIter C S P A L R E) where
   -- a walk that has only a list, with its directories, holds the pairs of that list

@@ -16,7 +16,8 @@ use Rattle.jwalk_job.specs.Given.{Given, counted_item, counted_spec}
 use Rattle.jwalk_order.specs.Frontier as frontier
 use Rattle.jwalk_order.specs.Frontier.{next_address}
 use Rattle.jwalk_core.specs.ReadsIn.{ReadsFirstIn}
-use Rattle.jwalk_core.specs.ReadAhead.{ReadAhead, nothing_ahead}
+use Rattle.jwalk_core.specs.ReadAhead.{ReadAhead}
+use Rattle.jwalk_core.specs.ReadAhead as left
 use Rattle.jwalk_core.specs.declared.readers.Missed.{Missed}
 use Rattle.jwalk_core.specs.CrewReads.{NotLost, failure_of}
 use Rattle.jwalk_core.specs.Source.{Source, IsKnown}
@@ -54,18 +55,18 @@ refusal false = []
 
 module _ {R E : Type 0} where
   -- The items that have a directory, and only they, have a source, and nothing else is unread.
-  pub record AreAllSourced (held : List (Pair R E)) (unread : List (Spec R)) : Type 0 where
-    pub each : AreSourced held
-    pub unread : unread ≡ sources held
+  pub record AreAllSourced (pairs : List (Pair R E)) (specs : List (Spec R)) : Type 0 where
+    pub each : AreSourced pairs
+    pub unread : specs ≡ sources pairs
 
   -- The answer says why the walk ends early, and nothing is held, unread or read ahead any more.
-  pub record StopsWith (why : Failure → Type 0) (answer : Item R E) (held : List (Pair R E)) (unread : List (Spec R)) (ahead : ReadAhead R) : Type 0 where
+  pub record StopsWith (why : Failure → Type 0) (answer : Item R E) (pairs : List (Pair R E)) (specs : List (Spec R)) (ahead : ReadAhead R) : Type 0 where
     pub error : Failure
     pub told : answer ≡ Err error
     pub tells : why error
-    pub nothing_held : held ≡ []
-    pub nothing_unread : unread ≡ []
-    pub nothing_ahead : ahead ≡ nothing_ahead
+    pub nothing_held : pairs ≡ []
+    pub nothing_unread : specs ≡ []
+    pub nothing_ahead : ahead ≡ left.nothing_ahead
 
 module _ {C A R E : Type 0} where
   -- None of the answers says that memory ran out, which is all that ends a steady walk early.
@@ -104,11 +105,11 @@ module _ {C A B R E : Type 0} where
 
   -- these items, each with the directory below it, where these directories aren't read yet
   abbrev pub held_with : List (Spec R) → Entries C A B R E → List (Pair R E)
-  held_with unread it = refusal it.refused ++ pair_up (items_of it) unread
+  held_with specs it = refusal it.refused ++ pair_up (items_of it) specs
 
   -- the same, with its states as they count
   abbrev pub counted_with : Given R E → List (Spec R) → Entries C A B R E → List (Pair Worth Worth)
-  counted_with given unread it = refusal it.refused ++ pair_up (map (counted_item given) (items_of it)) (map (counted_spec given) unread)
+  counted_with given specs it = refusal it.refused ++ pair_up (map (counted_item given) (items_of it)) (map (counted_spec given) specs)
 
 module _ {C A B R E : Type 0} (readings : Readings.Ghosts B C A R E) where
   abbrev pub source_of : Entries C A B R E → Source R E

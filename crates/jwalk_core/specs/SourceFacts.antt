@@ -58,7 +58,7 @@ module _ {C S P A R E : Type 0} (files : FileSystem.Ghosts S) (process : Process
   is_source_by base = record {
     memory_told = tells_memory base.by_crew memory refl;
     fewer = enters_fewer files process clone defaults base.job base.width base.by_crew;
-    found_below = found_below base.by_crew clone.is_clone;
+    found_below = λ e c state made. found_below base.by_crew clone.is_clone state e c made;
   }
 
   -- over what readings are steady, clones count as their originals

@@ -1,10 +1,11 @@
-use Rattle.std.proofs.Common.{◌≡◌, ◌∙◌, ◌++◌, true, false, refl, sym, ap}
+use Rattle.std.proofs.Common.{◌≡◌, ◌∙◌, ◌++◌, map, reverse, true, false, refl, sym, ap}
 use Rattle.std.proofs.lemmas.List.{append-nil}
 use Rattle.jwalk_job.specs.ReadDir.{reading}
+use Rattle.jwalk_job.specs.Entry.{item}
 use Rattle.jwalk_job.specs.Job.{greatest_depth}
 use Rattle.jwalk_core.specs.DirEntryIter.{job_of, items_of}
 use Rattle.jwalk_core.proofs.AheadFacts.{begins_with_none}
-use Rattle.jwalk_core.proofs.StartFacts.{holds_root, at_root, within_root, root_sourced}
+use Rattle.jwalk_core.proofs.StartFacts.{holds_refusal, refusal_sourced, holds_root, at_root, within_root, root_sourced}
 use Rattle.jwalk_core.proofs.entries.starts.DirEntryIter+C+S+P+A+L.from_root.Goals as goal
 
 pub returns-in-Ok-clause-within : goal.returns-in-Ok-clause-within
@@ -85,3 +86,9 @@ returns-in-Err-clause-ahead g c = begins_with_none _ _ _ c.stop.ensures.to_read 
 
 pub returns-in-Err-clause-held : goal.returns-in-Err-clause-held
 returns-in-Err-clause-held g c = λ given counts started. absurd (let no : true ≡ false = sym (c.begin.ensures.refused ∙ c.refused-walk.ensures.refused) ∙ started in cc)
+
+pub returns-in-Err-clause-refused : goal.returns-in-Err-clause-refused
+returns-in-Err-clause-refused g c = λ refused. record { tells = holds_refusal _ refused (ap (λ l. map item (reverse l)) c.clear.ensures.items); nothing_unread = c.stop.ensures.to_read }
+
+pub returns-in-Err-clause-sourced : goal.returns-in-Err-clause-sourced
+returns-in-Err-clause-sourced g c = refusal_sourced _ (c.begin.ensures.refused ∙ c.refused-walk.ensures.refused) (ap (λ l. map item (reverse l)) c.clear.ensures.items) c.stop.ensures.to_read
