@@ -14,8 +14,7 @@ use Rattle.jwalk.specs.jwalk_job.declared.dir_entry.DirEntry.{DirEntry}
 use Rattle.jwalk.specs.jwalk_job.declared.error.Error.{Error}
 use Rattle.jwalk.specs.jwalk_job.Entry.{item}
 use Rattle.jwalk.specs.jwalk_core.declared.readers.Readers as Readers
-use Rattle.jwalk.specs.jwalk_core.declared.dir_entry_iter.DirEntryIter.{DirEntryIter}
-use Rattle.jwalk.specs.DirEntryIter.{Position, by_crew, min_depth_of, width_of, early_of, Stops, PassesMany, none_passed, one_passed, one_entered, GrowsAhead, Answers}
+use Rattle.jwalk.specs.DirEntryIter.{DirEntryIter, Position, by_crew, min_depth_of, width_of, early_of, Stops, PassesMany, none_passed, one_passed, one_entered, GrowsAhead, Answers}
 
 -- what can't be otherwise is so
 unless : (a b : ℕ) → ¬ (¬ (a ≤ b)) → a ≤ b

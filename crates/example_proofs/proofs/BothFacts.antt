@@ -7,13 +7,12 @@ use Rattle.jwalk.specs.jwalk_job.declared.process_read_dir.ProcessReadDir as Pro
 use Rattle.jwalk.specs.jwalk_core.declared.readers.Readers as Readers
 use Rattle.jwalk.specs.jwalk_job.declared.dir_entry.DirEntry.{DirEntry}
 use Rattle.jwalk.specs.jwalk_job.declared.error.Error.{Error}
-use Rattle.jwalk.specs.jwalk_core.declared.dir_entry_iter.DirEntryIter.{DirEntryIter}
 use Rattle.jwalk.specs.declared.walk_dir.WalkDirGeneric.{WalkDirGeneric}
 use Rattle.jwalk.specs.jwalk_model.Options.{Parallelism, with_parallelism}
 use Rattle.jwalk.specs.jwalk_job.Given.{Given}
 use Rattle.jwalk.specs.jwalk_job.Job.{IsSteady}
 use Rattle.jwalk.specs.WalkDir.{file_system_of, callback_of, root_of, state_of, options_of, Starts, Holds}
-use Rattle.jwalk.specs.DirEntryIter.{by_crew, Answers}
+use Rattle.jwalk.specs.DirEntryIter.{DirEntryIter, by_crew, Answers}
 use Rattle.jwalk.proofs.SameFacts.{same_answer}
 use Rattle.jwalk.proofs.WholeFacts.{steady_start}
 use Rattle.jwalk.proofs.AlikeFacts.{same_start}

@@ -22,11 +22,10 @@ use Rattle.jwalk_job.specs.Job as job
 use Rattle.jwalk_job.specs.Job.{file_system, callback, job_by, IsSteady}
 use Rattle.tree_crew.specs.declared.crew.NotStarted.{NotStarted}
 use Rattle.tree_crew.specs.declared.crew.NotStarted.TheVariants.{Busy, Memory}
-use Rattle.jwalk_core.specs.DirEntryIter.{by_crew, held_by}
+use Rattle.jwalk_core.specs.DirEntryIter.{DirEntryIter, by_crew, held_by}
 use Rattle.jwalk_core.specs.CrewReads.{start_failure}
 use Rattle.jwalk.specs.CrewStart.{HoldsList, IsFromRoot}
 use Rattle.jwalk.specs.WalkDir.{file_system_of, callback_of, root_of, state_of, options_of, job_for, Starts, HoldsOne, HoldsBusy, HoldsUnless, Begins}
-use Rattle.jwalk_core.specs.declared.dir_entry_iter.DirEntryIter.{DirEntryIter}
 use Rattle.jwalk.specs.declared.walk_dir.WalkDirGeneric.{WalkDirGeneric}
 
 -- what is held for a view is held for the value that is viewed

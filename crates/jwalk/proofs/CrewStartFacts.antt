@@ -25,17 +25,20 @@ use Rattle.tree_crew.specs.declared.crew.NotStarted.{NotStarted}
 use Rattle.tree_crew.specs.declared.crew.NotStarted.TheVariants.{Busy, Memory}
 use Rattle.jwalk_core.specs.BatchReads.{BatchReads}
 use Rattle.jwalk_core.specs.ReadAhead.{BeginsWith}
-use Rattle.jwalk_core.specs.DirEntryIter.{reads_of, is_refused, by_crew, width_of, frontier_of, read_ahead, job_of, items_of, unread_of, held, held_by, IsWithin, IsSourced, IsRefused, ArePlaced}
+use Rattle.jwalk_core.specs.DirEntryIter.{DirEntryIter, reads_of, is_refused, by_crew, width_of, frontier_of, read_ahead, job_of, items_of, unread_of, held, held_by, IsWithin, IsSourced, IsRefused}
+use Rattle.jwalk_core.specs.Sources.{Base, source_by}
+use Rattle.jwalk_core.specs.SourceFacts.{is_source_by}
+use Rattle.jwalk_core.specs.Entries.{ArePlaced}
 use Rattle.jwalk.specs.CrewStart.{busied, busy_pair, left_of, IsToRead, IsBegun, HoldsList, IsFromRoot}
 use Rattle.jwalk_core.specs.CrewReads as reads_by
 use Rattle.jwalk_core.specs.declared.crew_reads.CrewReads.{CrewReads}
 use Rattle.jwalk_core.specs.ReadDirIter as readings
 use Rattle.jwalk_core.specs.declared.read_dir_iter.ReadDirIter.{ReadDirIter}
 use Rattle.jwalk_core.specs.declared.read_dir_iter.ReadDirIter.TheVariants.{Walk, CrewWalk}
-use Rattle.jwalk_core.specs.declared.dir_entry_iter.DirEntryIter.{DirEntryIter}
 use Rattle.jwalk_core.proofs.CrewSteadyFacts.{starts_steady}
 use Rattle.jwalk_core.proofs.PlacedFacts.{list_placed, unread_placed}
-use Rattle.jwalk_core.proofs.AnswerFacts.{held_refused, rest_sourced, list_sourced, holds_list, within_root}
+use Rattle.jwalk_core.proofs.AnswerFacts.{with_sourced}
+use Rattle.jwalk_core.proofs.StartFacts.{holds_refusal, refusal_sourced, list_sourced, holds_list, within_root}
 
 module _ {R E : Type 0} where
   -- errors have no depth
@@ -94,14 +97,6 @@ module _ {C S P A L R E : Type 0} where
   holds_started : (it : DirEntryIter C S P A L R E) → is_refused it ≡ false → held it ≡ pair_up (items_of it) (unread_of it)
   holds_started it started = rw started refl
 
-  holds_refusal : (it : DirEntryIter C S P A L R E) → is_refused it ≡ true → items_of it ≡ [] → held it ≡ record { item = Err memory; source = nothing } ∷ []
-  holds_refusal it refused none = held_refused it refused ∙ ap (λ l. record { item = Err memory; source = nothing } ∷ pair_up l (unread_of it)) none
-
-  refusal_sourced : (it : DirEntryIter C S P A L R E) → is_refused it ≡ true → items_of it ≡ [] → unread_of it ≡ [] → IsSourced it
-  refusal_sourced it refused none nothing_unread =
-      let alone = holds_refusal it refused none in
-      record { each = rw alone (refl, tt); unread = nothing_unread ∙ sym (ap sources alone) }
-
   module _ (clone : Clone.Ghosts R) where
     -- what it holds is at the root's depth
     pub begun_depth : (read : Option (Reading R E)) (why_not : Option NotStarted) (it : DirEntryIter C S P A L R E) → IfSome read (λ r. AtDepth 0 r.list) → IsBegun clone read why_not it → AtDepth 0 (items_of it)
@@ -112,7 +107,7 @@ module _ {C S P A L R E : Type 0} where
     pub begun_sourced : (read : Option (Reading R E)) (why_not : Option NotStarted) (it : DirEntryIter C S P A L R E) → IsBegun clone read why_not it → IsSourced it
     begun_sourced None why_not it begun = refusal_sourced it begun.1 begun.2 begun.3
     begun_sourced (Some r) None it begun = list_sourced clone r it begun.0 begun.1 begun.2
-    begun_sourced (Some r) (Some Busy) it begun = rest_sourced it begun.0 (ap length begun.2 ∙ sym (none_below r.list) ∙ ap directories (sym begun.1))
+    begun_sourced (Some r) (Some Busy) it begun = with_sourced (unread_of it) it begun.0 (ap length begun.2 ∙ sym (none_below r.list) ∙ ap directories (sym begun.1))
     begun_sourced (Some r) (Some Memory) it begun = refusal_sourced it begun.0 begun.1 begun.2
 
     -- where memory ran out, it holds only the error that says so
@@ -223,9 +218,9 @@ pub held_of : {C S P A L R E : Type 0} (given : Given R E) (read : Option (ReadD
 held_of given read it h = some_and_map reading (λ r. held_by given it ≡ paired (counted_reading given r)) read h
 
 -- what is left of a root's list is paired with the directories that are to be read
-pub left_placed : {R E : Type 0} (clone : Clone.Ghosts R) (r : Reading R E) (why_not : Option NotStarted) (b : Bool) (items : List (Item R E)) (specs : List (Spec R)) → items ≡ left_of why_not r.list → IsToRead clone r why_not specs → ArePlaced b items specs
-left_placed clone r None b items specs are clones = list_placed clone.is_clone r.state b r.list items specs are clones
-left_placed clone r (Some reason) b items specs are none = unread_placed b items specs none
+pub left_placed : {C S P A R E : Type 0} (files : FileSystem.Ghosts S) (process : ProcessReadDir.Ghosts P C A R E) (clone : Clone.Ghosts R) (defaults : Default.Ghosts E) (base : Base C S P A R E) (r : Reading R E) (why_not : Option NotStarted) (items : List (Item R E)) (specs : List (Spec R)) → items ≡ left_of why_not r.list → IsToRead clone r why_not specs → ArePlaced (source_by files process clone defaults base) items specs
+left_placed files process clone defaults base r None items specs are clones = list_placed (source_by files process clone defaults base) (is_source_by files process clone defaults base) r.state r.list items specs are clones
+left_placed files process clone defaults base r (Some reason) items specs are none = unread_placed (source_by files process clone defaults base) (is_source_by files process clone defaults base) items specs none
 
 module _ {T C S P A L R E : Type 0} (old new : CrewReads C S P A L R E) where
   -- the directories of a root's list are to be read once the readings began, and none where they didn't

@@ -27,12 +27,13 @@ use Rattle.jwalk_job.specs.Entry.{item}
 use Rattle.jwalk_job.specs.Given.{Given, counted_item, counted_spec, counted_list}
 use Rattle.jwalk_job.specs.Job.{options_of, greatest_depth, job_by, IsSteady}
 use Rattle.jwalk_core.specs.declared.readers.Readers as Readers
-use Rattle.jwalk_core.specs.declared.dir_entry_iter.DirEntryIter.{DirEntryIter}
 use Rattle.jwalk.specs.declared.walk_dir.WalkDirGeneric.{WalkDirGeneric}
-use Rattle.jwalk_core.specs.DirEntryIter.{by_crew, is_refused, job_of, min_depth_of, items_of, unread_of, held, held_by, refusal, to_come, TellsMemory, NoneRefused, IsRefused, StartsSteady, IsSteadyWalk, Answers, Fills}
+use Rattle.jwalk_core.specs.DirEntryIter.{DirEntryIter, by_crew, is_refused, job_of, min_depth_of, items_of, unread_of, held, held_by, refusal, to_come, TellsMemory, NoneRefused, IsRefused, StartsSteady, IsSteadyWalk, Answers, Fills}
 use Rattle.jwalk.specs.WalkDir as builder
 use Rattle.jwalk.specs.WalkDir.{file_system_of, callback_of, root_of, state_of, job_for, Starts, Holds}
-use Rattle.jwalk_core.proofs.AnswerFacts.{held_by_nothing, alone_steady}
+use Rattle.jwalk_core.specs.ReadingsBy.{readings_by}
+use Rattle.jwalk_core.proofs.AnswerFacts.{held_by_nothing}
+use Rattle.jwalk_core.proofs.StartFacts.{alone_steady}
 use Rattle.jwalk_core.proofs.FillFacts.{stays_steady, come}
 
 module _ {C A R E : Type 0} where
@@ -94,8 +95,8 @@ module _ {C S P A L R E : Type 0} (files : FileSystem.Ghosts S) (process : Proce
       let last = drains.1.0 in
       let calls = drains.1.1 in
       let ended = drains.1.2 in
-      let nothing_left : to_come files given last ≡ [] = ended.coming given (stays_steady files process clone defaults readers given xs it last calls steady) in
-      elim (come files process clone defaults readers given xs it last steady calls) [
+      let nothing_left : to_come files given last ≡ [] = ended.coming given (stays_steady (readings_by files process clone defaults readers) given xs it last calls steady) in
+      elim (come (readings_by files process clone defaults readers) given xs it last steady calls) [
         | inl comes ↦ comes ∙ ap (λ l. counted_list given xs ++ l) nothing_left ∙ append-nil (counted_list given xs)
         | inr ends ↦ absurd (end_told xs ends.before ends.told none)
       ]
@@ -106,7 +107,7 @@ module _ {C S P A L R E : Type 0} (files : FileSystem.Ghosts S) (process : Proce
   all_filled n k before after it new steady fills fewer none =
       let ended : held new ≡ [] = elim fills.all [ inl all ↦ absurd (omega (arith, all, fewer)) | inr over ↦ over ] in
       let coming : List (Pair Worth Worth) → List (Item Worth Worth) = held_value.to_come (reading (job_by files given (job_of new))) (min_depth_of new) (greatest_depth (job_of new)) in
-      let nothing_left : to_come files given new ≡ [] = ap coming (held_by_nothing given new ended) in
+      let nothing_left : to_come files given new ≡ [] = ap coming (held_by_nothing given (unread_of new) new ended) in
       let came : to_come files given it ≡ counted_list given fills.answered = elim (fills.coming given steady) [
         | inl comes ↦ comes ∙ ap (λ l. counted_list given fills.answered ++ l) nothing_left ∙ append-nil (counted_list given fills.answered)
         | inr ends ↦ absurd (end_told fills.answered ends.before ends.told (last_tell before fills.answered (subst NoneRefused fills.appended none)))

@@ -28,9 +28,8 @@ use Rattle.jwalk_core.specs.declared.readers.Readers as Readers
 use Rattle.tree_crew.specs.declared.crew.NotStarted.{NotStarted}
 use Rattle.tree_crew.specs.declared.crew.NotStarted.TheVariants.{Busy, Memory}
 use Rattle.jwalk.specs.CrewStart.{busy_pair}
-use Rattle.jwalk_core.specs.DirEntryIter.{by_crew, job_of, items_of, held, held_by, IsWithin, IsSourced, IsRefused}
+use Rattle.jwalk_core.specs.DirEntryIter.{DirEntryIter, by_crew, job_of, items_of, held, held_by, IsWithin, IsSourced, IsRefused}
 use Rattle.jwalk.specs.declared.walk_dir.WalkDirGeneric.{WalkDirGeneric}
-use Rattle.jwalk_core.specs.declared.dir_entry_iter.DirEntryIter.{DirEntryIter}
 
 -- the item is the error that reports a busy crew
 abbrev pub ReportsBusy : {R E : Type 0} → Item R E → Type 0

@@ -5,7 +5,6 @@ use Rattle.std.specs.declared.default.Default as Default
 use Rattle.jwalk.specs.jwalk_fs.declared.file_system.FileSystem as FileSystem
 use Rattle.jwalk.specs.jwalk_job.declared.process_read_dir.ProcessReadDir as ProcessReadDir
 use Rattle.jwalk.specs.jwalk_core.declared.readers.Readers as Readers
-use Rattle.jwalk.specs.jwalk_core.declared.dir_entry_iter.DirEntryIter.{DirEntryIter}
 use Rattle.jwalk.specs.declared.walk_dir.WalkDirGeneric.{WalkDirGeneric}
 use Rattle.jwalk.specs.jwalk_model.FileSystem.{Functions}
 use Rattle.jwalk.specs.jwalk_model.Options.{with_keep_metadata}
@@ -19,7 +18,7 @@ use Rattle.jwalk.specs.jwalk_job.Job.{IsSteady}
 use Rattle.jwalk.specs.jwalk_callbacks.declared.size.Size.{Size}
 use Rattle.jwalk.specs.jwalk_callbacks.WithSizes.{sizes, sizing}
 use Rattle.jwalk.specs.WalkDir.{file_system_of, callback_of, root_of, state_of, options_of, job_for, Starts, Holds}
-use Rattle.jwalk.specs.DirEntryIter.{by_crew, to_come, IsRefused, IsSteadyWalk, Answers}
+use Rattle.jwalk.specs.DirEntryIter.{DirEntryIter, by_crew, to_come, IsRefused, IsSteadyWalk, Answers}
 use Rattle.jwalk.proofs.WholeFacts.{all_answered, whole, steady_start}
 use Rattle.jwalk_usage.specs.declared.report.Usage.{Usage}
 use Rattle.jwalk_usage.specs.Totals.{totals}

@@ -13,7 +13,7 @@ use Rattle.jwalk_job.specs.declared.error.Error.{Error}
 use Rattle.jwalk.specs.WalkDir.{callback_of, file_system_of, options_of, root_of, state_of, stateless, Starts}
 use Rattle.jwalk.specs.declared.crew.Crew.{Crew}
 use Rattle.jwalk.specs.declared.crew.Session.{Session}
-use Rattle.jwalk.specs.declared.dir_entry_iter.DirEntryIter.{DirEntryIter}
+use Rattle.jwalk.specs.DirEntryIter.{DirEntryIter}
 use Rattle.jwalk.specs.declared.walk_dir.WalkDirGeneric.{WalkDirGeneric}
 use Rattle.jwalk_ignore.specs.Callback.Given.{no_rules_yet, rules_alone}
 use Rattle.jwalk_ignore.specs.Callback.IgnoreViews.{next_of, settings_of, texts_of}

@@ -6,9 +6,8 @@ use Rattle.jwalk_job.specs.declared.dir_entry.DirEntry.{DirEntry}
 use Rattle.jwalk_job.specs.declared.error.Error.{Error}
 use Rattle.jwalk.specs.declared.crew.Crew.{Crew}
 use Rattle.jwalk.specs.declared.crew.Session.{Session}
-use Rattle.jwalk.specs.declared.dir_entry_iter.DirEntryIter.{DirEntryIter}
 use Rattle.jwalk.specs.declared.walk_dir.WalkDirGeneric.{WalkDirGeneric}
-use Rattle.jwalk.specs.DirEntryIter.{held}
+use Rattle.jwalk.specs.DirEntryIter.{DirEntryIter, held}
 use Rattle.jwalk.specs.WalkDir.{file_system_of, root_of, options_of, Starts}
 use Rattle.jwalk_model.specs.FileSystem.{Functions}
 use Rattle.jwalk_model.specs.Counted.{Worth}

@@ -1,4 +1,4 @@
-use Rattle.std.proofs.Common.{◌∙◌, arith}
+use Rattle.std.proofs.Common.{◌∙◌, ap, arith}
 use Rattle.example_proofs.proofs.ahead.ahead_after.Goals as goal
 
 pub loop-init : goal.loop-init
@@ -8,7 +8,7 @@ pub loop-preserved : goal.loop-preserved
 loop-preserved g c =
     let before = c.loop.invariant in
     let call = c.next.ensures.steps in
-    record { lawful = rw call.job before.lawful; crew = call.crew ∙ before.crew; most = omega (arith, call.most, before.most) }
+    record { lawful = rw (ap (λ b. b.job) call.base) before.lawful; crew = ap (λ b. b.by_crew) call.base ∙ before.crew; most = omega (arith, call.most, before.most) }
 
 pub returns : goal.returns
 returns g c = omega (arith, c.ahead.ensures.crew c.loop.invariant.crew, c.loop.invariant.most)

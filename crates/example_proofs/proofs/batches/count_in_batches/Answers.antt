@@ -10,10 +10,10 @@ loop-found-preserved g c =
     let here = c.len.ensures ∙ c.fill.new.out.ok.0 ∙ ap length fills.appended ∙ ap (λ l. length (l ++ fills.answered)) before.3 in
     let both = length-append before.0 fills.answered in (
       before.0 ++ fills.answered,
-      filled_on _ _ _ _ _ 100 c.in_ok-fill.field-0 c.args.walk c.loop-found.walk c.fill.new.self before.0 fills.answered before.1 fills.calls c.if-branch-eq100.true,
+      filled_on _ 100 c.in_ok-fill.field-0 c.args.walk c.loop-found.walk c.fill.new.self before.0 fills.answered before.1 fills.calls c.if-branch-eq100.true,
       omega (arith, before.2, here, both, c.saturating_add-count.ensures),
       c.clear.ensures.items,
-      fills.job ∙ before.4,
+      ap (λ b. b.job) fills.base ∙ before.4,
     )
 
 pub returns : goal.returns
@@ -23,6 +23,6 @@ returns g c =
     let here = c.len-2.ensures ∙ c.fill.new.out.ok.0 ∙ ap length fills.appended ∙ ap (λ l. length (l ++ fills.answered)) before.3 in
     let both = length-append before.0 fills.answered in (
       before.0 ++ fills.answered,
-      filled_to_end _ _ _ _ _ 100 c.in_ok-fill.field-0 c.args.walk c.loop-found.walk c.fill.new.self before.0 fills.answered before.1 fills.calls c.if-branch-eq100.false,
+      filled_to_end _ 100 c.in_ok-fill.field-0 c.args.walk c.loop-found.walk c.fill.new.self before.0 fills.answered before.1 fills.calls c.if-branch-eq100.false,
       omega (arith, before.2, here, both, c.saturating_add.ensures),
     )

@@ -3,7 +3,7 @@ use Rattle.jwalk_job.specs.ReadDir.{reading}
 use Rattle.tree_crew.specs.declared.crew.NotStarted.TheVariants.{Memory}
 use Rattle.jwalk.proofs.CrewStartFacts.{reads_alone, alone_from_root, held_count, held_of, list_of}
 use Rattle.jwalk_core.specs.DirEntryIter.{reads_of}
-use Rattle.jwalk_core.proofs.AnswerFacts.{alone_steady}
+use Rattle.jwalk_core.proofs.StartFacts.{alone_steady}
 use Rattle.jwalk.proofs.walk_dir.crew_start.from_root_alone.Goals as goal
 
 pub returns-then-is_refused-clause-from_root : goal.returns-then-is_refused-clause-from_root

@@ -25,6 +25,6 @@ returns g c =
       steady = λ given steady. record {
         reads = subst (readings.StartsSteady g.S.FileSystem g.P.ProcessReadDir g.C.ReadDirState.Clone g.C.DirEntryState.Default _) (sym is.reads)
             (left_steady old new g.S.FileSystem g.P.ProcessReadDir g.C.ReadDirState.Clone g.C.DirEntryState.Default _ c.start_reads.result started.begins started.unchanged c.requires.steady) given steady;
-        placed = left_placed g.C.ReadDirState.Clone read c.err-why_not.result _ _ _ is.items left;
+        placed = left_placed g.S.FileSystem g.P.ProcessReadDir g.C.ReadDirState.Clone g.C.DirEntryState.Default _ read c.err-why_not.result _ _ is.items left;
       };
     }
