@@ -26,7 +26,6 @@ module _ {C S P A L R E : Type 0} (files : FileSystem.Ghosts S) (process : Proce
   pub readies : (old new : ReadDirIter C S P A L R E) → readings.ReadsForNext files process clone defaults readers old new → (after : ReadAhead R) → (source_by files process clone defaults (base_of old)).enters (readings.next_address old) (readings.read_ahead new) after → (source_by files process clone defaults (base_of old)).enters (readings.next_address old) (readings.read_ahead old) after
   readies old new r after = ready_by files process clone defaults (by_crew old) (job_of old) (width_of old) (readings.next_address old) (readings.read_ahead old) (readings.read_ahead new) after r.own r.ready
 
-
 -- and these fail only there
 pub fails_at : {F At : Type 0} {P : Type 0} (result : Result (Unit {0}) F) → (P → At) → OnErr result P → OnErr result At
 fails_at (Ok done) at some = tt

@@ -147,4 +147,3 @@ module _ {R E : Type 0} (copies : R → R → Type 0) (known : Item R E → Spec
         left_to_come reading given cloned as_given before
         ∙ ap (answers options.min_depth) (next_listed reading given cloned as_given next)
         ∙ rw (counted-is_answered given.read_dir_state given.dir_entry_state options.min_depth passed, out) refl
-

@@ -27,7 +27,6 @@ use Rattle.jwalk_core.specs.ReadingsBy.{readings_by}
 use Rattle.jwalk_core.specs.declared.entries.Entries.{Entries}
 use Rattle.jwalk_core.specs.Entries as entries
 use Rattle.jwalk_core.specs.Entries.{items_of, held_with, counted_with, AreAllSourced, StopsWith}
-
 pub use Rattle.jwalk_core.specs.Entries.{TellsMemory, Position, PassesPlainly, refusal, NoneRefused, reads_of, is_refused, items_of, none_passed, one_passed, one_entered}
 
 abbrev pub DirEntryIter : Type 0 → Type 0 → Type 0 → Type 0 → Type 0 → Type 0 → Type 0 → Type 0

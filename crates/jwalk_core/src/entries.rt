@@ -44,11 +44,7 @@ impl<C: ClientState, A: Allocator + Copy, B: Readings<C, A>> Entries<C, A, B> {
 
     /// Returns the walk over these readings that holds a root's list. If `refused`, memory ran out: the walk first
     /// yields the error that reports it.
-    pub fn with_list(
-        reads: B,
-        list: List<C, A>,
-        refused: bool,
-    ) -> Self
+    pub fn with_list(reads: B, list: List<C, A>, refused: bool) -> Self
         ensures reads { reads_of result ≡ reads }
         ensures items { items_of result ≡ map item list.items }
         ensures refused { is_refused result ≡ refused }
@@ -133,10 +129,7 @@ impl<C: ClientState, A: Allocator + Copy, B: Readings<C, A>> Entries<C, A, B> {
     }
 
     /// Returns what was passed on, unless the least depth leaves it out.
-    fn unless_too_shallow(
-        &self,
-        passed: Item<C, A>,
-    ) -> Option<Item<C, A>>
+    fn unless_too_shallow(&self, passed: Item<C, A>) -> Option<Item<C, A>>
         ensures some { IfSome result (λ answer. (answer
             ≡ passed) × (is_answered (min_depth_of B.Readings self.now) (item passed) ≡ true)) }
         ensures none { IfNone result (is_answered (min_depth_of B.Readings self.now) (item passed) ≡ false) }
@@ -163,10 +156,7 @@ impl<C: ClientState, A: Allocator + Copy, B: Readings<C, A>> Entries<C, A, B> {
     }
 
     /// Returns what came; or the error that reports why nothing did, and then nothing is left.
-    fn answer(
-        &mut self,
-        came: Result<Option<Item<C, A>>, Missed>,
-    ) -> Option<Item<C, A>>
+    fn answer(&mut self, came: Result<Option<Item<C, A>>, Missed>) -> Option<Item<C, A>>
         ensures { AnswersWhatCame B.Readings
             came self.old result self.new }
     {
@@ -202,11 +192,7 @@ impl<C: ClientState, A: Allocator + Copy, B: Readings<C, A>> Entries<C, A, B> {
     ///
     /// If memory runs out for the place. No answer is lost then: `out` has those that were appended, and another call
     /// appends the next ones. If the walk itself runs out of memory, the error is one of the answers.
-    pub fn fill(
-        &mut self,
-        n: usize,
-        out: &mut List<C, A>,
-    ) -> Result<usize, AllocError>
+    pub fn fill(&mut self, n: usize, out: &mut List<C, A>) -> Result<usize, AllocError>
         requires { B.can_read (B.base self.old.reads) }
         ensures { Fills B.Readings
             n self.old out.old.items result out.new.items self.new }

@@ -57,10 +57,7 @@ where
     }
 
     /// Passes the next item on, like `pass`.
-    fn pass_on<R: Threads + Sync>(
-        &mut self,
-        rt: &R,
-    ) -> Result<Option<Item<C, A>>, Missed>
+    fn pass_on<R: Threads + Sync>(&mut self, rt: &R) -> Result<Option<Item<C, A>>, Missed>
         requires { P.IsLawful (callback (job_of self.old)) }
         ensures { Passes ⟦<ReadDirIter<C, S, P, A, L> as Readings<C, A>>⟧
             self.old result self.new }
@@ -70,10 +67,7 @@ where
     }
 
     /// Returns the next item that is yielded, like `next_kept`.
-    fn next_kept_on<R: Threads + Sync>(
-        &mut self,
-        rt: &R,
-    ) -> Result<Option<Item<C, A>>, Missed>
+    fn next_kept_on<R: Threads + Sync>(&mut self, rt: &R) -> Result<Option<Item<C, A>>, Missed>
         requires { P.IsLawful (callback (job_of self.old)) }
         ensures { GoesOn ⟦<ReadDirIter<C, S, P, A, L> as Readings<C, A>>⟧
             self.old result self.new }

@@ -18,8 +18,13 @@ use jwalk_job::process_read_dir::ProcessReadDir;
 use jwalk_job::read_dir::Outcome;
 use std::alloc::Allocator;
 
-impl<C: ClientState, S: FileSystem, P: ProcessReadDir<C, A>, A: Allocator + Copy, L: Readers<C, S, P, A>> Readings<C, A>
-    for CrewReads<C, S, P, A, L> {
+impl<
+    C: ClientState,
+    S: FileSystem,
+    P: ProcessReadDir<C, A>,
+    A: Allocator + Copy,
+    L: Readers<C, S, P, A>,
+> Readings<C, A> for CrewReads<C, S, P, A, L> {
     ghost Base = { Base C S P A C.ReadDirState C.DirEntryState };
 
     ghost base = { λ w. record { by_crew = true; job = crew.job_of w; width = 1 } };

@@ -19,8 +19,13 @@ use jwalk_job::process_read_dir::ProcessReadDir;
 use jwalk_job::read_dir::Outcome;
 use std::alloc::Allocator;
 
-impl<C: ClientState, S: FileSystem, P: ProcessReadDir<C, A>, A: Allocator + Copy, L: Readers<C, S, P, A>> Readings<C, A>
-    for ReadDirIter<C, S, P, A, L> {
+impl<
+    C: ClientState,
+    S: FileSystem,
+    P: ProcessReadDir<C, A>,
+    A: Allocator + Copy,
+    L: Readers<C, S, P, A>,
+> Readings<C, A> for ReadDirIter<C, S, P, A, L> {
     ghost Base = { Base C S P A C.ReadDirState C.DirEntryState };
 
     ghost base = { base_of };
@@ -56,7 +61,9 @@ impl<C: ClientState, S: FileSystem, P: ProcessReadDir<C, A>, A: Allocator + Copy
 
     fn is_next(&self, found: &DirEntry<C, A>) -> bool {
         match self {
-            ReadDirIter::Walk(walk) => <BatchReads<C, S, P, A> as Readings<C, A>>::is_next(walk, found),
+            ReadDirIter::Walk(walk) => <BatchReads<C, S, P, A> as Readings<C, A>>::is_next(
+                walk, found,
+            ),
             ReadDirIter::CrewWalk(reads) => {
                 <CrewReads<C, S, P, A, L> as Readings<C, A>>::is_next(reads, found)
             }

@@ -16,4 +16,4 @@ returns-in-Err g c = λ start began goes.
     let came = rw c.in-Err.is at goes in
     let stopped = c.stop.ensures in
     answers_stopped g.B.Readings start c.stop.new.self began (stays_on g.B.Readings start c.args.self.now c.stop.new.self came.stays stopped.stays) c.error_of.result (subst (source_of g.B.Readings start).tells (sym c.error_of.ensures) came.tells)
-        (told_refused _ c.in-Err.missed _ c.error_of.ensures came.comes) stopped.items stopped.unread stopped.read_ahead came.stopped
+    (told_refused _ c.in-Err.missed _ c.error_of.ensures came.comes) stopped.items stopped.unread stopped.read_ahead came.stopped

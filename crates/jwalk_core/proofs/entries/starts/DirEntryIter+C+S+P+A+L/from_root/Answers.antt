@@ -88,7 +88,7 @@ pub returns-in-Err-clause-held : goal.returns-in-Err-clause-held
 returns-in-Err-clause-held g c = λ given counts started. absurd (let no : true ≡ false = sym (c.begin.ensures.refused ∙ c.refused-walk.ensures.refused) ∙ started in cc)
 
 pub returns-in-Err-clause-refused : goal.returns-in-Err-clause-refused
-returns-in-Err-clause-refused g c = λ refused. record { tells = holds_refusal _ refused (ap (λ l. map item (reverse l)) c.clear.ensures.items); nothing_unread = c.stop.ensures.to_read }
+returns-in-Err-clause-refused g c = λ refused. record { tells = holds_refusal (record c.begin.new.self { reads = c.stop.new.self; items = c.clear.new.self }) refused (ap (λ l. map item (reverse l)) c.clear.ensures.items); nothing_unread = c.stop.ensures.to_read }
 
 pub returns-in-Err-clause-sourced : goal.returns-in-Err-clause-sourced
-returns-in-Err-clause-sourced g c = refusal_sourced _ (c.begin.ensures.refused ∙ c.refused-walk.ensures.refused) (ap (λ l. map item (reverse l)) c.clear.ensures.items) c.stop.ensures.to_read
+returns-in-Err-clause-sourced g c = refusal_sourced (record c.begin.new.self { reads = c.stop.new.self; items = c.clear.new.self }) (c.begin.ensures.refused ∙ c.refused-walk.ensures.refused) (ap (λ l. map item (reverse l)) c.clear.ensures.items) c.stop.ensures.to_read
