@@ -58,7 +58,6 @@ impl<C: ClientState, A: Allocator + Copy, B: Readings<C, A>> Entries<C, A, B> {
         }
     }
 
-    /// Puts the items of a reading in front of those that were received before.
     fn receive(&mut self, read: ReadDir<C, A>) -> Result<(), AllocError>
         ensures reads { self.new.reads ≡ self.old.reads }
         ensures refused { self.new.refused ≡ self.old.refused }
@@ -73,7 +72,6 @@ impl<C: ClientState, A: Allocator + Copy, B: Readings<C, A>> Entries<C, A, B> {
         self.items.append(&mut items)
     }
 
-    /// Drops all that is still to come.
     fn stop(&mut self)
         ensures stays { Stays B.Readings self.old self.new }
         ensures items { items_of self.new ≡ [] }
@@ -84,7 +82,6 @@ impl<C: ClientState, A: Allocator + Copy, B: Readings<C, A>> Entries<C, A, B> {
         self.reads.stop();
     }
 
-    /// Returns the entry of a directory with the outcome of its reading, and receives the items of the reading.
     fn entered(
         &mut self,
         found: DirEntry<C, A>,
@@ -106,11 +103,9 @@ impl<C: ClientState, A: Allocator + Copy, B: Readings<C, A>> Entries<C, A, B> {
         }
     }
 
-    /// Passes the next item on.
     fn pass(&mut self) -> Result<Option<Item<C, A>>, Missed>
         requires { B.can_read (B.base self.old.reads) }
-        ensures { Passes B.Readings
-            self.old result self.new }
+        ensures { Passes B.Readings self.old result self.new }
     {
         match self.items.pop() {
             None => Ok(None),
@@ -128,7 +123,6 @@ impl<C: ClientState, A: Allocator + Copy, B: Readings<C, A>> Entries<C, A, B> {
         }
     }
 
-    /// Returns what was passed on, unless the least depth leaves it out.
     fn unless_too_shallow(&self, passed: Item<C, A>) -> Option<Item<C, A>>
         ensures some { IfSome result (λ answer. (answer
             ≡ passed) × (is_answered (min_depth_of B.Readings self.now) (item passed) ≡ true)) }
@@ -141,11 +135,9 @@ impl<C: ClientState, A: Allocator + Copy, B: Readings<C, A>> Entries<C, A, B> {
         }
     }
 
-    /// Returns the next item that is yielded.
     fn next_kept(&mut self) -> Result<Option<Item<C, A>>, Missed>
         requires { B.can_read (B.base self.old.reads) }
-        ensures { GoesOn B.Readings
-            self.old result self.new }
+        ensures { GoesOn B.Readings self.old result self.new }
     {
         while let Some(passed) = self.pass()? {
             if let Some(answer) = self.unless_too_shallow(passed) {
@@ -157,8 +149,7 @@ impl<C: ClientState, A: Allocator + Copy, B: Readings<C, A>> Entries<C, A, B> {
 
     /// Returns what came; or the error that reports why nothing did, and then nothing is left.
     fn answer(&mut self, came: Result<Option<Item<C, A>>, Missed>) -> Option<Item<C, A>>
-        ensures { AnswersWhatCame B.Readings
-            came self.old result self.new }
+        ensures { AnswersWhatCame B.Readings came self.old result self.new }
     {
         match came {
             Ok(answer) => answer,
@@ -172,8 +163,7 @@ impl<C: ClientState, A: Allocator + Copy, B: Readings<C, A>> Entries<C, A, B> {
     /// Returns the next answer; or the error that reports why it won't come, and then nothing is left.
     fn next_answer(&mut self) -> Option<Item<C, A>>
         requires { B.can_read (B.base self.old.reads) }
-        ensures { Answers B.Readings
-            self.old result self.new }
+        ensures { Answers B.Readings self.old result self.new }
     {
         if self.refused {
             self.refused = false;
@@ -194,8 +184,7 @@ impl<C: ClientState, A: Allocator + Copy, B: Readings<C, A>> Entries<C, A, B> {
     /// appends the next ones. If the walk itself runs out of memory, the error is one of the answers.
     pub fn fill(&mut self, n: usize, out: &mut List<C, A>) -> Result<usize, AllocError>
         requires { B.can_read (B.base self.old.reads) }
-        ensures { Fills B.Readings
-            n self.old out.old.items result out.new.items self.new }
+        ensures { Fills B.Readings n self.old out.old.items result out.new.items self.new }
     {
         let mut filled = 0;
         while filled < n {

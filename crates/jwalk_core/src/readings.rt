@@ -49,7 +49,7 @@ pub trait Readings<C: ClientState, A: Allocator + Copy>: Drop {
     /// At most how many readings others have made and not handed on.
     ghost most: { Self → ℕ };
 
-    /// So many readings may be made and not handed on.
+    /// It may be that this many readings were made and not handed on.
     ghost ready: { Self → ℕ → Type 0 };
 
     /// They are steady over what is given.

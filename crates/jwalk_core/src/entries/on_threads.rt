@@ -30,7 +30,6 @@ where
     ghost use Rattle.jwalk_core.specs.Entries.{items_of, Prepares, Passes, GoesOn, Answers, Fills};
     ghost use Rattle.jwalk_core.specs.Step.{IsAtDirectory};
 
-    /// Returns whether the next item is a directory's entry, which is to be read if any is left.
     fn is_at_directory(&self) -> bool
         ensures yes { result ≡ true → unread_of self.now ≢ []
             → IsAtDirectory (items_of self.now) (unread_of self.now) }
@@ -56,7 +55,6 @@ where
         self.reads.prepare_on(rt)
     }
 
-    /// Passes the next item on, like `pass`.
     fn pass_on<R: Threads + Sync>(&mut self, rt: &R) -> Result<Option<Item<C, A>>, Missed>
         requires { P.IsLawful (callback (job_of self.old)) }
         ensures { Passes ⟦<ReadDirIter<C, S, P, A, L> as Readings<C, A>>⟧
@@ -66,7 +64,6 @@ where
         self.pass()
     }
 
-    /// Returns the next item that is yielded, like `next_kept`.
     fn next_kept_on<R: Threads + Sync>(&mut self, rt: &R) -> Result<Option<Item<C, A>>, Missed>
         requires { P.IsLawful (callback (job_of self.old)) }
         ensures { GoesOn ⟦<ReadDirIter<C, S, P, A, L> as Readings<C, A>>⟧
