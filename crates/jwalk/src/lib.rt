@@ -21,7 +21,7 @@ pub use host::Host;
 pub use jwalk_board::board;
 pub use jwalk_core::dir_entry_iter::DirEntryIter;
 pub use jwalk_core::parallelism::Parallelism;
-pub use jwalk_core::{dir_entry_iter, read_dir_iter};
+pub use jwalk_core::{dir_entry_iter, entries, read_dir_iter, readings};
 pub use jwalk_fs::path_text;
 pub use jwalk_job::client_state::ClientState;
 pub use jwalk_job::dir_entry::{DirEntry, ReadChildren};
