@@ -226,6 +226,7 @@ WORDS = [
     ["--newer", "1h"], ["--change-newer-than", "1h"], ["--change-older-than", "1h"],
     *[[f"--owner={owner}"] for owner in [f"{os.getuid()}", f"!{os.getuid()}", f":{os.getgid()}", f"{os.getuid()}:!{os.getgid()}"]],
     *[[word] for word in ["-H", "-I", "-u", "-HI", "-L", "-a", "-0", "--no-ignore-vcs", "--no-ignore-parent", "--one-file-system"]],
+    ["--ignore-file=.given"], ["-H", "--ignore-file=.given"], ["--ignore-file=.given", "foo", "one"], ["--ignore-file=.given", "--ignore-file=.kept"],
     ["-H", "--no-ignore-vcs"], ["-L", "-t", "l"], ["-L", "-t", "d"], ["-a", "foo"], ["--strip-cwd-prefix", "foo"],
     *[[word] for word in ["-d1", "-d2", "--max-depth=3", "--maxdepth=1", "--min-depth=2", "--exact-depth=2"]],
     *[["-E", line] for line in ["*.foo", "two", "*.{foo,rs}"]],
@@ -247,6 +248,8 @@ def grow(top):
         write(os.path.join(top, name), b"#" * size)
     write(os.path.join(top, ".fdignore"), b"ignored-by-fd\n")
     write(os.path.join(top, ".gitignore"), b"ignored-by-git\n")
+    write(os.path.join(top, ".given"), b"/one/two\n*.foo\n")
+    write(os.path.join(top, ".kept"), b"!a.foo\n")
     os.chmod(os.path.join(top, "one", "x"), 0o755)
     os.utime(os.path.join(top, "one", "old.foo"), (1_500_000_000, 1_500_000_000))
     os.mkfifo(os.path.join(top, "one", "pipe"))

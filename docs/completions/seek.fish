@@ -12,6 +12,8 @@ complete -c seek -s E -l exclude -x -d 'Leave out what this line of an ignore fi
 complete -c seek -s L -l follow -d 'Follow links'
 complete -c seek -l no-ignore-vcs -d 'Read no .gitignore and no .git/info/exclude'
 complete -c seek -l no-ignore-parent -d 'Read no ignore files above a root'
+complete -c seek -l ignore-file -r -d 'One more ignore file, which decides last'
+complete -c seek -l no-global-ignore-file -d 'Don'\''t read the user'\''s excludes, as git'\''s configuration names them'
 complete -c seek -l search-path -x -d 'One more root'
 complete -c seek -l one-file-system -l mount -l xdev -d 'Read no directory on another file system than the root'
 complete -c seek -l prune -d 'Don'\''t look for anything below a directory that is found'

@@ -7,7 +7,7 @@ use Rattle.jwalk.specs.jwalk_model.Options.{Options}
 use Rattle.jwalk.specs.jwalk_model.Walk.{whole_walk}
 use Rattle.jwalk_ignore.specs.Callback.Given.{job_ignoring}
 use Rattle.jwalk_ignore.specs.Rules.Texts.{Texts}
-use Rattle.jwalk_ignore.specs.declared.callback.settings.Settings.{Settings}
+use Rattle.jwalk_ignore.specs.Callback.Settings.{Settings}
 
 -- what is yielded by some settings, texts, file system, options, root and state is yielded by those that they equal
 pub yielded_by : (counted : Settings → Texts → List (Item Worth Worth)) {settings settings' : Settings} {texts texts' : Texts} {fs fs' : Functions} {options options' : Options} {root root' : List ℕ} {state state' : Worth}

@@ -13,7 +13,7 @@ use Rattle.jwalk_ignore.specs.Callback.Given.{ignoring-KeepsDepthsOf}
 use Rattle.jwalk_ignore.specs.Callback.IgnoreViews.{ignoring}
 use Rattle.jwalk_ignore.specs.Rules.Texts.{Texts}
 use Rattle.jwalk_ignore.specs.jwalk_ignore_rules.declared.rules.chain.Chain.{Chain}
-use Rattle.jwalk_ignore.specs.declared.callback.settings.Settings.{Settings}
+use Rattle.jwalk_ignore.specs.Callback.Settings.{Settings}
 
 -- an item is the manifest of a package: a file of this name
 abbrev pub is_manifest : {R E : Type 0} → Item R E → Bool

@@ -9,7 +9,7 @@ use Rattle.jwalk_ignore.specs.Callback.Given.{ignoring-KeepsDepthsOf, rules_alon
 use Rattle.jwalk_ignore.specs.Callback.IgnoreViews.{ignoring}
 use Rattle.jwalk_ignore.specs.Rules.Texts.{Texts}
 use Rattle.jwalk_ignore.specs.jwalk_ignore_rules.declared.rules.chain.Chain.{Chain}
-use Rattle.jwalk_ignore.specs.declared.callback.settings.Settings.{Settings}
+use Rattle.jwalk_ignore.specs.Callback.Settings.{Settings}
 
 -- what is given: states of directories count as the rules in force alone, states of entries as sizes, and of what the rules leave each file gets its size
 abbrev pub ignoring_sized : {A B : Type 0} → Settings → Texts → Functions → Given (Chain A × B) Size

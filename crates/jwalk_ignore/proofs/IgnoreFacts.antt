@@ -12,7 +12,7 @@ use Rattle.jwalk_ignore.specs.Callback.IgnoreFiles.{Made, by_rules}
 use Rattle.jwalk_ignore.specs.Callback.IgnoreViews.{CountsRules, Ignores, ignoring, with_processed}
 use Rattle.jwalk_ignore.specs.Rules.Texts.{Texts}
 use Rattle.jwalk_ignore_rules.specs.declared.rules.chain.Chain.{Chain}
-use Rattle.jwalk_ignore.specs.declared.callback.settings.Settings.{Settings}
+use Rattle.jwalk_ignore.specs.Callback.Settings.{Settings}
 use Rattle.jwalk_ignore.proofs.MadeFacts.{rules_by}
 use Rattle.jwalk_ignore_rules.proofs.WorthFacts.{chain_back}
 

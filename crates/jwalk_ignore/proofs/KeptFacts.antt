@@ -10,7 +10,7 @@ use Rattle.jwalk_ignore.specs.Callback.Excluding.{Excluded, Excludes, excluding,
 use Rattle.jwalk_ignore.specs.Callback.IgnoreViews.{ignoring, Ignores}
 use Rattle.jwalk_ignore.specs.Callback.Kept.{given_kept, ignoring_walk, job_with}
 use Rattle.jwalk_ignore.specs.Rules.Texts.{Texts}
-use Rattle.jwalk_ignore.specs.declared.callback.settings.Settings.{Settings}
+use Rattle.jwalk_ignore.specs.Callback.Settings.{Settings}
 
 -- the callback of ignore files with lines behind it makes of lists what is given
 pub ignores_kept : (A B E : Type 0) {fixed : Type 0} {texts texts' : Texts} {settings settings' : Settings} {excluded excluded' : Excluded}

@@ -15,7 +15,7 @@ use Rattle.jwalk_ignore.specs.Rules.Git.{is_repository}
 use Rattle.jwalk_ignore.specs.Pattern.{Pattern}
 use Rattle.jwalk_ignore.specs.Rules.Texts.{Texts}
 use Rattle.jwalk_ignore_rules.specs.declared.rules.rules_kind.RulesKind.{RulesKind}
-use Rattle.jwalk_ignore.specs.declared.callback.settings.Settings.{Settings}
+use Rattle.jwalk_ignore.specs.Callback.Settings.{Settings}
 use Rattle.jwalk_ignore.proofs.ListFacts.{filter_by, fold_by}
 
 module _ {R E V W : Type 0} (view : R → V) (mark : E → W) where
@@ -62,9 +62,9 @@ module _ {R E V W : Type 0} (view : R → V) (mark : E → W) where
   shown_by settings (Ok e) = refl
   shown_by settings (Err f) = refl
 
-  kept_by : (chain : Chain) (place : List ℕ) (x : Item R E) → is_kept chain place (item_by view mark x) ≡ is_kept chain place x
-  kept_by chain place (Ok e) = refl
-  kept_by chain place (Err f) = refl
+  kept_by : (given : List Pattern) (directory : List ℕ) (chain : Chain) (place : List ℕ) (x : Item R E) → is_kept given directory chain place (item_by view mark x) ≡ is_kept given directory chain place x
+  kept_by given directory chain place (Ok e) = refl
+  kept_by given directory chain place (Err f) = refl
 
   root_of_some : (o : Option (Children R)) → option_map (λ c. c.path) (option_map (children_by view) o) ≡ option_map (λ c. c.path) o
   root_of_some None = refl
@@ -107,17 +107,17 @@ module _ {R E V W : Type 0} (view : R → V) (mark : E → W) where
       made_by (item_by view mark) (by_listed texts reads directory before) (record { chain = inside is; list = [] }) list
 
   left_by : (settings : Settings) (directory : List ℕ) (own : Made R E)
-      → filter (is_kept own.chain (place_in own.chain directory)) (filter (is_shown settings) (map (item_by view mark) own.list))
-      ≡ map (item_by view mark) (filter (is_kept own.chain (place_in own.chain directory)) (filter (is_shown settings) own.list))
+      → filter (is_kept settings.given directory own.chain (place_in own.chain directory)) (filter (is_shown settings) (map (item_by view mark) own.list))
+      ≡ map (item_by view mark) (filter (is_kept settings.given directory own.chain (place_in own.chain directory)) (filter (is_shown settings) own.list))
   left_by settings directory own =
-      ap (filter (is_kept own.chain (place_in own.chain directory))) (filter_by (item_by view mark) (is_shown settings) (is_shown settings) (shown_by settings) own.list)
-      ∙ filter_by (item_by view mark) (is_kept own.chain (place_in own.chain directory)) (is_kept own.chain (place_in own.chain directory)) (kept_by own.chain (place_in own.chain directory)) (filter (is_shown settings) own.list)
+      ap (filter (is_kept settings.given directory own.chain (place_in own.chain directory))) (filter_by (item_by view mark) (is_shown settings) (is_shown settings) (shown_by settings) own.list)
+      ∙ filter_by (item_by view mark) (is_kept settings.given directory own.chain (place_in own.chain directory)) (is_kept settings.given directory own.chain (place_in own.chain directory)) (kept_by settings.given directory own.chain (place_in own.chain directory)) (filter (is_shown settings) own.list)
 
   directory_by : (settings : Settings) (texts : Texts) (directory : List ℕ) (chain : Chain) (list : List (Item R E))
       → in_directory settings texts directory chain (map (item_by view mark) list) ≡ made_by (in_directory settings texts directory chain list)
   directory_by settings texts directory chain list =
       let own : Made R E = own_rules settings texts directory chain list in
-      ap (λ (made : Made V W). with_list made.chain (filter (is_kept made.chain (place_in made.chain directory)) (filter (is_shown settings) made.list))) (own_by settings texts directory chain list)
+      ap (λ (made : Made V W). with_list made.chain (filter (is_kept settings.given directory made.chain (place_in made.chain directory)) (filter (is_shown settings) made.list))) (own_by settings texts directory chain list)
       ∙ ap (with_list own.chain) (left_by settings directory own)
 
   module _ (settings : Settings) (texts : Texts) where

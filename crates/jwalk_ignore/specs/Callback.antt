@@ -1,7 +1,9 @@
 -- The callback that honours ignore files, as values.
+pub mod EntryRules
 pub mod Given
 pub mod IgnoreFiles
 pub mod IgnoreViews
+pub mod Settings
 mod SettingsRows
 pub mod MadeDepths
 pub mod Places

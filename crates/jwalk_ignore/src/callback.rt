@@ -2,6 +2,7 @@
 //! what lines of a call name.
 
 pub mod builder;
+mod entry_rules;
 pub mod excluding;
 pub mod ignore_files;
 pub mod kept_rules;

@@ -17,7 +17,7 @@ use Rattle.jwalk_ignore.specs.Callback.IgnoreFiles.{in_directory, own_rules}
 use Rattle.jwalk_ignore.specs.Rules.Chain.{Chain}
 use Rattle.jwalk_ignore.specs.Rules.ChainWorth.{rules_of, with_chain}
 use Rattle.jwalk_ignore.specs.Rules.Texts.{Texts}
-use Rattle.jwalk_ignore.specs.declared.callback.settings.Settings.{Settings}
+use Rattle.jwalk_ignore.specs.Callback.Settings.{Settings}
 use Rattle.jwalk_ignore_rules.proofs.WorthFacts.{chain_back}
 use Rattle.jwalk_ignore_laws.specs.Deeper.{children_deeper, entry_deeper, item_deeper}
 use Rattle.jwalk_ignore_laws.specs.Starts.{Agrees, below}

@@ -9,13 +9,14 @@ use Rattle.jwalk_model.specs.Error.{Failure, io, unnamed, looped, busy, memory, 
 use Rattle.jwalk_model.specs.FileType.{is_dir}
 use Rattle.jwalk_model.specs.Paths.{join}
 use Rattle.jwalk_model.specs.declared.file_type.FileType.{FileType}
-use Rattle.jwalk_ignore.specs.Callback.IgnoreFiles.{Made, Source, depth_of, file_of, git_by, git_in, if_read, in_directory, is_git, is_kept, is_read, is_shown, kind_of, own_rules, own_kind, path_of, rules_found, source_in, with_found, with_item, with_listed, with_own}
+use Rattle.jwalk_ignore.specs.Callback.IgnoreFiles.{Made, Source, depth_of, file_of, git_by, git_in, given_says, if_read, in_directory, is_git, is_kept, is_read, is_shown, kind_of, own_rules, own_kind, path_of, rules_found, source_in, with_found, with_item, with_listed, with_own}
 use Rattle.jwalk_ignore.specs.Pattern.{Pattern}
-use Rattle.jwalk_ignore.specs.Rules.Chain.{Chain, entered, ignored, is_ignored, may_miss, place_in}
+use Rattle.jwalk_ignore.specs.Rules.Chain.{Chain, chain_says, entered, is_ignored, may_miss, place_in}
 use Rattle.jwalk_ignore.specs.Rules.Folder.{folder_at}
 use Rattle.jwalk_ignore.specs.Rules.Git.{is_repository}
+use Rattle.jwalk_ignore.specs.Rules.Matching.{or_else}
 use Rattle.jwalk_ignore.specs.Rules.Texts.{Texts}
-use Rattle.jwalk_ignore.specs.declared.callback.settings.Settings.{Settings}
+use Rattle.jwalk_ignore.specs.Callback.Settings.{Settings}
 use Rattle.jwalk_ignore.specs.jwalk_ignore_rules.declared.rules.rules_kind.RulesKind.{RulesKind}
 use Rattle.jwalk_ignore.specs.jwalk_ignore_rules.declared.rules.rules_kind.RulesKind.TheVariants as rules
 use Rattle.jwalk_ignore.specs.jwalk_ignore_rules.declared.rules.decision.Decision.{Decision}
@@ -200,10 +201,11 @@ module _ (settings : Settings) (texts : Texts) (directory : List ℕ) where
       abbrev there : Chain
       there = put_folder settings texts (begun settings texts directory) (folder_at texts false directory)
 
-      kept_by : (chain : Chain) (own : Chain) → place_in own directory ≡ place_in chain directory → Alike (place_in chain directory) directory own there → (x : Item Worth Worth) → is_kept own (place_in own directory) x ≡ is_kept there directory x
+      kept_by : (chain : Chain) (own : Chain) → place_in own directory ≡ place_in chain directory → Alike (place_in chain directory) directory own there → (x : Item Worth Worth) → is_kept settings.given directory own (place_in own directory) x ≡ is_kept settings.given directory there directory x
       kept_by chain own place alike (Ok e) =
-          ap (λ (p : List ℕ). not (ignored own (p ++ 47 ∷ e.file_name) (is_dir e.file_type))) place
-          ∙ ap (λ (d : Decision). not (is_ignored d)) (says_alike (place_in chain directory) directory e.file_name (is_dir e.file_type) own there alike)
+          let given : Decision = given_says settings.given directory e.file_name (is_dir e.file_type) in
+          ap (λ (p : List ℕ). not (is_ignored (or_else (chain_says own (p ++ 47 ∷ e.file_name) (is_dir e.file_type)) given))) place
+          ∙ ap (λ (d : Decision). not (is_ignored (or_else d given))) (says_alike (place_in chain directory) directory e.file_name (is_dir e.file_type) own there alike)
       kept_by chain own place alike (Err f) = refl
 
       place_of : (chain : Chain) (l : List (Item Worth Worth)) → place_in (own_rules settings texts directory chain l).chain directory ≡ place_in chain directory
@@ -212,22 +214,22 @@ module _ (settings : Settings) (texts : Texts) (directory : List ℕ) where
           let front = own_front settings texts directory chain l in
           ap (λ (f : List ℕ). f ++ drop own.root_len directory) front.0 ∙ ap (λ (n : ℕ). chain.front ++ drop n directory) front.1
 
-      kept_same : (x : Item Worth Worth) → is_kept own_a (place_in own_a directory) (item_deeper levels x) ≡ is_kept own_b (place_in own_b directory) x
+      kept_same : (x : Item Worth Worth) → is_kept settings.given directory own_a (place_in own_a directory) (item_deeper levels x) ≡ is_kept settings.given directory own_b (place_in own_b directory) x
       kept_same x =
           kept_by a own_a (place_of a deeper) (own_alike settings texts from_above directory a deeper agrees_a alike_a.1) (item_deeper levels x)
           ∙ at_depth x
           ∙ sym (kept_by b own_b (place_of b list) (own_alike settings texts from_above directory b list agrees alike_b.1) x)
         where
-          at_depth : (y : Item Worth Worth) → is_kept there directory (item_deeper levels y) ≡ is_kept there directory y
+          at_depth : (y : Item Worth Worth) → is_kept settings.given directory there directory (item_deeper levels y) ≡ is_kept settings.given directory there directory y
           at_depth (Ok e) = refl
           at_depth (Err f) = refl
 
       -- what is left of a list by rules in force there, of which each says what a walk says that starts there
       pub left_same : (in_directory settings texts directory a deeper).list ≡ map (item_deeper levels) (in_directory settings texts directory b list).list
       left_same =
-          ap (λ (l : List (Item Worth Worth)). filter (is_kept own_a (place_in own_a directory)) (filter (is_shown settings) l)) own_lists
-          ∙ ap (filter (is_kept own_a (place_in own_a directory))) (filter_deeper levels (is_shown settings) (is_shown settings) (shown_deeper levels settings) (own_rules settings texts directory b list).list)
-          ∙ filter_deeper levels (is_kept own_a (place_in own_a directory)) (is_kept own_b (place_in own_b directory)) kept_same (filter (is_shown settings) (own_rules settings texts directory b list).list)
+          ap (λ (l : List (Item Worth Worth)). filter (is_kept settings.given directory own_a (place_in own_a directory)) (filter (is_shown settings) l)) own_lists
+          ∙ ap (filter (is_kept settings.given directory own_a (place_in own_a directory))) (filter_deeper levels (is_shown settings) (is_shown settings) (shown_deeper levels settings) (own_rules settings texts directory b list).list)
+          ∙ filter_deeper levels (is_kept settings.given directory own_a (place_in own_a directory)) (is_kept settings.given directory own_b (place_in own_b directory)) kept_same (filter (is_shown settings) (own_rules settings texts directory b list).list)
 
   -- ---- what is left is still as a walk makes it
 
@@ -252,4 +254,4 @@ module _ (settings : Settings) (texts : Texts) (directory : List ℕ) where
       let git : Option FileType = git_in texts directory list in
       let reads : RulesKind → Bool = is_read settings (entered (is_repository git) chain).in_repository git in
       let all : Each (IsPlain depth path) own.list = subst (Each (IsPlain depth path)) (sym (own_is chain list)) (each_flat (IsPlain depth path) (with_errors texts reads directory) (plain_errors reads depth path) list h) in
-      each_filter (IsPlain depth path) (is_kept own.chain (place_in own.chain directory)) (filter (is_shown settings) own.list) (each_filter (IsPlain depth path) (is_shown settings) own.list all)
+      each_filter (IsPlain depth path) (is_kept settings.given directory own.chain (place_in own.chain directory)) (filter (is_shown settings) own.list) (each_filter (IsPlain depth path) (is_shown settings) own.list all)

@@ -14,7 +14,7 @@ use Rattle.jwalk_ignore.specs.Rules.Git.{is_repository}
 use Rattle.jwalk_ignore_laws.specs.Starts.{FoldersAreAbove, RulesComeFromAbove, begun, in_folder, unplaced}
 use Rattle.jwalk_ignore.specs.Pattern.{Pattern}
 use Rattle.jwalk_ignore.specs.Rules.Chain.{Chain, Link, below_root, entered, no_rules, with_link}
-use Rattle.jwalk_ignore.specs.declared.callback.settings.Settings.{Settings}
+use Rattle.jwalk_ignore.specs.Callback.Settings.{Settings}
 use Rattle.jwalk_ignore.specs.jwalk_ignore_rules.declared.rules.rules_kind.RulesKind.{RulesKind}
 use Rattle.jwalk_ignore.specs.jwalk_ignore_rules.declared.rules.rules_kind.RulesKind.TheVariants as rules
 use Rattle.jwalk_ignore.specs.Rules.Texts.{Texts}

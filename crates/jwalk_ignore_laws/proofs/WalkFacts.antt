@@ -24,7 +24,7 @@ use Rattle.jwalk_ignore.specs.Rules.Chain.{Chain, below_root}
 use Rattle.jwalk_ignore.specs.Rules.ChainWorth.{rules_of, with_chain}
 use Rattle.jwalk_ignore.specs.Rules.Folder.{Folder, folders_above}
 use Rattle.jwalk_ignore.specs.Rules.Texts.{Texts}
-use Rattle.jwalk_ignore.specs.declared.callback.settings.Settings.{Settings}
+use Rattle.jwalk_ignore.specs.Callback.Settings.{Settings}
 use Rattle.jwalk_ignore.specs.jwalk_ignore_rules.declared.rules.rules_kind.RulesKind.{RulesKind}
 use Rattle.jwalk_ignore_rules.proofs.WorthFacts.{chain_back}
 use Rattle.jwalk_ignore_laws.specs.Deeper.{below_first, deeper_than, item_deeper}

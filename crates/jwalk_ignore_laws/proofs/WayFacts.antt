@@ -15,7 +15,7 @@ use Rattle.jwalk_ignore_laws.specs.Starts.{Agrees, AreTheSame, IsWay, Lists, Rul
 use Rattle.jwalk_ignore.specs.Rules.Chain.{Chain, Link, below_root, entered, place_in}
 use Rattle.jwalk_ignore.specs.Pattern.Names.{names_of}
 use Rattle.jwalk_ignore.specs.Rules.Texts.{Texts}
-use Rattle.jwalk_ignore.specs.declared.callback.settings.Settings.{Settings}
+use Rattle.jwalk_ignore.specs.Callback.Settings.{Settings}
 use Rattle.jwalk_ignore.specs.jwalk_ignore_rules.declared.rules.rules_kind.RulesKind.{RulesKind}
 use Rattle.jwalk_ignore.specs.jwalk_ignore_rules.declared.rules.rules_kind.RulesKind.TheVariants as rules
 use Rattle.jwalk_ignore_laws.proofs.AlikeFacts.{Alike, LinksAlike, Within, drop_whole, entered_alike, keeps_all, keeps_slash, links_go, links_keep, more_alike, patterns_same, says_alike, within_alike, within_if, within_more}

@@ -13,7 +13,7 @@ use Rattle.jwalk_ignore.specs.Rules.Texts.{Texts}
 use Rattle.jwalk_ignore.specs.Callback.IgnoreFiles.{at_root, file_of, git_in, is_git, in_directory, own_kind, root_of, with_folder, with_folders}
 use Rattle.jwalk_ignore.specs.Rules.Folder.{ends_git, folder_at, folders_above}
 use Rattle.jwalk_ignore.specs.Rules.Git.{git_at}
-use Rattle.jwalk_ignore.specs.declared.callback.settings.Settings.{Settings}
+use Rattle.jwalk_ignore.specs.Callback.Settings.{Settings}
 use Rattle.jwalk_ignore.specs.jwalk_ignore_rules.declared.rules.rules_kind.RulesKind.{RulesKind}
 use Rattle.jwalk_ignore.specs.jwalk_ignore_rules.declared.rules.rules_kind.RulesKind.TheVariants as rules
 

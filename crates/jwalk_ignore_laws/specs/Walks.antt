@@ -14,7 +14,7 @@ use Rattle.jwalk_model.specs.declared.metadata.Metadata.{Metadata}
 use Rattle.jwalk_ignore.specs.Callback.Given.{job_ignoring, no_rules_yet}
 use Rattle.jwalk_ignore.specs.Callback.IgnoreFiles.{depth_of}
 use Rattle.jwalk_ignore.specs.Rules.Texts.{Texts}
-use Rattle.jwalk_ignore.specs.declared.callback.settings.Settings.{Settings}
+use Rattle.jwalk_ignore.specs.Callback.Settings.{Settings}
 use Rattle.jwalk_ignore_laws.specs.Deeper.{below_first, deeper_than, item_deeper}
 use Rattle.jwalk_ignore_laws.specs.Starts.{Agrees, below}
 

@@ -6,7 +6,7 @@ use Rattle.std.specs.Arc.{arc_value}
 use Rattle.std.specs.declared.sync.Arc.{Arc}
 use Rattle.std.proofs.lemmas.List.{map-append}
 use Rattle.jwalk_ignore_rules.specs.Rules.Chain as value
-use Rattle.jwalk_ignore_rules.specs.Rules.Chain.{has_any, has_rules, ignored, is_ignored, is_said, link_says, links_say}
+use Rattle.jwalk_ignore_rules.specs.Rules.Chain.{chain_says, has_any, has_rules, is_said, link_says, links_say}
 use Rattle.jwalk_ignore_rules.specs.Rules.ChainViews.{link_value, links_value}
 use Rattle.jwalk_ignore_rules.specs.Rules.Matching.{or_else}
 use Rattle.jwalk_ignore_rules.specs.declared.rules.decision.Decision.{Decision}
@@ -65,13 +65,13 @@ both_false : (a b : Bool) → (a || b) ≡ false → (a ≡ false) × (b ≡ fal
 both_false false b is = (refl, is)
 both_false true b is = absurd (cc)
 
--- where there are no rules nothing is ignored
-pub none_ignored : (chain : value.Chain) (path : List ℕ) (is_dir : Bool) → has_rules chain ≡ false → ignored chain path is_dir ≡ false
-none_ignored chain path is_dir is =
+-- where there are no rules nothing is said
+pub none_said : (chain : value.Chain) (path : List ℕ) (is_dir : Bool) → has_rules chain ≡ false → chain_says chain path is_dir ≡ Unsaid
+none_said chain path is_dir is =
     let outer = both_false (has_any chain.fdignore || has_any chain.ignore || has_any chain.gitignore) (has_any chain.exclude) is in
     let inner = both_false (has_any chain.fdignore || has_any chain.ignore) (has_any chain.gitignore) outer.0 in
     let first = both_false (has_any chain.fdignore) (has_any chain.ignore) inner.0 in
-    ap (λ (d : Decision). is_ignored (or_else d (or_else (links_say chain.ignore path is_dir) (or_else (links_say chain.gitignore path is_dir) (links_say chain.exclude path is_dir))))) (none_in chain.fdignore path is_dir first.0)
-    ∙ ap (λ (d : Decision). is_ignored (or_else d (or_else (links_say chain.gitignore path is_dir) (links_say chain.exclude path is_dir)))) (none_in chain.ignore path is_dir first.1)
-    ∙ ap (λ (d : Decision). is_ignored (or_else d (links_say chain.exclude path is_dir))) (none_in chain.gitignore path is_dir inner.1)
-    ∙ ap is_ignored (none_in chain.exclude path is_dir outer.1)
+    ap (λ (d : Decision). or_else d (or_else (links_say chain.ignore path is_dir) (or_else (links_say chain.gitignore path is_dir) (links_say chain.exclude path is_dir)))) (none_in chain.fdignore path is_dir first.0)
+    ∙ ap (λ (d : Decision). or_else d (or_else (links_say chain.gitignore path is_dir) (links_say chain.exclude path is_dir))) (none_in chain.ignore path is_dir first.1)
+    ∙ ap (λ (d : Decision). or_else d (links_say chain.exclude path is_dir)) (none_in chain.gitignore path is_dir inner.1)
+    ∙ none_in chain.exclude path is_dir outer.1

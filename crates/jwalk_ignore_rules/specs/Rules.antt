@@ -12,6 +12,7 @@ mod ChainRows
 pub mod MemoryTexts
 pub mod RealTexts
 pub mod Texts
+pub mod WithExcludes
 use Rattle.std.specs.Prelude.{◌≡◌, ℕ, Bool, true, false, List, [], ◌∷◌, ◌++◌, map}
 use Rattle.jwalk_ignore_rules.specs.Pattern.{Pattern, pattern_value, Matches}
 use Rattle.jwalk_ignore_rules.specs.declared.rules.decision.Decision.{Decision}

@@ -4,4 +4,4 @@
 pub mod pattern;
 pub mod rules;
 
-pub use rules::{chain, decision, memory_texts, real_texts, texts};
+pub use rules::{chain, decision, memory_texts, real_texts, texts, with_excludes};

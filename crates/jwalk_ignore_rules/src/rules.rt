@@ -9,13 +9,14 @@ pub mod decision;
 pub mod folder;
 pub mod git;
 mod last_names;
-mod line;
+pub mod line;
 pub mod link;
 pub mod memory_texts;
 mod patterns;
 pub mod real_texts;
 pub mod rules_kind;
 pub mod texts;
+pub mod with_excludes;
 
 use crate::pattern::Pattern;
 use crate::pattern::pieces::split_piece;

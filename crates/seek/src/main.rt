@@ -8,6 +8,7 @@ use seek_words::screen::Screen;
 use std::io::{IsTerminal, Write};
 use std::process::ExitCode;
 use std::{env, io};
+use user_excludes::home::Home;
 
 /// The disk, where a directory is opened again after a moment if no descriptor was left; and the files of rules on it.
 type Disk = (Patient<RealFs, HostRuntime>, RealTexts);
@@ -35,6 +36,7 @@ fn main(rt: HostRuntime) -> ExitCode {
         no_color: !no_color.is_empty(),
         ls_colors: ls_colors.as_str(),
     };
+    let (home, config) = (variable(&rt, "HOME"), variable(&rt, "XDG_CONFIG_HOME"));
     let status = match call_of(&rt) {
         Ok((words, (disk, texts))) => run(
             &rt,
@@ -43,6 +45,10 @@ fn main(rt: HostRuntime) -> ExitCode {
             disk,
             texts,
             words.as_slice(),
+            Home {
+                home: home.as_str(),
+                config: config.as_str(),
+            },
             screen,
             &mut io::writer(&rt),
             &mut err,

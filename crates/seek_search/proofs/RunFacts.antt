@@ -33,10 +33,10 @@ printed_by answers {sought} {sought'} {form} {form'} {old} {new} sought_is form_
     subst (λ (s : Form). PrintsClean (answers sought') sought' s old new) form_is (subst (λ (s : Sought). PrintsClean (answers s) s form old new) sought_is printed)
 
 -- the text is printed over the same disk and texts
-pub printed_over : (asked : Asked) {fs fs' : Functions} {texts texts' : Texts} {sought sought' : Sought} {form form' : Form} {old new : Option (List ℕ)} → fs ≡ fs' → texts ≡ texts' → sought ≡ sought' → form ≡ form'
-    → PrintsClean (yielded_by fs texts asked sought) sought form old new → PrintsClean (yielded_by fs' texts' asked sought') sought' form' old new
-printed_over asked {fs} {fs'} {texts} {texts'} {sought} over from sought_is form_is printed =
-    printed_by (yielded_by fs' texts' asked) sought_is form_is (printed_as (ap₂ (λ f t. yielded_by f t asked sought) over from) printed)
+pub printed_over : (lines : List ℕ) (asked : Asked) {fs fs' : Functions} {texts texts' : Texts} {sought sought' : Sought} {form form' : Form} {old new : Option (List ℕ)} → fs ≡ fs' → texts ≡ texts' → sought ≡ sought' → form ≡ form'
+    → PrintsClean (yielded_by fs texts lines asked sought) sought form old new → PrintsClean (yielded_by fs' texts' lines asked sought') sought' form' old new
+printed_over lines asked {fs} {fs'} {texts} {texts'} {sought} over from sought_is form_is printed =
+    printed_by (yielded_by fs' texts' lines asked) sought_is form_is (printed_as (ap₂ (λ f t. yielded_by f t lines asked sought) over from) printed)
 
 -- gathered lines that are written at the end
 pub written_last : {R E : Type 0} {xs : List (Item R E)} {sought : Sought} {form : Form} (old mid new : Option (List ℕ)) (none last : List ℕ) → none ≡ []

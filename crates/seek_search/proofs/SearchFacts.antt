@@ -65,63 +65,63 @@ module _ {T C S P A R E : Type 0} (calls : CallsOf T C S P A R E) {is : WalkDirG
     counted = y.counted;
   }
 
-module _ {T C S B X A D Q E G H F : Type 0} (plain : CallsOf T G (Arc S B) Excluding A H F) (honouring : CallsOf T C (Arc S B) (KeptRules X) A (Chain D × Q) E) (disk : S) (texts : X) (asked : Asked) (sought : Sought) (may_stop : Type 0) (root : List ℕ) (answers : List (Item Worth Worth)) where
+module _ {T C S B X A D Q E G H F : Type 0} (plain : CallsOf T G (Arc S B) Excluding A H F) (honouring : CallsOf T C (Arc S B) (KeptRules X) A (Chain D × Q) E) (disk : S) (texts : X) (lines : List ℕ) (asked : Asked) (sought : Sought) (may_stop : Type 0) (root : List ℕ) (answers : List (Item Worth Worth)) where
   abbrev Two : Type 0 → Bool → Type 0
-  Two stop b = MatchBool b (Yielded plain (IsPlain disk asked root) sought stop answers) (Yielded honouring (IsHonouring disk texts asked root) sought stop answers)
+  Two stop b = MatchBool b (Yielded plain (IsPlain disk asked root) sought stop answers) (Yielded honouring (IsHonouring disk texts lines asked root) sought stop answers)
 
   -- the answers below a root are those of one of two walks
-  pub below_plain : asked.no_ignore ≡ true → Yielded plain (IsPlain disk asked root) sought may_stop answers → YieldedBelow plain honouring disk texts asked sought may_stop root answers
+  pub below_plain : asked.no_ignore ≡ true → Yielded plain (IsPlain disk asked root) sought may_stop answers → YieldedBelow plain honouring disk texts lines asked sought may_stop root answers
   below_plain is y = subst (Two may_stop) (sym is) y
 
-  pub below_honouring : asked.no_ignore ≡ false → Yielded honouring (IsHonouring disk texts asked root) sought may_stop answers → YieldedBelow plain honouring disk texts asked sought may_stop root answers
+  pub below_honouring : asked.no_ignore ≡ false → Yielded honouring (IsHonouring disk texts lines asked root) sought may_stop answers → YieldedBelow plain honouring disk texts lines asked sought may_stop root answers
   below_honouring is y = subst (Two may_stop) (sym is) y
 
   -- all answers, or those by then if the search stops
-  pub below_or : YieldedBelow plain honouring disk texts asked sought may_stop root answers → YieldedBelow plain honouring disk texts asked sought ⊥ root answers ⊎ (may_stop × YieldedBelow plain honouring disk texts asked sought may_stop root answers)
+  pub below_or : YieldedBelow plain honouring disk texts lines asked sought may_stop root answers → YieldedBelow plain honouring disk texts lines asked sought ⊥ root answers ⊎ (may_stop × YieldedBelow plain honouring disk texts lines asked sought may_stop root answers)
   below_or = elim asked.no_ignore as (λ b. Two may_stop b → Two ⊥ b ⊎ (may_stop × Two may_stop b)) [ true ↦ yielded_or plain answers | false ↦ yielded_or honouring answers ]
 
   -- the same, if a search may stop
-  pub below_may : YieldedBelow plain honouring disk texts asked sought may_stop root answers → YieldedBelow plain honouring disk texts asked sought (Unit {0}) root answers
+  pub below_may : YieldedBelow plain honouring disk texts lines asked sought may_stop root answers → YieldedBelow plain honouring disk texts lines asked sought (Unit {0}) root answers
   below_may = elim asked.no_ignore as (λ b. Two may_stop b → Two (Unit {0}) b) [ true ↦ yielded_may plain answers | false ↦ yielded_may honouring answers ]
 
 -- the answers below roots depend on the disk, the texts and what is looked for
-pub same_below : {T C S B X A D Q E G H F : Type 0} (plain : CallsOf T G (Arc S B) Excluding A H F) (honouring : CallsOf T C (Arc S B) (KeptRules X) A (Chain D × Q) E) (asked : Asked) (may_stop : Type 0) (roots : List (List ℕ)) {disk disk' : S} {texts texts' : X} {sought sought' : Sought} → disk ≡ disk' → texts ≡ texts' → sought ≡ sought'
-    → (answers : List (Item Worth Worth)) → AreBelow (YieldedBelow plain honouring disk texts asked sought) may_stop roots answers → AreBelow (YieldedBelow plain honouring disk' texts' asked sought') may_stop roots answers
-same_below {S} {X} plain honouring asked may_stop roots {disk} {disk'} {texts} {texts'} {sought} {sought'} over from same answers are =
-    subst (λ (s : Sought). AreBelow (YieldedBelow plain honouring disk' texts' asked s) may_stop roots answers) same
-    (subst (λ (t : X). AreBelow (YieldedBelow plain honouring disk' t asked sought) may_stop roots answers) from
-    (subst (λ (d : S). AreBelow (YieldedBelow plain honouring d texts asked sought) may_stop roots answers) over are))
+pub same_below : {T C S B X A D Q E G H F : Type 0} (plain : CallsOf T G (Arc S B) Excluding A H F) (honouring : CallsOf T C (Arc S B) (KeptRules X) A (Chain D × Q) E) (lines : List ℕ) (asked : Asked) (may_stop : Type 0) (roots : List (List ℕ)) {disk disk' : S} {texts texts' : X} {sought sought' : Sought} → disk ≡ disk' → texts ≡ texts' → sought ≡ sought'
+    → (answers : List (Item Worth Worth)) → AreBelow (YieldedBelow plain honouring disk texts lines asked sought) may_stop roots answers → AreBelow (YieldedBelow plain honouring disk' texts' lines asked sought') may_stop roots answers
+same_below {S} {X} plain honouring lines asked may_stop roots {disk} {disk'} {texts} {texts'} {sought} {sought'} over from same answers are =
+    subst (λ (s : Sought). AreBelow (YieldedBelow plain honouring disk' texts' lines asked s) may_stop roots answers) same
+    (subst (λ (t : X). AreBelow (YieldedBelow plain honouring disk' t lines asked sought) may_stop roots answers) from
+    (subst (λ (d : S). AreBelow (YieldedBelow plain honouring d texts lines asked sought) may_stop roots answers) over are))
 
 -- a search that stops may stop
-pub stops_somewhere : {T C S B X A D Q E G H F : Type 0} (plain : CallsOf T G (Arc S B) Excluding A H F) (honouring : CallsOf T C (Arc S B) (KeptRules X) A (Chain D × Q) E) (disk : S) (texts : X) (asked : Asked) (sought : Sought) (may_stop : Type 0) (roots : List (List ℕ)) (answers : List (Item Worth Worth))
-    → AreBelow (YieldedBelow plain honouring disk texts asked sought) may_stop roots answers → AreBelow (YieldedBelow plain honouring disk texts asked sought) (Unit {0}) roots answers
-stops_somewhere plain honouring disk texts asked sought may_stop =
-    may_stop_sooner (YieldedBelow plain honouring disk texts asked sought) may_stop (Unit {0}) (λ stops. tt) (λ root answers. below_may plain honouring disk texts asked sought may_stop root answers)
+pub stops_somewhere : {T C S B X A D Q E G H F : Type 0} (plain : CallsOf T G (Arc S B) Excluding A H F) (honouring : CallsOf T C (Arc S B) (KeptRules X) A (Chain D × Q) E) (disk : S) (texts : X) (lines : List ℕ) (asked : Asked) (sought : Sought) (may_stop : Type 0) (roots : List (List ℕ)) (answers : List (Item Worth Worth))
+    → AreBelow (YieldedBelow plain honouring disk texts lines asked sought) may_stop roots answers → AreBelow (YieldedBelow plain honouring disk texts lines asked sought) (Unit {0}) roots answers
+stops_somewhere plain honouring disk texts lines asked sought may_stop =
+    may_stop_sooner (YieldedBelow plain honouring disk texts lines asked sought) may_stop (Unit {0}) (λ stops. tt) (λ root answers. below_may plain honouring disk texts lines asked sought may_stop root answers)
 
-module _ {T C S B X A D Q E G H F : Type 0} (plain : CallsOf T G (Arc S B) Excluding A H F) (honouring : CallsOf T C (Arc S B) (KeptRules X) A (Chain D × Q) E) (disk : S) (texts : X) (asked : Asked) (sought : Sought) (may_stop : Type 0) where
+module _ {T C S B X A D Q E G H F : Type 0} (plain : CallsOf T G (Arc S B) Excluding A H F) (honouring : CallsOf T C (Arc S B) (KeptRules X) A (Chain D × Q) E) (disk : S) (texts : X) (lines : List ℕ) (asked : Asked) (sought : Sought) (may_stop : Type 0) where
   -- the answers below the folder that the program runs in, if no root is named
-  pub below_here : (length asked.roots.items == 0) ≡ true → (answers : List (Item Worth Worth)) → YieldedBelow plain honouring disk texts asked sought may_stop dot answers → AreBelow (YieldedBelow plain honouring disk texts asked sought) may_stop (roots_asked asked) answers
+  pub below_here : (length asked.roots.items == 0) ≡ true → (answers : List (Item Worth Worth)) → YieldedBelow plain honouring disk texts lines asked sought may_stop dot answers → AreBelow (YieldedBelow plain honouring disk texts lines asked sought) may_stop (roots_asked asked) answers
   below_here none answers y =
-      subst (λ (b : Bool). AreBelow (YieldedBelow plain honouring disk texts asked sought) may_stop (if b then dot ∷ [] else texts_of asked.roots.items) answers) (sym none)
-      (one_root (YieldedBelow plain honouring disk texts asked sought) may_stop dot answers (below_or plain honouring disk texts asked sought may_stop dot answers y))
+      subst (λ (b : Bool). AreBelow (YieldedBelow plain honouring disk texts lines asked sought) may_stop (if b then dot ∷ [] else texts_of asked.roots.items) answers) (sym none)
+      (one_root (YieldedBelow plain honouring disk texts lines asked sought) may_stop dot answers (below_or plain honouring disk texts lines asked sought may_stop dot answers y))
 
   -- the answers below the roots that are named
-  pub below_named : (roots : List (Bor (List ℕ))) → (length asked.roots.items == 0) ≡ false → roots ≡ asked.roots.items → (answers : List (Item Worth Worth)) → AreBelow (YieldedBelow plain honouring disk texts asked sought) may_stop (texts_of roots) answers
-      → AreBelow (YieldedBelow plain honouring disk texts asked sought) may_stop (roots_asked asked) answers
+  pub below_named : (roots : List (Bor (List ℕ))) → (length asked.roots.items == 0) ≡ false → roots ≡ asked.roots.items → (answers : List (Item Worth Worth)) → AreBelow (YieldedBelow plain honouring disk texts lines asked sought) may_stop (texts_of roots) answers
+      → AreBelow (YieldedBelow plain honouring disk texts lines asked sought) may_stop (roots_asked asked) answers
   below_named roots some are answers y =
-      subst (λ (b : Bool). AreBelow (YieldedBelow plain honouring disk texts asked sought) may_stop (if b then dot ∷ [] else texts_of asked.roots.items) answers) (sym some)
-      (subst (λ (l : List (Bor (List ℕ))). AreBelow (YieldedBelow plain honouring disk texts asked sought) may_stop (texts_of l) answers) are y)
+      subst (λ (b : Bool). AreBelow (YieldedBelow plain honouring disk texts lines asked sought) may_stop (if b then dot ∷ [] else texts_of asked.roots.items) answers) (sym some)
+      (subst (λ (l : List (Bor (List ℕ))). AreBelow (YieldedBelow plain honouring disk texts lines asked sought) may_stop (texts_of l) answers) are y)
 
   -- the answers below a single root
-  pub below_one : (roots : List (Bor (List ℕ))) (d : Bor (List ℕ)) → 1 ≤ length roots → length roots < 2 → (answers : List (Item Worth Worth)) → YieldedBelow plain honouring disk texts asked sought may_stop (slice_index_or roots 0 d).now answers
-      → AreBelow (YieldedBelow plain honouring disk texts asked sought) may_stop (texts_of roots) answers
+  pub below_one : (roots : List (Bor (List ℕ))) (d : Bor (List ℕ)) → 1 ≤ length roots → length roots < 2 → (answers : List (Item Worth Worth)) → YieldedBelow plain honouring disk texts lines asked sought may_stop (slice_index_or roots 0 d).now answers
+      → AreBelow (YieldedBelow plain honouring disk texts lines asked sought) may_stop (texts_of roots) answers
   below_one [] d some few answers y = absurd (omega (arith, some))
-  below_one (root ∷ []) d some few answers y = one_root (YieldedBelow plain honouring disk texts asked sought) may_stop root.now answers (below_or plain honouring disk texts asked sought may_stop root.now answers y)
+  below_one (root ∷ []) d some few answers y = one_root (YieldedBelow plain honouring disk texts lines asked sought) may_stop root.now answers (below_or plain honouring disk texts lines asked sought may_stop root.now answers y)
   below_one (root ∷ other ∷ roots) d some few answers y = absurd (omega (arith, few))
 
   -- the same roots, with other facts of them
-  pub below_same : {roots roots' : List (List ℕ)} → roots ≡ roots' → (answers : List (Item Worth Worth)) → AreBelow (YieldedBelow plain honouring disk texts asked sought) may_stop roots answers → AreBelow (YieldedBelow plain honouring disk texts asked sought) may_stop roots' answers
-  below_same are answers y = subst (λ (r : List (List ℕ)). AreBelow (YieldedBelow plain honouring disk texts asked sought) may_stop r answers) are y
+  pub below_same : {roots roots' : List (List ℕ)} → roots ≡ roots' → (answers : List (Item Worth Worth)) → AreBelow (YieldedBelow plain honouring disk texts lines asked sought) may_stop roots answers → AreBelow (YieldedBelow plain honouring disk texts lines asked sought) may_stop roots' answers
+  below_same are answers y = subst (λ (r : List (List ℕ)). AreBelow (YieldedBelow plain honouring disk texts lines asked sought) may_stop r answers) are y
 
 -- errors that are deeper than a root say neither that memory ran out nor that the crew was busy
 pub none_refused : {C A R E : Type 0} (xs : List (Result (DirEntry C A R E) (Error A))) → AreDeep xs → NoneRefused xs

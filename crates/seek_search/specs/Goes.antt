@@ -17,7 +17,9 @@ use Rattle.jwalk.specs.DirEntryIter.{DirEntryIter}
 use Rattle.jwalk.specs.declared.walk_dir.WalkDirGeneric.{WalkDirGeneric}
 use Rattle.jwalk_ignore.specs.Callback.Given.{no_rules_yet, rules_alone}
 use Rattle.jwalk_ignore.specs.Callback.IgnoreViews.{next_of, settings_of, texts_of}
+use Rattle.jwalk_ignore.specs.Rules.WithExcludes.{texts_behind}
 use Rattle.jwalk_ignore.specs.jwalk_ignore_rules.declared.rules.chain.Chain.{Chain}
+use Rattle.jwalk_ignore.specs.jwalk_ignore_rules.declared.rules.with_excludes.WithExcludes.{WithExcludes}
 use Rattle.seek_words.specs.declared.asked.Asked.{Asked}
 use Rattle.seek_words.specs.declared.screen.Screen.{Screen}
 use Rattle.seek_words.specs.Sought.{Sought}
@@ -55,44 +57,48 @@ pub record IsPlain {T C S B A R E : Type 0} (disk : S) (asked : Asked) (root : L
   pub options : options_of walk ≡ with_crew by_crew (options_asked asked)
   pub excluded : excluded_of (callback_of walk) ≡ excluded_asked asked root
 
--- The walk over this disk below this root that honours the ignore files of these texts. It begins without rules, and is
+-- The walk over this disk below this root that honours the ignore files of these texts, and at last these lines. It begins without rules, and is
 -- shown hidden names. It drops these itself, unless they are asked for.
-pub record IsHonouring {T C S B X A D Q E : Type 0} (disk : S) (texts : X) (asked : Asked) (root : List ℕ) (walk : WalkDirGeneric C (Arc S B) (KeptRules X) A (Crew T) (Chain D × Q) E) : Type 0 where
+pub record IsHonouring {T C S B X A D Q E : Type 0} (disk : S) (texts : X) (lines : List ℕ) (asked : Asked) (root : List ℕ) (walk : WalkDirGeneric C (Arc S B) (KeptRules X) A (Crew T) (Chain D × Q) E) : Type 0 where
   pub over : arc_value (file_system_of walk) ≡ disk
   pub below : root_of walk ≡ root
   pub by_crew : Bool
   pub options : options_of walk ≡ with_skip_hidden false (with_crew by_crew (options_asked asked))
   pub texts_read : arc_value (texts_of (callback_of walk).rules) ≡ texts
-  pub settings : settings_of (callback_of walk).rules ≡ settings_asked asked
+  pub settings : settings_of (callback_of walk).rules ≡ settings_asked lines asked
   pub excluded : excluded_of (next_of (callback_of walk).rules) ≡ excluded_asked asked root
   pub begins : rules_alone (state_of walk) ≡ no_rules_yet
 
 module _ {T C S B X A D Q E G H F : Type 0} (plain : CallsOf T G (Arc S B) Excluding A H F) (honouring : CallsOf T C (Arc S B) (KeptRules X) A (Chain D × Q) E) where
   -- The answers are those of the walk that is asked for below this root: all of them, unless the search may stop.
-  abbrev pub YieldedBelow : S → X → Asked → Sought → Below
-  YieldedBelow disk texts asked sought may_stop root answers =
-      MatchBool asked.no_ignore (Yielded plain (IsPlain disk asked root) sought may_stop answers) (Yielded honouring (IsHonouring disk texts asked root) sought may_stop answers)
+  abbrev pub YieldedBelow : S → X → List ℕ → Asked → Sought → Below
+  YieldedBelow disk texts lines asked sought may_stop root answers =
+      MatchBool asked.no_ignore (Yielded plain (IsPlain disk asked root) sought may_stop answers) (Yielded honouring (IsHonouring disk texts lines asked root) sought may_stop answers)
 
 module _ {T C Z B X A D Q E G H F : Type 0} (plain : CallsOf T G (Arc (KeptLinks Z) B) Excluding A H F) (honouring : CallsOf T C (Arc (KeptLinks Z) B) (KeptRules X) A (Chain D × Q) E) where
   -- The answers are those of the walks below the roots that are asked for, one root after another. Links that lead
   -- nowhere stay links.
-  abbrev pub AreYielded : Z → X → Asked → Sought → Type 0 → List (Item Worth Worth) → Type 0
-  AreYielded disk texts asked sought may_stop = AreBelow (YieldedBelow plain honouring (record { disk = disk; follow = asked.follow }) texts asked sought) may_stop (roots_asked asked)
+  abbrev pub AreYielded : Z → X → List ℕ → Asked → Sought → Type 0 → List (Item Worth Worth) → Type 0
+  AreYielded disk texts lines asked sought may_stop = AreBelow (YieldedBelow plain honouring (record { disk = disk; follow = asked.follow }) texts lines asked sought) may_stop (roots_asked asked)
 
   -- The line of each answer that is looked for was printed, up to the limit, and the result says whether all answers
   -- are clean. The absolute path is tested, and printed, if that is asked for.
-  pub record PrintsYielded (disk : Z) (texts : X) (screen : Screen) (asked : Asked) (takes : List ℕ → Bool → Bool) (old new : Option (List ℕ)) (clean : Bool) : Type 0 where
+  pub record PrintsYielded (disk : Z) (texts : X) (lines : List ℕ) (screen : Screen) (asked : Asked) (takes : List ℕ → Bool → Bool) (old new : Option (List ℕ)) (clean : Bool) : Type 0 where
     pub front : Option (List ℕ)
     pub in_front : is_some front ≡ asked.full_path
     pub shown : Option (List ℕ)
     pub is_shown : is_some shown ≡ asked.absolute
     pub left : Option ℕ
-    pub printed : PrintsSuch (AreYielded disk texts asked (sought_before front asked takes) (left ≡ Some 0)) (sought_before front asked takes) (form_before shown screen asked) (limit_asked asked) left old new clean
+    pub printed : PrintsSuch (AreYielded disk texts lines asked (sought_before front asked takes) (left ≡ Some 0)) (sought_before front asked takes) (form_before shown screen asked) (limit_asked asked) left old new clean
 
   -- One of the answers is looked for. The search may stop there.
-  pub record FindsOne (disk : Z) (texts : X) (asked : Asked) (takes : List ℕ → Bool → Bool) : Type 0 where
+  pub record FindsOne (disk : Z) (texts : X) (lines : List ℕ) (asked : Asked) (takes : List ℕ → Bool → Bool) : Type 0 where
     pub front : Option (List ℕ)
     pub in_front : is_some front ≡ asked.full_path
     pub answers : List (Item Worth Worth)
-    pub yielded : AreYielded disk texts asked (sought_before front asked takes) (Unit {0}) answers
+    pub yielded : AreYielded disk texts lines asked (sought_before front asked takes) (Unit {0}) answers
     pub found : list_any (is_hit (sought_before front asked takes)) answers ≡ true
+
+-- What is known of a search by these texts, whatever the user's excludes are, and by some lines of ignore files.
+abbrev pub ByRead : {X : Type 0} → X → (WithExcludes X → List ℕ → Type 0) → Type 0
+ByRead {X} texts is = (reads : WithExcludes X) × (texts_behind reads ≡ texts) × ((lines : List ℕ) × is reads lines)

@@ -1,5 +1,6 @@
 pub mod Search
 pub mod Run
+pub mod RulesRead
 pub mod Printed
 pub mod Goes
 pub mod KeptLinks

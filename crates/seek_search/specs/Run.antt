@@ -3,7 +3,9 @@ use Rattle.std.specs.Prelude.{◌≡◌, ℕ, Bool, true, false, List, Option, N
 use Rattle.std.specs.declared.sync.Arc.{Arc}
 use Rattle.jwalk.specs.jwalk_model.FileSystem.{Functions}
 use Rattle.jwalk_ignore.specs.Rules.Texts.{Texts}
+use Rattle.jwalk_ignore.specs.Rules.WithExcludes.{with_excludes}
 use Rattle.jwalk_ignore.specs.jwalk_ignore_rules.declared.rules.chain.Chain.{Chain}
+use Rattle.jwalk_ignore.specs.jwalk_ignore_rules.declared.rules.with_excludes.WithExcludes.{WithExcludes}
 use Rattle.seek_words.specs.AsksFor.{AskFor}
 use Rattle.seek_words.specs.Screen.{is_colored}
 use Rattle.seek_words.specs.declared.asked.Asked.{Asked}
@@ -12,8 +14,10 @@ use Rattle.seek_found.specs.Found.{PrintsClean}
 use Rattle.seek_found.specs.Sought.{IsFor, takes_by}
 use Rattle.seek_found.specs.declared.sought.Sought.{Sought}
 use Rattle.seek_found.specs.Times.{AreTimes}
-use Rattle.seek_search.specs.Goes.{CallsOf, FindsOne, PrintsYielded}
+use Rattle.seek_search.specs.Goes.{ByRead, CallsOf, FindsOne, PrintsYielded}
 use Rattle.seek_search.specs.KeptLinks.{functions_kept}
+use Rattle.seek_search.specs.RulesRead.{excludes_asked, lines_asked}
+use Rattle.user_excludes.specs.declared.home.Home.{Home}
 use Rattle.seek_search.specs.Search.{form_asked, limit_asked, sought_asked, yielded_by}
 use Rattle.jwalk_ignore.specs.declared.callback.excluding.Excluding.{Excluding}
 use Rattle.seek_search.specs.declared.kept_links.KeptLinks.{KeptLinks}
@@ -22,22 +26,27 @@ use Rattle.jwalk_ignore.specs.declared.callback.kept_rules.KeptRules.{KeptRules}
 -- Over a file system and texts that always answer the same, the line of each entry that is looked for is printed, of
 -- all answers of the walks, and none of these is an error. If the search prunes, answers below a find don't count. A
 -- link that leads nowhere isn't an error, but an entry.
-abbrev pub PrintsAsked : Functions → Texts → Screen → Asked → Sought → Option (List ℕ) → Option (List ℕ) → Type 0
-PrintsAsked fs texts screen asked sought =
-    PrintsClean (yielded_by (functions_kept asked.follow fs) texts asked (sought_asked texts asked (takes_by sought))) (sought_asked texts asked (takes_by sought)) (form_asked texts screen asked)
+abbrev pub PrintsRead : Functions → Texts → List ℕ → Screen → Asked → Sought → Option (List ℕ) → Option (List ℕ) → Type 0
+PrintsRead fs texts lines screen asked sought =
+    PrintsClean (yielded_by (functions_kept asked.follow fs) texts lines asked (sought_asked texts asked (takes_by sought))) (sought_asked texts asked (takes_by sought)) (form_asked texts screen asked)
 
-module _ {T C Z B X A D Q E G H F : Type 0} (plain : CallsOf T G (Arc (KeptLinks Z) B) Excluding A H F) (honouring : CallsOf T C (Arc (KeptLinks Z) B) (KeptRules X) A (Chain D × Q) E) where
+-- The same, with the user's excludes and the ignore files that are asked for.
+abbrev pub PrintsAsked : Functions → Texts → Home → Screen → Asked → Sought → Option (List ℕ) → Option (List ℕ) → Type 0
+PrintsAsked fs texts home screen asked sought =
+    PrintsRead fs (with_excludes (excludes_asked texts home asked) texts) (lines_asked texts asked) screen asked sought
+
+module _ {T C Z B X A D Q E G H F : Type 0} (plain : CallsOf T G (Arc (KeptLinks Z) B) Excluding A H F) (honouring : CallsOf T C (Arc (KeptLinks Z) B) (KeptRules (WithExcludes X)) A (Chain D × Q) E) where
   -- The words ask for a search, the names that are looked for are those of the patterns, and the times that are asked
   -- for are known. Paths are in colors if the words or the screen ask for it. A quiet search writes nothing, and finds one of the answers of its walks. Any other search prints
   -- their lines in the way that is asked for, and all answers are clean. If there is no limit, and the file system and
   -- the texts are fixed, the answers are those that are asked for.
-  pub record Searches (disk : Z) (reads : X) (fixed : Type 0) (fs : Functions) (texts : Texts) (screen : Screen) (words : List (List ℕ)) (old new : Option (List ℕ)) : Type 0 where
+  pub record Searches (disk : Z) (reads : X) (fixed : Type 0) (fs : Functions) (texts : Texts) (home : Home) (screen : Screen) (words : List (List ℕ)) (old new : Option (List ℕ)) : Type 0 where
     pub asked : Asked
     pub ask : AskFor words asked
     pub sought : Sought
     pub is_for : IsFor asked sought
     pub colored : asked.colored ≡ is_colored screen asked.color
     pub times : fixed → AreTimes fs asked asked.times
-    pub quiet : asked.quiet ≡ true → (new ≡ old) × FindsOne plain honouring disk reads asked (takes_by sought)
-    pub yielded : asked.quiet ≡ false → PrintsYielded plain honouring disk reads screen asked (takes_by sought) old new true
-    pub prints : fixed → limit_asked asked ≡ None → PrintsAsked fs texts screen asked sought old new
+    pub quiet : asked.quiet ≡ true → (new ≡ old) × ByRead reads (λ texts lines. FindsOne plain honouring disk texts lines asked (takes_by sought))
+    pub yielded : asked.quiet ≡ false → ByRead reads (λ texts lines. PrintsYielded plain honouring disk texts lines screen asked (takes_by sought) old new true)
+    pub prints : fixed → limit_asked asked ≡ None → PrintsAsked fs texts home screen asked sought old new

@@ -10,8 +10,9 @@ use Rattle.jwalk.specs.jwalk_model.Walk.{whole_walk}
 use Rattle.jwalk_ignore.specs.Callback.Excluding.{Excluded, excluded_by, excluding}
 use Rattle.jwalk_ignore.specs.Callback.Given.{first_settings}
 use Rattle.jwalk_ignore.specs.Callback.Kept.{ignoring_walk, job_with}
+use Rattle.jwalk_ignore.specs.Rules.Line.{patterns_of}
 use Rattle.jwalk_ignore.specs.Rules.Texts.{Texts}
-use Rattle.jwalk_ignore.specs.declared.callback.settings.Settings.{Settings}
+use Rattle.jwalk_ignore.specs.Callback.Settings.{Settings}
 use Rattle.seek_braces.specs.Expanded.{expansions}
 use Rattle.seek_words.specs.Sought.{Sought}
 use Rattle.seek_colors.specs.Palette.{palette_in}
@@ -51,13 +52,14 @@ options_asked asked = options_for (walk_options asked) false
 abbrev pub limit_asked : Asked → Option ℕ
 limit_asked asked = if asked.quiet then Some 1 else positive asked.max_results
 
--- the use of ignore files
-abbrev pub settings_asked : Asked → Settings
-settings_asked asked = record first_settings {
+-- the use of ignore files, with these lines of files that decide last
+abbrev pub settings_asked : List ℕ → Asked → Settings
+settings_asked lines asked = record first_settings {
   keeps_hidden = asked.hidden;
   version_control = not asked.no_vcs;
   above_the_root = not asked.no_parents;
   fdignore = true;
+  given = patterns_of lines;
 }
 
 -- all answers of a walk without ignore files, below a root
@@ -65,8 +67,8 @@ abbrev pub all_below : Functions → Asked → Excluded → List ℕ → List (I
 all_below fs asked excluded root = whole_walk (job_with fs (options_asked asked) (excluding excluded)) root blank
 
 -- the same with ignore files
-abbrev pub kept_below : Functions → Texts → Asked → Excluded → List ℕ → List (Item Worth Worth)
-kept_below fs texts asked excluded root = ignoring_walk fs texts (settings_asked asked) excluded (options_asked asked) root
+abbrev pub kept_below : Functions → Texts → List ℕ → Asked → Excluded → List ℕ → List (Item Worth Worth)
+kept_below fs texts lines asked excluded root = ignoring_walk fs texts (settings_asked lines asked) excluded (options_asked asked) root
 
 -- the lines that a line of `-E` is short for; one that is short for too many, which ends a call, stays one line
 abbrev pub lines_of : List ℕ → List (List ℕ)
@@ -77,21 +79,21 @@ abbrev pub excluded_asked : Asked → List ℕ → Excluded
 excluded_asked asked root = excluded_by (flat_map lines_of (texts_of asked.excludes.items)) root
 
 -- all answers below a root
-abbrev pub yielded_below : Functions → Texts → Asked → List ℕ → List (Item Worth Worth)
-yielded_below fs texts asked root =
-    if asked.no_ignore then all_below fs asked (excluded_asked asked root) root else kept_below fs texts asked (excluded_asked asked root) root
+abbrev pub yielded_below : Functions → Texts → List ℕ → Asked → List ℕ → List (Item Worth Worth)
+yielded_below fs texts lines asked root =
+    if asked.no_ignore then all_below fs asked (excluded_asked asked root) root else kept_below fs texts lines asked (excluded_asked asked root) root
 
 -- the roots: the folder that the program runs in, if none is named
 abbrev pub roots_asked : Asked → List (List ℕ)
 roots_asked asked = if length asked.roots.items == 0 then dot ∷ [] else texts_of asked.roots.items
 
 -- the answers below a root that aren't below a find, or all of them if what is below is looked for
-abbrev pub unpruned_below : Functions → Texts → Asked → Sought → List ℕ → List (Item Worth Worth)
-unpruned_below fs texts asked sought root = unpruned sought (yielded_below fs texts asked root)
+abbrev pub unpruned_below : Functions → Texts → List ℕ → Asked → Sought → List ℕ → List (Item Worth Worth)
+unpruned_below fs texts lines asked sought root = unpruned sought (yielded_below fs texts lines asked root)
 
 -- the same, one root after another
-abbrev pub yielded_by : Functions → Texts → Asked → Sought → List (Item Worth Worth)
-yielded_by fs texts asked sought = flat_map (unpruned_below fs texts asked sought) (roots_asked asked)
+abbrev pub yielded_by : Functions → Texts → List ℕ → Asked → Sought → List (Item Worth Worth)
+yielded_by fs texts lines asked sought = flat_map (unpruned_below fs texts lines asked sought) (roots_asked asked)
 
 -- the written form of paths, for a terminal or not
 abbrev pub style_asked : Bool → Asked → Style

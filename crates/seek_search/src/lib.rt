@@ -3,5 +3,6 @@
 
 mod excluded;
 mod kept_links;
+mod rules_read;
 pub mod run;
 mod search;

@@ -13,15 +13,17 @@ ghost use Rattle.seek_found.specs.Call.{AskForSearch, Ends};
 ghost use Rattle.seek_found.specs.Roots.{AreBelow};
 ghost use Rattle.seek_found.specs.Sought.{takes_by};
 ghost use Rattle.seek_found.specs.SoughtTest.{takes_of};
-ghost use Rattle.seek_search.specs.Goes.{FindsOne, PrintsYielded, YieldedBelow};
+ghost use Rattle.seek_search.specs.Goes.{ByRead, FindsOne, PrintsYielded, YieldedBelow};
 ghost use Rattle.seek_search.specs.Printed.{PrintsAll, PrintsThose};
-ghost use Rattle.seek_search.specs.Run.{PrintsAsked, Searches};
+ghost use Rattle.seek_search.specs.Run.{PrintsAsked, PrintsRead, Searches};
 ghost use Rattle.seek_search.specs.Search.{form_before, front_if, limit_asked, painting_asked, roots_asked, style_asked, unpruned_below, yielded_by};
 
 use crate::kept_links::KeptLinks;
+use crate::rules_read::RulesRead;
 use crate::search::{HonouringWalk, PlainWalk, Search};
 use jwalk::file_system::{Fault, FileSystem};
 use jwalk_ignore::texts::Texts;
+use jwalk_ignore::with_excludes::WithExcludes;
 use program_parts::halt::Halt;
 use program_walks::crew::crew_of;
 use seek_colors::palette::Palette;
@@ -47,6 +49,7 @@ use std::io::Write;
 use std::sync::{Arc, Wait};
 use std::thread::Threads;
 use std::time::Clock;
+use user_excludes::home::Home;
 
 fn shared<V: Drop>(alloc: Global, value: V) -> Result<Arc<V>, AllocError>
     ensures { IfOk result (λ it. arc_value it ≡ value) }
@@ -146,10 +149,10 @@ fn search_each<
 ) -> Result<bool, Halt>
     ensures yielded { IfOk result (PrintsThose (λ sought may_stop. AreBelow (YieldedBelow ⟦<PlainWalk<T, S> as Iterator>⟧.next_gives
         ⟦<HonouringWalk<T, S, X> as Iterator>⟧.next_gives (arc_value search.now.disk) (arc_value search.now.texts)
-        search.now.asked.now sought) may_stop (texts_of roots.now)) printer.old printer.new (W.contents out.old) (W.contents out.new)) }
+        search.now.lines.now search.now.asked.now sought) may_stop (texts_of roots.now)) printer.old printer.new (W.contents out.old) (W.contents out.new)) }
     ensures whole { IfOk result (λ clean. S.IsFixed (arc_value search.now.disk) → X.IsFixed (arc_value search.now.texts)
         → PrintsAll (λ sought. flat_map (unpruned_below (S.functions (arc_value search.now.disk))
-        (X.functions (arc_value search.now.texts)) search.now.asked.now sought) (texts_of roots.now)) printer.old printer.new (W.contents out.old) (W.contents out.new) clean) }
+        (X.functions (arc_value search.now.texts)) search.now.lines.now search.now.asked.now sought) (texts_of roots.now)) printer.old printer.new (W.contents out.old) (W.contents out.new) clean) }
     ensures sought { sought_of takes_of printer.new.filter ≡ sought_of takes_of printer.old.filter }
     ensures form { form_of printer.new.lines ≡ form_of printer.old.lines }
 {
@@ -184,11 +187,11 @@ fn search_roots<
 ) -> Result<bool, Halt>
     ensures yielded { IfOk result (PrintsThose (λ sought may_stop. AreBelow (YieldedBelow ⟦<PlainWalk<T, S> as Iterator>⟧.next_gives
         ⟦<HonouringWalk<T, S, X> as Iterator>⟧.next_gives (arc_value search.now.disk) (arc_value search.now.texts)
-        search.now.asked.now sought) may_stop (roots_asked search.now.asked.now)) printer.old printer.new
+        search.now.lines.now search.now.asked.now sought) may_stop (roots_asked search.now.asked.now)) printer.old printer.new
         (W.contents out.old) (W.contents out.new)) }
     ensures whole { IfOk result (λ clean. S.IsFixed (arc_value search.now.disk) → X.IsFixed (arc_value search.now.texts)
         → PrintsAll
-        (yielded_by (S.functions (arc_value search.now.disk)) (X.functions (arc_value search.now.texts)) search.now.asked.now)
+        (yielded_by (S.functions (arc_value search.now.disk)) (X.functions (arc_value search.now.texts)) search.now.lines.now search.now.asked.now)
         printer.old printer.new (W.contents out.old) (W.contents out.new) clean) }
 {
     let roots = search.asked.roots.as_slice();
@@ -211,6 +214,7 @@ fn search_asked<
     alloc: Global,
     disk: S,
     texts: X,
+    given: &[u8],
     asked: &Asked<'_>,
     sought: &Sought,
     screen: Screen<'_>,
@@ -218,13 +222,13 @@ fn search_asked<
     err: &mut E,
 ) -> Result<Ended, Halt>
     ensures yielded { IfOk result (λ ended. PrintsYielded ⟦<PlainWalk<T, KeptLinks<S>> as Iterator>⟧.next_gives
-        ⟦<HonouringWalk<T, KeptLinks<S>, X> as Iterator>⟧.next_gives disk texts screen.entry asked.now (takes_by sought.now)
+        ⟦<HonouringWalk<T, KeptLinks<S>, X> as Iterator>⟧.next_gives disk texts given.now screen.entry asked.now (takes_by sought.now)
         (W.contents out.old) (W.contents out.new) ended.clean) }
     ensures found { IfOk result (λ ended. asked.now.quiet ≡ true → ended.full ≡ true
         → FindsOne ⟦<PlainWalk<T, KeptLinks<S>> as Iterator>⟧.next_gives
-        ⟦<HonouringWalk<T, KeptLinks<S>, X> as Iterator>⟧.next_gives disk texts asked.now (takes_by sought.now)) }
+        ⟦<HonouringWalk<T, KeptLinks<S>, X> as Iterator>⟧.next_gives disk texts given.now asked.now (takes_by sought.now)) }
     ensures whole { IfOk result (λ ended. limit_asked asked.now ≡ None → ended.clean ≡ true → S.IsFixed disk → X.IsFixed texts
-        → PrintsAsked (S.functions disk) (X.functions texts) screen.entry asked.now sought.now
+        → PrintsRead (S.functions disk) (X.functions texts) given.now screen.entry asked.now sought.now
         (W.contents out.old) (W.contents out.new)) }
 {
     let wanted = Wanted {
@@ -253,6 +257,7 @@ fn search_asked<
     let search = Search {
         clock,
         asked,
+        lines: given,
         disk: shared(
             alloc,
             KeptLinks {
@@ -274,9 +279,67 @@ fn search_asked<
     })
 }
 
+/// Reads the ignore files first that are named, or are the user's.
+fn search_read<
+    T: Wait + Threads + Clock + Clone + Drop + Send + Sync + 'static,
+    K: Clock,
+    S: FileSystem + Send + Sync + 'static,
+    X: Texts + Send + Sync + 'static,
+    W: Write,
+    E: Write,
+>(
+    rt: &T,
+    clock: &K,
+    alloc: Global,
+    disk: S,
+    texts: X,
+    home: Home<'_>,
+    asked: &Asked<'_>,
+    sought: &Sought,
+    screen: Screen<'_>,
+    out: &mut W,
+    err: &mut E,
+) -> Result<Ended, Halt>
+    ensures yielded { IfOk result (λ ended. ended.clean ≡ true → ByRead texts (λ reads lines. PrintsYielded
+        ⟦<PlainWalk<T, KeptLinks<S>> as Iterator>⟧.next_gives
+        ⟦<HonouringWalk<T, KeptLinks<S>, WithExcludes<X>> as Iterator>⟧.next_gives disk reads lines screen.entry asked.now
+        (takes_by sought.now) (W.contents out.old) (W.contents out.new) true)) }
+    ensures found { IfOk result (λ ended. asked.now.quiet ≡ true → ended.full ≡ true → ByRead texts (λ reads lines. FindsOne
+        ⟦<PlainWalk<T, KeptLinks<S>> as Iterator>⟧.next_gives
+        ⟦<HonouringWalk<T, KeptLinks<S>, WithExcludes<X>> as Iterator>⟧.next_gives disk reads lines asked.now (takes_by sought.now))) }
+    ensures whole { IfOk result (λ ended. limit_asked asked.now ≡ None → ended.clean ≡ true → S.IsFixed disk → X.IsFixed texts
+        → PrintsAsked (S.functions disk) (X.functions texts) home.entry screen.entry asked.now sought.now
+        (W.contents out.old) (W.contents out.new)) }
+{
+    let RulesRead {
+        excludes,
+        lines,
+        clean,
+    } = RulesRead::read(alloc, &texts, home, asked, err)?;
+    let texts = WithExcludes::new(texts, excludes);
+    let ended = search_asked(
+        rt,
+        clock,
+        alloc,
+        disk,
+        texts,
+        lines.as_slice(),
+        asked,
+        sought,
+        screen,
+        out,
+        err,
+    )?;
+    Ok(Ended {
+        clean: ended.clean && clean,
+        full: ended.full,
+    })
+}
+
 /// Searches the disk as the words ask. The first word is the program's name. Prints the path of each entry that is
 /// looked for, and reports errors on `err`. Returns the status. If the output is a terminal, control characters in
-/// paths are written as question marks, and paths are in colors, unless the words or the screen say otherwise.
+/// paths are written as question marks, and paths are in colors, unless the words or the screen say otherwise. `home` says
+/// where the user's own files are.
 ///
 /// The status is 0 if everything was searched, or as much as was asked for, and there was no error. It is 1 if there
 /// was one, if the times that are named aren't known, if memory ran out, or if the output can't be written. It is 2 for
@@ -296,6 +359,7 @@ pub fn run<
     disk: S,
     texts: X,
     words: &[String],
+    home: Home<'_>,
     screen: Screen<'_>,
     out: &mut W,
     err: &mut E,
@@ -307,8 +371,8 @@ pub fn run<
     ensures untouched { result ≡ 2 → W.contents out.new ≡ W.contents out.old }
     ensures done { result ≡ 0 → AskForText (map string_bytes words.now)
         ⊎ Searches ⟦<PlainWalk<T, KeptLinks<S>> as Iterator>⟧.next_gives
-        ⟦<HonouringWalk<T, KeptLinks<S>, X> as Iterator>⟧.next_gives disk texts
-        (S.IsFixed disk × X.IsFixed texts) (S.functions disk) (X.functions texts) screen.entry
+        ⟦<HonouringWalk<T, KeptLinks<S>, WithExcludes<X>> as Iterator>⟧.next_gives disk texts
+        (S.IsFixed disk × X.IsFixed texts) (S.functions disk) (X.functions texts) home.entry screen.entry
         (map string_bytes words.now) (W.contents out.old) (W.contents out.new) }
 {
     let (mut asked, sought) = match read_call(alloc, words, out, err) {
@@ -325,13 +389,13 @@ pub fn run<
     asked.colored = screen.is_colored(asked.color);
     if asked.quiet {
         let mut sink = io::sink();
-        let ended = search_asked(
-            rt, clock, alloc, disk, texts, &asked, &sought, screen, &mut sink, err,
+        let ended = search_read(
+            rt, clock, alloc, disk, texts, home, &asked, &sought, screen, &mut sink, err,
         );
         return status_of(true, ended, err);
     }
-    let ended = search_asked(
-        rt, clock, alloc, disk, texts, &asked, &sought, screen, out, err,
+    let ended = search_read(
+        rt, clock, alloc, disk, texts, home, &asked, &sought, screen, out, err,
     );
     status_of(false, ended, err)
 }

@@ -24,6 +24,7 @@ use jwalk_ignore::builder::with_hidden_shown;
 use jwalk_ignore::excluding::Excluding;
 use jwalk_ignore::ignore_files::IgnoreFiles;
 use jwalk_ignore::kept_rules::{KeptRules, KeptStates};
+use jwalk_ignore::rules::Rules;
 use jwalk_ignore::texts::Texts;
 use program_parts::halt::Halt;
 use program_walks::options::{Plain, WalkOptions};
@@ -31,7 +32,7 @@ use seek_found::found::print_found;
 use seek_found::printer::Printer;
 use seek_found::sought_test::SoughtTest;
 use seek_words::asked::Asked;
-use std::alloc::Global;
+use std::alloc::{AllocError, Global};
 use std::io::Write;
 use std::sync::{Arc, Wait};
 use std::thread::Threads;
@@ -77,16 +78,25 @@ where
     print_found(&mut answers, printer, clock, out, err)
 }
 
-/// Returns the rules that are asked for, from these texts.
-fn rules_of<X: Texts>(asked: &Asked<'_>, texts: X) -> IgnoreFiles<X>
-    ensures texts { texts_of result ≡ texts }
-    ensures settings { settings_of result ≡ settings_asked asked.now }
+/// Returns the rules that are asked for, from these texts and of these lines.
+fn rules_of<X: Texts>(
+    alloc: Global,
+    asked: &Asked<'_>,
+    lines: &[u8],
+    texts: X,
+) -> Result<IgnoreFiles<X>, AllocError>
+    ensures texts { IfOk result (λ it. texts_of it ≡ texts) }
+    ensures settings { IfOk result (λ it. settings_of it ≡ settings_asked lines.now asked.now) }
 {
-    IgnoreFiles::new(texts)
+    let rules = IgnoreFiles::new(texts)
         .keep_hidden(asked.hidden)
         .version_control(!asked.no_vcs)
         .above_the_root(!asked.no_parents)
-        .fdignore(true)
+        .fdignore(true);
+    if lines.is_empty() {
+        return Ok(rules);
+    }
+    Ok(rules.given(Rules::parse(alloc, lines)?))
 }
 
 /// The walk honours these rules.
@@ -123,6 +133,8 @@ fn search_walk<
 pub(crate) struct Search<'a, 'w, T: Drop, K: Clock, S: FileSystem, X: Texts> {
     pub(crate) clock: &'a K,
     pub(crate) asked: &'a Asked<'w>,
+    /// The lines of the ignore files that decide last.
+    pub(crate) lines: &'a [u8],
     pub(crate) disk: Arc<S>,
     pub(crate) texts: Arc<X>,
     pub(crate) crew: Option<Arc<Crew<T>>>,
@@ -194,17 +206,18 @@ impl<
     ) -> Result<bool, Halt>
         ensures whole { IfOk result (λ clean. S.IsFixed (arc_value self.now.disk) → X.IsFixed (arc_value self.now.texts)
             → PrintsAll (λ sought. unpruned sought
-            (kept_below (S.functions (arc_value self.now.disk)) (X.functions (arc_value self.now.texts)) self.now.asked.now
+            (kept_below (S.functions (arc_value self.now.disk)) (X.functions (arc_value self.now.texts)) self.now.lines.now self.now.asked.now
             (excluded_asked self.now.asked.now root.now) root.now))
             printer.old printer.new (W.contents out.old) (W.contents out.new) clean) }
         ensures yielded { IfOk result (PrintsThose (Yielded ⟦<HonouringWalk<T, S, X> as Iterator>⟧.next_gives
-            (IsHonouring (arc_value self.now.disk) (arc_value self.now.texts) self.now.asked.now root.now))
+            (IsHonouring (arc_value self.now.disk) (arc_value self.now.texts) self.now.lines.now self.now.asked.now root.now))
             printer.old printer.new (W.contents out.old) (W.contents out.new)) }
         ensures sought { sought_of takes_of printer.new.filter ≡ sought_of takes_of printer.old.filter }
         ensures form { form_of printer.new.lines ≡ form_of printer.old.lines }
     {
         let excluding = excluding_of(alloc, self.asked.excludes.as_slice(), root)?;
-        let rules = rules_of(self.asked, self.texts.clone()?).then(excluding);
+        let texts = self.texts.clone()?;
+        let rules = rules_of(alloc, self.asked, self.lines, texts)?.then(excluding);
         let root = String::from_str(alloc, root)?;
         let disk = self.disk.clone()?;
         let walk = self
@@ -224,11 +237,11 @@ impl<
     ) -> Result<bool, Halt>
         ensures whole { IfOk result (λ clean. S.IsFixed (arc_value self.now.disk) → X.IsFixed (arc_value self.now.texts)
             → PrintsAll (λ sought. unpruned_below (S.functions (arc_value self.now.disk)) (X.functions (arc_value self.now.texts))
-            self.now.asked.now sought root.now)
+            self.now.lines.now self.now.asked.now sought root.now)
             printer.old printer.new (W.contents out.old) (W.contents out.new) clean) }
         ensures yielded { IfOk result (PrintsThose (λ sought may_stop. YieldedBelow ⟦<PlainWalk<T, S> as Iterator>⟧.next_gives
             ⟦<HonouringWalk<T, S, X> as Iterator>⟧.next_gives (arc_value self.now.disk) (arc_value self.now.texts)
-            self.now.asked.now sought may_stop root.now) printer.old printer.new (W.contents out.old) (W.contents out.new)) }
+            self.now.lines.now self.now.asked.now sought may_stop root.now) printer.old printer.new (W.contents out.old) (W.contents out.new)) }
         ensures sought { sought_of takes_of printer.new.filter ≡ sought_of takes_of printer.old.filter }
         ensures form { form_of printer.new.lines ≡ form_of printer.old.lines }
     {

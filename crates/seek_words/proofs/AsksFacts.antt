@@ -55,6 +55,8 @@ shown_asks rows asked times colored asks = record {
   color = asks.color;
   print0 = asks.print0;
   threads = asks.threads;
+  ignore_files = asks.ignore_files;
+  no_global = asks.no_global;
 }
 
 pub shown_ask_for : (words : List Text) (asked : Asked) (times : Times) (colored : Bool) → AskFor words asked → AskFor words (record asked { times = times; colored = colored })

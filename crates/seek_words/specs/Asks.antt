@@ -121,3 +121,5 @@ pub record Asks (rows : List Row) (asked : Asked) : Type 0 where
   pub color : IsColorIn (first_of (codes "color") rows) asked.color
   pub print0 : asked.print0 ≡ is_named rows (codes "print0")
   pub threads : IsNumberOf (one_of (codes "threads") rows) asked.threads
+  pub ignore_files : texts_of asked.ignore_files.items ≡ values_in rows (codes "ignore-file")
+  pub no_global : asked.no_global ≡ is_named rows (codes "no-global-ignore-file")

@@ -34,9 +34,14 @@ abbrev pub walk_rules : List Rule
 walk_rules =
     flag_rule (codes "hidden") 72 ∷ flag_rule (codes "no-ignore") 73 ∷ flag_rule (codes "unrestricted") 117 ∷ listed_rule (codes "exclude") 69 ∷ flag_rule (codes "follow") 76 ∷ []
 
+-- more ignore files
+abbrev pub ignore_file_rule : Rule
+ignore_file_rule = record (valued_rule (codes "ignore-file")) { action = Some Append }
+
 -- which ignore files are read
 abbrev pub ignore_rules : List Rule
-ignore_rules = long_flag_rule (codes "no-ignore-vcs") ∷ long_flag_rule (codes "no-ignore-parent") ∷ []
+ignore_rules =
+    long_flag_rule (codes "no-ignore-vcs") ∷ long_flag_rule (codes "no-ignore-parent") ∷ ignore_file_rule ∷ long_flag_rule (codes "no-global-ignore-file") ∷ []
 
 -- whether a walk stays on the file system of its root
 abbrev pub file_system_rule : Rule

@@ -36,6 +36,10 @@ pub struct Asked<'w> {
     pub no_vcs: bool,
     /// No ignore files above a root are read.
     pub no_parents: bool,
+    /// Ignore files that are read besides, and decide last.
+    pub ignore_files: Vec<&'w str, Global>,
+    /// The user's excludes aren't read.
+    pub no_global: bool,
     /// Links are followed.
     pub follow: bool,
     /// Directories on another file system than the root aren't read.

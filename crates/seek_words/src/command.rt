@@ -2,7 +2,7 @@
 ghost use Rattle.std.specs.Prelude.{◌≡◌, ◌∷◌, [], false, map, IfOk};
 ghost use Rattle.clap.specs.Words.{app_of, rule_of};
 ghost use Rattle.program_parts.specs.Rules.{root_rule, with_rules, HaveRules};
-ghost use Rattle.seek_words.specs.Command.{kind_rule, kind_names, and_rule, search_rule, before_rule, quiet_rule, within_rule, max_depth_rule, one_rule, owner_rule, file_system_rule, with_name, pattern_rule, named_app, pattern_rules, case_rules, walk_rules, ignore_rules, reach_rules, time_rules, print_rules, HasRule, AreFilters, IsSeek};
+ghost use Rattle.seek_words.specs.Command.{kind_rule, kind_names, and_rule, ignore_file_rule, search_rule, before_rule, quiet_rule, within_rule, max_depth_rule, one_rule, owner_rule, file_system_rule, with_name, pattern_rule, named_app, pattern_rules, case_rules, walk_rules, ignore_rules, reach_rules, time_rules, print_rules, HasRule, AreFilters, IsSeek};
 
 use clap::{Arg, ArgAction, Command};
 use program_parts::options::{
@@ -122,6 +122,19 @@ fn search_option<'a>(alloc: Global) -> Arg<'a>
     valued(alloc, "search-path", "PATH", "One more root").action(ArgAction::Append)
 }
 
+fn ignore_file_option<'a>(alloc: Global) -> Arg<'a>
+    ensures rule { rule_of result ≡ ignore_file_rule }
+    ensures local { result.global ≡ false }
+{
+    valued(
+        alloc,
+        "ignore-file",
+        "FILE",
+        "One more ignore file, which decides last",
+    )
+    .action(ArgAction::Append)
+}
+
 fn ignore_options<'a>(alloc: Global) -> Result<Vec<Arg<'a>>, AllocError>
     ensures { IfOk result (λ options. HaveRules options.items ignore_rules) }
 {
@@ -135,6 +148,12 @@ fn ignore_options<'a>(alloc: Global) -> Result<Vec<Arg<'a>>, AllocError>
             alloc,
             "no-ignore-parent",
             "Read no ignore files above a root",
+        ),
+        ignore_file_option(alloc),
+        long_flag(
+            alloc,
+            "no-global-ignore-file",
+            "Don't read the user's excludes, as git's configuration names them",
         ),
     ]?)
 }

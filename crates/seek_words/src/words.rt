@@ -258,6 +258,8 @@ fn asked_of<'w>(alloc: Global, found: &ArgMatches<'w>) -> Result<Asked<'w>, Refu
         colored: false,
         print0: is_named(found, "print0"),
         threads: number_of(found, "threads"),
+        ignore_files: values_of(alloc, found, "ignore-file")?,
+        no_global: is_named(found, "no-global-ignore-file"),
     })
 }
 

@@ -26,7 +26,7 @@ use Rattle.jwalk_ignore.specs.Callback.Excluding.{Excluded, excluded_by, excludi
 use Rattle.jwalk_ignore.specs.Callback.Given.{first_settings}
 use Rattle.jwalk_ignore.specs.Callback.Kept.{ignoring_walk, job_with}
 use Rattle.jwalk_ignore.specs.Rules.Texts.{Texts}
-use Rattle.jwalk_ignore.specs.declared.callback.settings.Settings.{Settings}
+use Rattle.jwalk_ignore.specs.Callback.Settings.{Settings}
 use Rattle.jwalk_subtotals.specs.Counted.{HaveSame, files_after}
 use Rattle.jwalk_subtotals.specs.Files.{files_of}
 use Rattle.jwalk_subtotals.specs.Subtotals.{subtotals_beside}

@@ -3,6 +3,7 @@ mod braces;
 mod disk;
 mod errors;
 mod folder;
+mod given;
 mod kept;
 mod names;
 mod options;

@@ -9,11 +9,10 @@ use Rattle.jwalk.specs.jwalk_job.Given.{Given}
 use Rattle.jwalk_ignore.specs.Rules.Chain.{is_ignored}
 use Rattle.jwalk_ignore.specs.Rules.Line.{patterns_of}
 use Rattle.jwalk_ignore.specs.Callback.MadeDepths.{filter_at}
+use Rattle.jwalk_ignore.specs.Callback.Settings.{patterns_in}
 use Rattle.jwalk_ignore.specs.Rules.Matching.{patterns_say}
 use Rattle.jwalk_ignore.specs.Pattern.{Pattern}
 use Rattle.jwalk_ignore.specs.Pattern.PatternText.{without_first_slash}
-use Rattle.jwalk_ignore.specs.Rules.{rules_value}
-use Rattle.jwalk_ignore.specs.jwalk_ignore_rules.declared.rules.Rules.{Rules}
 use Rattle.jwalk_ignore.specs.declared.callback.excluding.Excluding.{Excluding}
 
 -- the patterns, and how long the root's path is
@@ -28,10 +27,6 @@ lines_text = flat_map (λ line. line ++ 10 ∷ [])
 -- what is left out by lines, below a root with this path
 abbrev pub excluded_by : List (List ℕ) → List ℕ → Excluded
 excluded_by lines root = record { patterns = patterns_of (lines_text lines); root_len = length root }
-
-abbrev pub patterns_in : {A : Type 0} → Option (Rules A) → List Pattern
-patterns_in None = []
-patterns_in (Some rules) = rules_value rules
 
 -- what a callback leaves out
 abbrev pub excluded_of : Excluding → Excluded

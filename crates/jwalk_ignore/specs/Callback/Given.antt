@@ -1,5 +1,5 @@
 -- What is given of a walk that honours ignore files, and has no other callback.
-use Rattle.std.specs.Prelude.{true, false}
+use Rattle.std.specs.Prelude.{true, false, []}
 use Rattle.jwalk.specs.jwalk_model.Counted.{Worth, blank, both}
 use Rattle.jwalk.specs.jwalk_model.FileSystem.{Functions}
 use Rattle.jwalk.specs.jwalk_model.Job.{Job, KeepsDepthsOf, Processing}
@@ -14,7 +14,7 @@ use Rattle.jwalk_ignore.specs.Callback.IgnoreFiles.{Made, by_rules}
 use Rattle.jwalk_ignore.specs.Callback.MadeDepths.{by_rules_at}
 use Rattle.jwalk_ignore.specs.Rules.Texts.{Texts}
 use Rattle.jwalk_ignore_rules.specs.declared.rules.chain.Chain.{Chain}
-use Rattle.jwalk_ignore.specs.declared.callback.settings.Settings.{Settings}
+use Rattle.jwalk_ignore.specs.Callback.Settings.{Settings}
 
 -- A callback that is given what rules leave keeps depths with them.
 pub ignoring-KeepsDepthsOf : (settings : Settings) (texts : Texts) (next : Processing Worth Worth) → KeepsDepthsOf next → KeepsDepthsOf (ignoring settings texts next)
@@ -22,9 +22,9 @@ ignoring-KeepsDepthsOf settings texts next keeps depth path state list h =
     let left : Made Worth Worth = by_rules settings texts depth path (rules_of state) list in
     keeps depth path (with_chain left.chain state) left.list (by_rules_at (list_depth depth) settings texts depth path (rules_of state) list h)
 
--- what a new callback is set to: hidden names are dropped, `.gitignore` counts in repositories alone, rules above the root count, and `.fdignore` doesn't
+-- what a new callback is set to: hidden names are dropped, `.gitignore` counts in repositories alone, rules above the root count, `.fdignore` doesn't, and no rules are given
 abbrev pub first_settings : Settings
-first_settings = record { keeps_hidden = false; anywhere = false; version_control = true; above_the_root = true; fdignore = false }
+first_settings = record { keeps_hidden = false; anywhere = false; version_control = true; above_the_root = true; fdignore = false; given = [] }
 
 -- lists stay as they are
 abbrev pub lists_kept : Processing Worth Worth

@@ -1,5 +1,5 @@
 -- What the callback makes of lists: which rules are read, and what they leave.
-use Rattle.std.specs.Prelude.{ℕ, Bool, true, false, ◌&&◌, ◌||◌, not, List, [], ◌∷◌, ◌++◌, filter, find, fold, reverse, length, bytes_eq, codes, Option, Some, None, option_map, option_and_then, Result, Ok, Err, if◌then◌else◌}
+use Rattle.std.specs.Prelude.{ℕ, Bool, true, false, ◌&&◌, ◌||◌, not, List, [], ◌∷◌, ◌++◌, filter, find, fold, reverse, length, take, drop, bytes_eq, codes, Option, Some, None, option_map, option_and_then, Result, Ok, Err, if◌then◌else◌}
 use Rattle.std.specs.Option.{option_map_or}
 use Rattle.std.specs.declared.io.ErrorKind.{ErrorKind}
 use Rattle.std.specs.declared.io.ErrorKind.TheVariants as kind
@@ -9,15 +9,17 @@ use Rattle.jwalk.specs.jwalk_model.declared.file_type.FileType.{FileType}
 use Rattle.jwalk.specs.jwalk_model.Paths.{file_name, join}
 use Rattle.jwalk.specs.jwalk_model.Error.{io}
 use Rattle.jwalk.specs.jwalk_model.Entry.{Item, is_hidden}
-use Rattle.jwalk_ignore.specs.Rules.Chain.{Chain, below_root, entered, ignored, may_miss, place_in, with_link}
+use Rattle.jwalk_ignore.specs.Rules.Chain.{Chain, below_root, chain_says, entered, is_ignored, may_miss, place_in, with_link}
 use Rattle.jwalk_ignore.specs.Rules.Folder.{Folder, folders_above}
 use Rattle.jwalk_ignore.specs.Rules.Git.{git, git_at, is_git_dir, is_repository}
 use Rattle.jwalk_ignore.specs.Rules.Line.{patterns_of}
+use Rattle.jwalk_ignore.specs.Rules.Matching.{or_else, patterns_say}
 use Rattle.jwalk_ignore.specs.Pattern.{Pattern}
 use Rattle.jwalk_ignore.specs.Rules.Texts.{Texts}
+use Rattle.jwalk_ignore_rules.specs.declared.rules.decision.Decision.{Decision}
 use Rattle.jwalk_ignore_rules.specs.declared.rules.rules_kind.RulesKind.{RulesKind}
 use Rattle.jwalk_ignore_rules.specs.declared.rules.rules_kind.RulesKind.TheVariants as rules
-use Rattle.jwalk_ignore.specs.declared.callback.settings.Settings.{Settings}
+use Rattle.jwalk_ignore.specs.Callback.Settings.{Settings}
 
 -- the file that has rules of a kind, below their directory
 abbrev pub file_of : RulesKind → List ℕ
@@ -167,16 +169,25 @@ abbrev pub is_shown : {R E : Type 0} → Settings → Item R E → Bool
 is_shown settings (Ok e) = not (bytes_eq e.file_name git) && (settings.keeps_hidden || not (is_hidden e.file_name))
 is_shown settings (Err f) = true
 
--- whether rules that are in force in the directory at a place don't ignore an item
-abbrev pub is_kept : {R E : Type 0} → Chain → List ℕ → Item R E → Bool
-is_kept chain place (Ok e) = not (ignored chain (place ++ 47 ∷ e.file_name) (is_dir e.file_type))
-is_kept chain place (Err f) = true
+-- a path without a `./` in front
+abbrev pub without_dot : List ℕ → List ℕ
+without_dot path = if bytes_eq (take 2 path) (codes "./") then drop 2 path else path
+
+-- what the rules that are given say of a name in a directory: they match its path
+abbrev pub given_says : List Pattern → List ℕ → List ℕ → Bool → Decision
+given_says given directory name is_dir = patterns_say given (without_dot (directory ++ 47 ∷ name)) is_dir
+
+-- whether an item of a directory stays: the rules in force at its place don't ignore it, nor do those that are given where these say nothing
+abbrev pub is_kept : {R E : Type 0} → List Pattern → List ℕ → Chain → List ℕ → Item R E → Bool
+is_kept given directory chain place (Ok e) =
+    not (is_ignored (or_else (chain_says chain (place ++ 47 ∷ e.file_name) (is_dir e.file_type)) (given_says given directory e.file_name (is_dir e.file_type))))
+is_kept given directory chain place (Err f) = true
 
 -- a directory's list: its rules are read, and then what is hidden or ignored is dropped
 abbrev pub in_directory : {R E : Type 0} → Settings → Texts → List ℕ → Chain → List (Item R E) → Made R E
 in_directory settings texts directory chain list =
     let own = own_rules settings texts directory chain list in
-    record { chain = own.chain; list = filter (is_kept own.chain (place_in own.chain directory)) (filter (is_shown settings) own.list) }
+    record { chain = own.chain; list = filter (is_kept settings.given directory own.chain (place_in own.chain directory)) (filter (is_shown settings) own.list) }
 
 -- the path of an item's directory
 abbrev pub root_of : {R E : Type 0} → Item R E → Option (List ℕ)

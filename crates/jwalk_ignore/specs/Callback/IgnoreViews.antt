@@ -10,7 +10,7 @@ use Rattle.jwalk_ignore.specs.Callback.IgnoreFiles.{by_rules}
 use Rattle.jwalk_ignore.specs.Rules.Texts.{Texts}
 use Rattle.jwalk_ignore_rules.specs.declared.rules.chain.Chain.{Chain}
 use Rattle.jwalk_ignore.specs.declared.callback.ignore_files.IgnoreFiles.{IgnoreFiles}
-use Rattle.jwalk_ignore.specs.declared.callback.settings.Settings.{Settings}
+use Rattle.jwalk_ignore.specs.Callback.Settings.{Settings, settings_value}
 
 -- the parts of a callback of this kind
 module _ {T P : Type 0} where
@@ -18,7 +18,7 @@ module _ {T P : Type 0} where
   texts_of it = it.reader.texts
 
   abbrev pub settings_of : IgnoreFiles T P → Settings
-  settings_of it = it.reader.settings
+  settings_of it = settings_value it.reader.settings
 
   abbrev pub next_of : IgnoreFiles T P → P
   next_of it = it.next

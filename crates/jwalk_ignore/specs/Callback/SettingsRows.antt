@@ -7,7 +7,7 @@ use Rattle.jwalk_ignore.specs.Callback.IgnoreFiles.{all_kinds, is_read, is_read_
 use Rattle.jwalk_ignore.specs.Rules.Folder.{Folder}
 use Rattle.jwalk_ignore_rules.specs.declared.rules.rules_kind.RulesKind.{RulesKind}
 use Rattle.jwalk_ignore_rules.specs.declared.rules.rules_kind.RulesKind.TheVariants.{Fdignore, Ignore, Gitignore, Exclude}
-use Rattle.jwalk_ignore.specs.declared.callback.settings.Settings.{Settings}
+use Rattle.jwalk_ignore.specs.Callback.Settings.{Settings}
 
 -- the kinds that are read in a directory that is in a repository or not, whose `.git` leads to this
 abbrev read : Settings → Bool → Option FileType → List RulesKind

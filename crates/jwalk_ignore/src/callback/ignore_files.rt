@@ -4,6 +4,7 @@ ghost use Rattle.std.specs.Prelude.{◌≡◌};
 use crate::callback::rules_reader::RulesReader;
 use crate::callback::settings::Settings;
 use crate::callback::source::Made;
+use crate::rules::Rules;
 use crate::rules::chain::Chain;
 use crate::rules::texts::Texts;
 use jwalk::read_dir::{NoProcess, ProcessReadDir};
@@ -63,6 +64,7 @@ impl<T: Texts> IgnoreFiles<T, NoProcess> {
                     version_control: true,
                     above_the_root: true,
                     fdignore: false,
+                    given: None,
                 },
             },
             next: NoProcess,
@@ -72,6 +74,7 @@ impl<T: Texts> IgnoreFiles<T, NoProcess> {
 
 impl<T: Texts, P: Drop> IgnoreFiles<T, P> {
     ghost use Rattle.jwalk_ignore.specs.Callback.IgnoreViews.{next_of, settings_of, texts_of};
+    ghost use Rattle.jwalk_ignore.specs.Rules.{rules_value};
 
     /// Sets whether hidden names stay. Off by default.
     pub fn keep_hidden(mut self, keep: bool) -> Self
@@ -122,6 +125,18 @@ impl<T: Texts, P: Drop> IgnoreFiles<T, P> {
         ensures next { next_of result ≡ next_of self }
     {
         self.reader.settings.fdignore = counts;
+        self
+    }
+
+    /// Sets rules that are given, in place of a file's. They decide on all below the root where no file of rules says
+    /// anything, and match the paths of entries as the walk makes them, without a `./` in front: if the root's path is
+    /// relative, a slash in front of a pattern is the folder that the program runs in, and else it is `/`.
+    pub fn given(mut self, rules: Rules) -> Self
+        ensures settings { settings_of result ≡ record (settings_of self) { given = rules_value rules } }
+        ensures texts { texts_of result ≡ texts_of self }
+        ensures next { next_of result ≡ next_of self }
+    {
+        self.reader.settings.given = Some(rules);
         self
     }
 

@@ -3,6 +3,7 @@ ghost use Rattle.std.specs.Prelude.{◌≡◌, IfOk, map, filter, find, option_m
 ghost use Rattle.jwalk.specs.jwalk_job.Entry.{item};
 ghost use Rattle.jwalk.specs.jwalk_model.Entry.{is_hidden};
 ghost use Rattle.jwalk_ignore.specs.Callback.IgnoreFiles.{depth_of, git_by, git_in, is_git, is_git_path, is_shown, kind_of, kind_of_file, own_kind, root_of};
+ghost use Rattle.jwalk_ignore.specs.Callback.Settings.{settings_value};
 
 use crate::callback::settings::Settings;
 use crate::rules::git::git_at;
@@ -133,10 +134,10 @@ fn is_hidden(name: &str) -> bool
 
 /// Returns whether an item is an error, or an entry that is neither `.git` nor hidden.
 fn is_shown<C: ClientState, A: Allocator + Copy>(
-    settings: Settings,
+    settings: &Settings,
     found: &Result<DirEntry<C, A>, Error<A>>,
 ) -> bool
-    ensures { result ≡ is_shown settings (item found.now) }
+    ensures { result ≡ is_shown (settings_value settings.now) (item found.now) }
 {
     match found {
         Ok(entry) => {
@@ -148,10 +149,10 @@ fn is_shown<C: ClientState, A: Allocator + Copy>(
 }
 
 pub(crate) fn drop_hidden<C: ClientState, A: Allocator + Copy>(
-    settings: Settings,
+    settings: &Settings,
     list: &mut Vec<Result<DirEntry<C, A>, Error<A>>, A>,
 )
-    ensures { map item list.new.items ≡ filter (is_shown settings) (map item list.old.items) }
+    ensures { map item list.new.items ≡ filter (is_shown (settings_value settings.now)) (map item list.old.items) }
 {
     list.retain(|found| is_shown(settings, found));
 }

@@ -6,13 +6,15 @@ ghost use Rattle.jwalk_ignore.specs.Rules.Chain.{place_in};
 ghost use Rattle.jwalk_ignore.specs.Rules.ChainViews.{chain_value};
 ghost use Rattle.jwalk_ignore.specs.Rules.Folder.{folder_value};
 ghost use Rattle.jwalk_ignore.specs.Callback.IgnoreFiles.{at_root, by_rules, if_read, in_directory, is_kept, is_read, is_read_above, kind_of, own_rules, with_above, with_absolute, with_folder, with_folders, with_listed, with_root_item};
-ghost use Rattle.jwalk_ignore.specs.Callback.Places.{IsPlaced};
+ghost use Rattle.jwalk_ignore.specs.Callback.EntryRules.{Decide};
+ghost use Rattle.jwalk_ignore.specs.Callback.Settings.{patterns_in, settings_value};
 ghost use Rattle.jwalk_ignore.specs.Callback.Sources.{made_value};
 
+use crate::callback::entry_rules::EntryRules;
 use crate::callback::listed::{depth_of, drop_hidden, git_in, kind_of, root_of};
-use crate::callback::places::Places;
 use crate::callback::settings::Settings;
 use crate::callback::source::{Made, Source};
+use crate::rules::Rules;
 use crate::rules::chain::Chain;
 use crate::rules::folder::{Folder, folders_above};
 use crate::rules::git::is_repository;
@@ -41,35 +43,18 @@ struct Directory<'p> {
     git: Option<FileType>,
 }
 
-fn is_kept<C: ClientState, A: Allocator + Copy>(
-    chain: &Chain<A>,
-    places: &mut Places<A>,
-    found: &Result<DirEntry<C, A>, Error<A>>,
-) -> Result<bool, AllocError>
-    ensures kept { (place : _) → IsPlaced place places.old
-        → IfOk result (λ kept. kept ≡ is_kept (chain_value chain.now) place (item found.now)) }
-    ensures places { (place : _) → IsPlaced place places.old → IsPlaced place places.new }
-{
-    match found {
-        Ok(entry) => {
-            places.set_name(entry.file_name.as_str())?;
-            Ok(!chain.ignores(places.bytes(), entry.file_type.is_dir()))
-        }
-        Err(_) => Ok(true),
-    }
-}
-
 fn push_kept<C: ClientState, A: Allocator + Copy>(
-    chain: &Chain<A>,
-    places: &mut Places<A>,
+    rules: &mut EntryRules<'_, A>,
     found: Result<DirEntry<C, A>, Error<A>>,
     kept: &mut Vec<Result<DirEntry<C, A>, Error<A>>, A>,
 ) -> Result<(), AllocError>
-    ensures kept { (place : _) → IsPlaced place places.old → OnOk result (map item kept.new.items
-        ≡ map item kept.old.items ++ filter (is_kept (chain_value chain.now) place) (item found ∷ [])) }
-    ensures places { (place : _) → IsPlaced place places.old → IsPlaced place places.new }
+    ensures kept { (given : _) → (directory : _) → (chain : _) → Decide given directory chain rules.old
+        → OnOk result (map item kept.new.items
+        ≡ map item kept.old.items ++ filter (is_kept given directory chain (place_in chain directory)) (item found ∷ [])) }
+    ensures rules { (given : _) → (directory : _) → (chain : _) → Decide given directory chain rules.old
+        → Decide given directory chain rules.new }
 {
-    if is_kept(chain, places, &found)? {
+    if rules.is_kept(&found)? {
         kept.push(found)?;
     }
     Ok(())
@@ -77,20 +62,21 @@ fn push_kept<C: ClientState, A: Allocator + Copy>(
 
 fn kept<C: ClientState, A: Allocator + Copy>(
     chain: &Chain<A>,
+    given: &Option<Rules>,
     directory: &str,
     list: Vec<Result<DirEntry<C, A>, Error<A>>, A>,
 ) -> Result<Vec<Result<DirEntry<C, A>, Error<A>>, A>, AllocError>
     ensures { IfOk result (λ kept. map item kept.items
-        ≡ filter (is_kept (chain_value chain.now) (place_in (chain_value chain.now) directory.now)) (map item list.items)) }
+        ≡ filter (is_kept (patterns_in given.now) directory.now (chain_value chain.now) (place_in (chain_value chain.now) directory.now)) (map item list.items)) }
 {
-    if !chain.has_rules() {
+    if given.is_none() && !chain.has_rules() {
         return Ok(list);
     }
     let alloc = *list.allocator();
-    let mut places = Places::new(chain.place(alloc, directory)?)?;
+    let mut rules = EntryRules::new(alloc, chain, given, directory)?;
     let mut kept = Vec::with_capacity(alloc, list.len())?;
     for found in list {
-        push_kept(chain, &mut places, found, &mut kept)?;
+        push_kept(&mut rules, found, &mut kept)?;
     }
     Ok(kept)
 }
@@ -102,7 +88,7 @@ impl<T: Texts> RulesReader<T> {
         of: Directory<'_>,
         found: &Result<DirEntry<C, A>, Error<A>>,
     ) -> Option<RulesKind>
-        ensures { result ≡ if_read (is_read self.now.settings of.entry.in_repository of.entry.git) (kind_of (item found.now)) }
+        ensures { result ≡ if_read (is_read (settings_value self.now.settings) of.entry.in_repository of.entry.git) (kind_of (item found.now)) }
     {
         match kind_of(found) {
             Some(kind) if self.settings.is_read(of.in_repository, of.git, kind) => Some(kind),
@@ -117,7 +103,7 @@ impl<T: Texts> RulesReader<T> {
         made: &mut Made<C, A>,
     ) -> Result<(), AllocError>
         ensures value { T.IsFixed self.now.texts → OnOk result (made_value made.new
-            ≡ with_listed (T.functions self.now.texts) (is_read self.now.settings of.entry.in_repository of.entry.git)
+            ≡ with_listed (T.functions self.now.texts) (is_read (settings_value self.now.settings) of.entry.in_repository of.entry.git)
             of.entry.path.now of.entry.before (made_value made.old) (item found)) }
         ensures depth { (depth : _) → AtDepth depth (item found ∷ []) → AtDepth depth (map item made.old.list.items)
             → OnOk result (AtDepth depth (map item made.new.list.items)) }
@@ -145,7 +131,7 @@ impl<T: Texts> RulesReader<T> {
         made: &mut Made<C, A>,
     ) -> Result<(), AllocError>
         ensures value { T.IsFixed self.now.texts → OnOk result (made_value made.new
-            ≡ fold (with_listed (T.functions self.now.texts) (is_read self.now.settings of.entry.in_repository of.entry.git)
+            ≡ fold (with_listed (T.functions self.now.texts) (is_read (settings_value self.now.settings) of.entry.in_repository of.entry.git)
             of.entry.path.now of.entry.before)
             (made_value made.old) (map item list.items)) }
         ensures depth { (depth : _) → AtDepth depth (map item list.items) → AtDepth depth (map item made.old.list.items)
@@ -164,7 +150,7 @@ impl<T: Texts> RulesReader<T> {
         list: Vec<Result<DirEntry<C, A>, Error<A>>, A>,
     ) -> Result<Made<C, A>, AllocError>
         ensures value { T.IsFixed self.now.texts → IfOk result (λ made. made_value made
-            ≡ own_rules self.now.settings (T.functions self.now.texts) directory.now (chain_value chain) (map item list.items)) }
+            ≡ own_rules (settings_value self.now.settings) (T.functions self.now.texts) directory.now (chain_value chain) (map item list.items)) }
         ensures depth { (depth : _) → AtDepth depth (map item list.items)
             → IfOk result (λ made. AtDepth depth (map item made.list.items)) }
     {
@@ -193,13 +179,13 @@ impl<T: Texts> RulesReader<T> {
         list: Vec<Result<DirEntry<C, A>, Error<A>>, A>,
     ) -> Result<Made<C, A>, AllocError>
         ensures value { T.IsFixed self.now.texts → IfOk result (λ made. made_value made
-            ≡ in_directory self.now.settings (T.functions self.now.texts) directory.now (chain_value chain) (map item list.items)) }
+            ≡ in_directory (settings_value self.now.settings) (T.functions self.now.texts) directory.now (chain_value chain) (map item list.items)) }
         ensures depth { (depth : _) → AtDepth depth (map item list.items)
             → IfOk result (λ made. AtDepth depth (map item made.list.items)) }
     {
         let Made { chain, mut list } = self.own_rules(directory, chain, list)?;
-        drop_hidden(self.settings, &mut list);
-        let list = kept(&chain, directory, list)?;
+        drop_hidden(&self.settings, &mut list);
+        let list = kept(&chain, &self.settings.given, directory, list)?;
         Ok(Made { chain, list })
     }
 
@@ -211,8 +197,8 @@ impl<T: Texts> RulesReader<T> {
         made: &mut Made<C, A>,
     ) -> Result<(), AllocError>
         ensures value { T.IsFixed self.now.texts → OnOk result (made_value made.new
-            ≡ with_above self.now.settings (T.functions self.now.texts) (folder_value folder.entry)
-            (is_read_above self.now.settings (folder_value folder.entry) in_repository kind) kind (made_value made.old)) }
+            ≡ with_above (settings_value self.now.settings) (T.functions self.now.texts) (folder_value folder.entry)
+            (is_read_above (settings_value self.now.settings) (folder_value folder.entry) in_repository kind) kind (made_value made.old)) }
         ensures depth { (depth : _) → AtDepth depth (map item made.old.list.items)
             → OnOk result (AtDepth depth (map item made.new.list.items)) }
     {
@@ -228,7 +214,7 @@ impl<T: Texts> RulesReader<T> {
         made: &mut Made<C, A>,
     ) -> Result<(), AllocError>
         ensures value { T.IsFixed self.now.texts → OnOk result (made_value made.new
-            ≡ with_folder self.now.settings (T.functions self.now.texts) (made_value made.old) (folder_value folder.entry)) }
+            ≡ with_folder (settings_value self.now.settings) (T.functions self.now.texts) (made_value made.old) (folder_value folder.entry)) }
         ensures depth { (depth : _) → AtDepth depth (map item made.old.list.items)
             → OnOk result (AtDepth depth (map item made.new.list.items)) }
     {
@@ -246,7 +232,7 @@ impl<T: Texts> RulesReader<T> {
         made: &mut Made<C, A>,
     ) -> Result<(), AllocError>
         ensures value { T.IsFixed self.now.texts → OnOk result (made_value made.new
-            ≡ fold (with_folder self.now.settings (T.functions self.now.texts)) (made_value made.old)
+            ≡ fold (with_folder (settings_value self.now.settings) (T.functions self.now.texts)) (made_value made.old)
             (map folder_value folders.entry.items)) }
         ensures depth { (depth : _) → AtDepth depth (map item made.old.list.items)
             → OnOk result (AtDepth depth (map item made.new.list.items)) }
@@ -264,7 +250,7 @@ impl<T: Texts> RulesReader<T> {
         made: &mut Made<C, A>,
     ) -> Result<(), AllocError>
         ensures value { T.IsFixed self.now.texts → OnOk result (made_value made.new
-            ≡ with_folders self.now.settings (T.functions self.now.texts) absolute.now (made_value made.old)) }
+            ≡ with_folders (settings_value self.now.settings) (T.functions self.now.texts) absolute.now (made_value made.old)) }
         ensures depth { (depth : _) → AtDepth depth (map item made.old.list.items)
             → OnOk result (AtDepth depth (map item made.new.list.items)) }
     {
@@ -281,7 +267,7 @@ impl<T: Texts> RulesReader<T> {
         made: &mut Made<C, A>,
     ) -> Result<(), AllocError>
         ensures value { T.IsFixed self.now.texts → OnOk result (made_value made.new
-            ≡ with_absolute self.now.settings (T.functions self.now.texts) root.now (made_value made.old)
+            ≡ with_absolute (settings_value self.now.settings) (T.functions self.now.texts) root.now (made_value made.old)
             ((T.functions self.now.texts).absolute_of root.now)) }
         ensures depth { (depth : _) → AtDepth depth (map item made.old.list.items)
             → OnOk result (AtDepth depth (map item made.new.list.items)) }
@@ -308,7 +294,7 @@ impl<T: Texts> RulesReader<T> {
         made: &mut Made<C, A>,
     ) -> Result<(), AllocError>
         ensures value { T.IsFixed self.now.texts → OnOk result (made_value made.new
-            ≡ with_root_item self.now.settings (T.functions self.now.texts) (made_value made.old) (item found)) }
+            ≡ with_root_item (settings_value self.now.settings) (T.functions self.now.texts) (made_value made.old) (item found)) }
         ensures depth { (depth : _) → AtDepth depth (item found ∷ []) → AtDepth depth (map item made.old.list.items)
             → OnOk result (AtDepth depth (map item made.new.list.items)) }
     {
@@ -326,7 +312,7 @@ impl<T: Texts> RulesReader<T> {
         made: &mut Made<C, A>,
     ) -> Result<(), AllocError>
         ensures value { T.IsFixed self.now.texts → OnOk result (made_value made.new
-            ≡ fold (with_root_item self.now.settings (T.functions self.now.texts)) (made_value made.old) (map item list.items)) }
+            ≡ fold (with_root_item (settings_value self.now.settings) (T.functions self.now.texts)) (made_value made.old) (map item list.items)) }
         ensures depth { (depth : _) → AtDepth depth (map item list.items) → AtDepth depth (map item made.old.list.items)
             → OnOk result (AtDepth depth (map item made.new.list.items)) }
     {
@@ -343,7 +329,7 @@ impl<T: Texts> RulesReader<T> {
         list: Vec<Result<DirEntry<C, A>, Error<A>>, A>,
     ) -> Result<Made<C, A>, AllocError>
         ensures value { T.IsFixed self.now.texts → IfOk result (λ made. made_value made
-            ≡ at_root self.now.settings (T.functions self.now.texts) (chain_value chain) (map item list.items)) }
+            ≡ at_root (settings_value self.now.settings) (T.functions self.now.texts) (chain_value chain) (map item list.items)) }
         ensures depth { (depth : _) → AtDepth depth (map item list.items)
             → IfOk result (λ made. AtDepth depth (map item made.list.items)) }
     {
@@ -363,7 +349,7 @@ impl<T: Texts> RulesReader<T> {
         list: Vec<Result<DirEntry<C, A>, Error<A>>, A>,
     ) -> Result<Made<C, A>, AllocError>
         ensures value { T.IsFixed self.now.texts → IfOk result (λ made. made_value made
-            ≡ by_rules self.now.settings (T.functions self.now.texts) depth path.now (chain_value chain) (map item list.items)) }
+            ≡ by_rules (settings_value self.now.settings) (T.functions self.now.texts) depth path.now (chain_value chain) (map item list.items)) }
         ensures depth { (depth : _) → AtDepth depth (map item list.items)
             → IfOk result (λ made. AtDepth depth (map item made.list.items)) }
     {

@@ -2,13 +2,14 @@
 ghost use Rattle.std.specs.Prelude.{◌≡◌};
 ghost use Rattle.jwalk_ignore.specs.Callback.IgnoreFiles.{goes_on};
 
+use crate::rules::Rules;
 use crate::rules::folder::Folder;
 use crate::rules::git::is_git_dir;
 use crate::rules::rules_kind::RulesKind;
 use jwalk::file_system::FileType;
 
 /// How rules are used.
-#[derive(Clone, Copy, Debug)]
+#[derive(Drop)]
 pub(crate) struct Settings {
     /// Hidden names stay.
     pub(crate) keeps_hidden: bool,
@@ -20,6 +21,8 @@ pub(crate) struct Settings {
     pub(crate) above_the_root: bool,
     /// `.fdignore` counts.
     pub(crate) fdignore: bool,
+    /// The rules that decide where those in force say nothing, if there are some.
+    pub(crate) given: Option<Rules>,
 }
 
 /// Returns whether rules of a kind go on in a repository inside another.
@@ -35,11 +38,17 @@ fn goes_on(kind: RulesKind) -> bool
 impl Settings {
     ghost use Rattle.jwalk_ignore.specs.Rules.Folder.{folder_value};
     ghost use Rattle.jwalk_ignore.specs.Callback.IgnoreFiles.{is_read, is_read_above};
+    ghost use Rattle.jwalk_ignore.specs.Callback.Settings.{settings_value};
 
     /// Returns whether files of a kind are read in a directory that is in a repository or not, and whose `.git` leads
     /// to this.
-    pub(crate) fn is_read(self, in_repository: bool, git: Option<FileType>, kind: RulesKind) -> bool
-        ensures { result ≡ is_read self in_repository git kind }
+    pub(crate) fn is_read(
+        &self,
+        in_repository: bool,
+        git: Option<FileType>,
+        kind: RulesKind,
+    ) -> bool
+        ensures { result ≡ is_read (settings_value self.now) in_repository git kind }
     {
         match kind {
             RulesKind::Fdignore => self.fdignore,
@@ -51,12 +60,12 @@ impl Settings {
 
     /// Returns whether files of a kind are read in a folder above the root that is in a repository or not.
     pub(crate) fn is_read_above(
-        self,
+        &self,
         folder: Folder<'_>,
         in_repository: bool,
         kind: RulesKind,
     ) -> bool
-        ensures { result ≡ is_read_above self (folder_value folder.entry) in_repository kind }
+        ensures { result ≡ is_read_above (settings_value self.now) (folder_value folder.entry) in_repository kind }
     {
         self.above_the_root
             && (goes_on(kind) || !folder.is_outer)

@@ -60,10 +60,6 @@ is_ignored Ignored = true
 is_ignored Kept = false
 is_ignored Unsaid = false
 
--- whether the rules in force ignore a path
-abbrev pub ignored : Chain → List ℕ → Bool → Bool
-ignored chain path is_dir = is_ignored (chain_says chain path is_dir)
-
 -- where a directory is, by the root's absolute path
 abbrev pub place_in : Chain → List ℕ → List ℕ
 place_in chain directory = chain.front ++ drop chain.root_len directory

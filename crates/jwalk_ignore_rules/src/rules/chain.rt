@@ -1,7 +1,7 @@
 //! The rules in force in a directory.
 ghost use Rattle.std.specs.Prelude.{◌≡◌, IfOk, OnOk, length, string_bytes};
 ghost use Rattle.std.specs.Arc.{arc_value};
-ghost use Rattle.jwalk_ignore_rules.specs.Rules.Chain.{below_root, chain_says, entered, has_rules, ignored, links_say, no_rules, place_in, with_link};
+ghost use Rattle.jwalk_ignore_rules.specs.Rules.Chain.{below_root, chain_says, entered, has_rules, links_say, no_rules, place_in, with_link};
 ghost use Rattle.jwalk_ignore_rules.specs.Rules.ChainViews.{chain_value, in_force_value, link_value, links_value};
 
 use crate::rules::decision::Decision;
@@ -274,13 +274,13 @@ impl<A: Allocator + Copy> Chain<A> {
         }
     }
 
-    /// Returns whether the rules ignore what is at a place.
-    pub fn ignores(&self, place: &[u8], is_dir: bool) -> bool
-        ensures { result ≡ ignored (chain_value self.now) place.now is_dir }
+    /// Returns what the rules say of what is at a place.
+    pub fn decision(&self, place: &[u8], is_dir: bool) -> Decision
+        ensures { result ≡ chain_says (chain_value self.now) place.now is_dir }
     {
         match &self.in_force {
-            Some(rules) => rules.decision(place, is_dir).is_ignored(),
-            None => false,
+            Some(rules) => rules.decision(place, is_dir),
+            None => Decision::Unsaid,
         }
     }
 }

@@ -5,7 +5,7 @@ ghost use Rattle.jwalk_ignore_rules.specs.Rules.Line.{is_space, text_of, trimmed
 use crate::pattern::pieces::split_piece;
 
 /// Returns a file's bytes without the byte order mark that they begin with.
-pub(crate) fn without_mark(bytes: &[u8]) -> &[u8]
+pub fn without_mark(bytes: &[u8]) -> &[u8]
     ensures { result.now ≡ without_mark bytes.now }
 {
     match bytes {

@@ -9,6 +9,7 @@ use std::alloc::{AllocError, Global};
 use std::process::Abort;
 use std::time::Clock;
 use test_fixtures::host::Host;
+use user_excludes::home::Home;
 use walk_text::tree::build_tree;
 
 /// A tree with names of several kinds, of which one is hidden, and two links.
@@ -63,6 +64,10 @@ pub(crate) fn called_by<S: FileSystem + Send + Sync + 'static, X: Texts + Send +
             disk,
             texts,
             words.as_slice(),
+            Home {
+                home: "/home/u",
+                config: "",
+            },
             Screen {
                 is_terminal: on_terminal,
                 no_color: true,

@@ -29,7 +29,7 @@ returns-then-asked-clause-bad_words g c = bad_ends _ _ (returns-then-asked-claus
 pub returns-then-asked-clause-done : goal.returns-then-asked-clause-done
 returns-then-asked-clause-done g c = λ zero.
     let read = c.in-Ok.ensures.asked in
-    let found = ok_twice c.search_asked-ended.result _ _ (c.status_of.ensures.done zero) c.search_asked-ended.ensures.found in
+    let found = ok_twice c.search_read-ended.result _ _ (c.status_of.ensures.done zero) c.search_read-ended.ensures.found in
     inr (record {
       asked = _;
       ask = shown_ask_for _ _ _ _ read.0;
@@ -54,9 +54,9 @@ returns-clause-bad_words g c = bad_ends _ _ (returns-clause-ends g c)
 pub returns-clause-done : goal.returns-clause-done
 returns-clause-done g c = λ zero.
     let read = c.in-Ok.ensures.asked in
-    let ended = c.search_asked-ended-2.ensures in
-    let prints = ok_twice c.search_asked-ended-2.result _ _ (c.status_of-2.ensures.done zero) ended.yielded in
-    let whole = ok_twice c.search_asked-ended-2.result _ _ (c.status_of-2.ensures.done zero) ended.whole in
+    let ended = c.search_read-ended-2.ensures in
+    let prints = ok_twice c.search_read-ended-2.result _ _ (c.status_of-2.ensures.done zero) ended.yielded in
+    let whole = ok_twice c.search_read-ended-2.result _ _ (c.status_of-2.ensures.done zero) ended.whole in
     inr (record {
       asked = _;
       ask = shown_ask_for _ _ _ _ read.0;
@@ -66,6 +66,6 @@ returns-clause-done g c = λ zero.
       times = λ both.
           let known = c.in-Ok-times_of.ensures both.0 in record { now = known.now; after = known.after; before = known.before; after_file = known.after_file };
       quiet = λ quiet. absurd (true≢false (sym quiet ∙ c.if-asked.false));
-      yielded = λ loud. rw c.in-Ok.ensures.unwritten at (rw prints.1 at prints.2);
+      yielded = λ loud. rw c.in-Ok.ensures.unwritten at (prints.2 prints.1);
       prints = λ both none. rw c.in-Ok.ensures.unwritten at (whole.2 none whole.1 both.0 both.1);
     })

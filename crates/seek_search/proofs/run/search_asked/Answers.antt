@@ -26,7 +26,7 @@ returns-clause-whole g c = λ none is fixed told.
     let sought = sought_by asked.prune (ap₂ (λ l sizes. let w : Wants = record { depths = asked.depths; kinds = asked.kinds; extensions = texts_of l; sizes = sizes; owner = asked.owner; times = asked.times } in w) c.as_slice.ensures.value c.as_slice-2.ensures.value) c.in_ok-new.ensures (c.in_ok-path_of.ensures.front told) in
     written_last (g.W.Write.contents c.args.out.now) (g.W.Write.contents c.search_roots.new.out) (g.W.Write.contents c.finish.new.out)
     (gathered_of c.in_ok-lines.lines) (gathered_of c.search_roots.new.printer.lines) c.in_ok-lines.ensures.empty
-    (printed_over asked (ap (λ (d : KeptLinks _). functions_kept d.follow (g.S.FileSystem.functions d.disk)) disk) (ap g.X.Texts.functions texts) sought
+    (printed_over c.args.given.now asked (ap (λ (d : KeptLinks _). functions_kept d.follow (g.S.FileSystem.functions d.disk)) disk) (ap g.X.Texts.functions texts) sought
     (c.in_ok-lines.ensures.form ∙ c.in_ok-layout.ensures ∙ ap (λ front. form_before front c.args.screen asked) (c.in_ok-absolute.ensures.front told)) over)
     c.in_ok-finish.ensures.written
 
@@ -43,7 +43,7 @@ returns-clause-yielded g c =
       printed = such_written_last (g.W.Write.contents c.args.out.now) (g.W.Write.contents c.search_roots.new.out) (g.W.Write.contents c.finish.new.out)
           (gathered_of c.in_ok-lines.lines) (gathered_of c.search_roots.new.printer.lines) c.in_ok-lines.ensures.empty
           (such_printed_by sought (c.in_ok-lines.ensures.form ∙ c.in_ok-layout.ensures) c.limit_of-left.ensures
-          (printed_such (same_below _ _ asked _ (roots_asked asked) c.in_ok-shared.ensures c.in_ok-shared-2.ensures sought) c.in_ok-clean.ensures.yielded))
+          (printed_such (same_below _ _ _ asked _ (roots_asked asked) c.in_ok-shared.ensures c.in_ok-shared-2.ensures sought) c.in_ok-clean.ensures.yielded))
           c.in_ok-finish.ensures.written;
     }
 
@@ -57,6 +57,6 @@ returns-clause-found g c = λ quiet full.
       front = option_map front_of c.in_ok-path_of.field-0;
       in_front = sym (some_mapped front_of c.in_ok-path_of.field-0) ∙ c.in_ok-path_of.ensures.wanted;
       answers = yielded.answers;
-      yielded = stops_somewhere _ _ _ _ asked _ _ (roots_asked asked) yielded.answers (same_below _ _ asked _ (roots_asked asked) c.in_ok-shared.ensures c.in_ok-shared-2.ensures sought yielded.answers yielded.such);
+      yielded = stops_somewhere _ _ _ _ _ asked _ _ (roots_asked asked) yielded.answers (same_below _ _ _ asked _ (roots_asked asked) c.in_ok-shared.ensures c.in_ok-shared-2.ensures sought yielded.answers yielded.such);
       found = subst (λ (s : Sought). list_any (is_hit s) yielded.answers ≡ true) sought (one_printed_of yielded one (c.is_full.ensures.full full));
     }

@@ -32,4 +32,6 @@ returns-clause-asked c = record {
   color = c.in_ok-color_of.ensures.color;
   print0 = c.is_named-11.ensures;
   threads = c.number_of.ensures;
+  ignore_files = c.in_ok-values_of-4.ensures;
+  no_global = c.is_named-12.ensures;
 }

@@ -34,9 +34,9 @@ returns-clause-whole g c =
     let texts = g.X.Texts.functions (arc_value self.texts) in
     let over : arc_value (file_system_of walk) ≡ arc_value self.disk = ap arc_value built.file_system ∙ c.in_ok-disk.ensures.cases in
     let from : arc_value (texts_in rules) ≡ arc_value self.texts
-    = ap arc_value (c.then-rules.ensures.texts ∙ c.rules_of.ensures.texts) ∙ c.in_ok-clone.ensures.cases in
-    let settings : settings_of rules ≡ settings_asked asked
-    = c.then-rules.ensures.settings ∙ c.rules_of.ensures.settings in
+    = ap arc_value (c.then-rules.ensures.texts ∙ c.in_ok-rules_of.ensures.texts) ∙ c.in_ok-texts.ensures.cases in
+    let settings : settings_of rules ≡ settings_asked self.lines.now asked
+    = c.then-rules.ensures.settings ∙ c.in_ok-rules_of.ensures.settings in
     let lines : excluded_of (next_of rules) ≡ excluded
     = ap excluded_of c.then-rules.ensures.next ∙ c.in_ok-excluding.ensures ∙ ap (λ l. excluded_by (flat_map lines_of (texts_of l)) c.args.root.now) c.as_slice.ensures.value in
     let options : options_of walk ≡ with_crew (is_some self.crew) (options_asked asked)
@@ -46,7 +46,7 @@ returns-clause-whole g c =
     (λ clean whole. λ fixed told none is.
     printed_as (ap (unpruned (sought_of takes_of c.args.printer.now.filter))
     (ignoring_same (ap g.S.FileSystem.functions over) (ap g.X.Texts.functions from) settings lines options (built.root ∙ c.in_ok-root.ensures.ok)
-    ∙ hidden_by_crew (ignoring (settings_asked asked) texts (excluding excluded)) (is_some self.crew) (g.S.FileSystem.functions (arc_value self.disk)) (options_asked asked) c.args.root.now no_rules_yet))
+    ∙ hidden_by_crew (ignoring (settings_asked self.lines.now asked) texts (excluding excluded)) (is_some self.crew) (g.S.FileSystem.functions (arc_value self.disk)) (options_asked asked) c.args.root.now no_rules_yet))
     (whole (subst g.S.FileSystem.IsFixed (sym over) fixed) (subst g.X.Texts.IsFixed (sym from) told) state none is))
     c.search_walk.ensures.whole
 
@@ -62,8 +62,8 @@ returns-clause-yielded g c =
       below = is.root ∙ built.root ∙ c.in_ok-root.ensures.ok;
       by_crew = is_some self.crew;
       options = is.options ∙ ap (with_skip_hidden false) (built.options ∙ ap (λ (o : WalkOptions). options_for o (is_some self.crew)) c.options.ensures);
-      texts_read = ap (λ x. arc_value (texts_in x.rules)) is.callback ∙ ap arc_value (set.texts ∙ c.rules_of.ensures.texts) ∙ c.in_ok-clone.ensures.cases;
-      settings = ap (λ x. settings_of x.rules) is.callback ∙ set.settings ∙ c.rules_of.ensures.settings;
+      texts_read = ap (λ x. arc_value (texts_in x.rules)) is.callback ∙ ap arc_value (set.texts ∙ c.in_ok-rules_of.ensures.texts) ∙ c.in_ok-texts.ensures.cases;
+      settings = ap (λ x. settings_of x.rules) is.callback ∙ set.settings ∙ c.in_ok-rules_of.ensures.settings;
       excluded = ap (λ x. excluded_of (next_of x.rules)) is.callback ∙ ap excluded_of set.next ∙ c.in_ok-excluding.ensures ∙ ap (λ l. excluded_by (flat_map lines_of (texts_of l)) c.args.root.now) c.as_slice.ensures.value;
       begins = ap rules_alone is.state ∙ ap (λ chain. both (chain_worth chain) blank) built.state.0;
     })))

@@ -8,7 +8,7 @@ use Rattle.jwalk_ignore.specs.Callback.Excluding.{excluded_by, excluded_of, excl
 use Rattle.jwalk_ignore.specs.Callback.Given.{no_rules_yet, rules_alone}
 use Rattle.jwalk_ignore.specs.Callback.IgnoreViews.{ignoring, next_of, settings_of, texts_of as texts_in}
 use Rattle.jwalk_ignore.specs.Rules.ChainWorth.{chain_worth}
-use Rattle.jwalk_ignore.specs.declared.callback.settings.Settings.{Settings}
+use Rattle.jwalk_ignore.specs.Callback.Settings.{Settings}
 use Rattle.jwalk_ignore.proofs.KeptFacts.{ignoring_same}
 use Rattle.program_parts.specs.Values.{texts_of}
 use Rattle.program_walks.specs.Options.{options_for, with_crew}

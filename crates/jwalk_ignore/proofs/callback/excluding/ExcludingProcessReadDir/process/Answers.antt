@@ -3,7 +3,8 @@ use Rattle.std.specs.List.{filter}
 use Rattle.jwalk.specs.jwalk_model.ReadDir.{list_depth}
 use Rattle.jwalk.specs.jwalk_job.Entry.{item}
 use Rattle.jwalk_ignore.specs.Rules.{rules_value}
-use Rattle.jwalk_ignore.specs.Callback.Excluding.{excluded_of, is_included, patterns_in, place_of}
+use Rattle.jwalk_ignore.specs.Callback.Excluding.{excluded_of, is_included, place_of}
+use Rattle.jwalk_ignore.specs.Callback.Settings.{patterns_in}
 use Rattle.jwalk_ignore.proofs.ExcludingFacts.{depths_kept, excludes_nothing, excludes_rest, processed_by}
 use Rattle.jwalk_ignore.proofs.callback.excluding.ExcludingProcessReadDir.process.Goals as goal
 

@@ -5,6 +5,7 @@ use Rattle.std.proofs.lemmas.Iterator.Adapters.{YieldsList-from_vec}
 use Rattle.std.proofs.lemmas.Iterator.Consumers.{YieldsList-end}
 use Rattle.std.proofs.lemmas.Result.{IfOk-from_err}
 use Rattle.jwalk.specs.jwalk_job.Entry.{item}
+use Rattle.jwalk_ignore.specs.Callback.Settings.{settings_value}
 use Rattle.jwalk_ignore.specs.Callback.IgnoreFiles.{with_root_item}
 use Rattle.jwalk_ignore.specs.Callback.MadeDepths.{more_at}
 use Rattle.jwalk_ignore.specs.Callback.Sources.{made_value}
@@ -14,7 +15,7 @@ use Rattle.jwalk_ignore.proofs.callback.rules_reader.RulesReader.add_roots.Goals
 pub loop-found-preserved : goal.loop-found-preserved
 loop-found-preserved g c = record {
   value = λ fixed.
-      let step = with_root_item c.args.self.now.settings (g.T.Texts.functions c.args.self.now.texts) in
+      let step = with_root_item (settings_value c.args.self.now.settings) (g.T.Texts.functions c.args.self.now.texts) in
       c.in_ok-add_root_item.ensures.value fixed ∙ ap (λ m. step m (item c.in-Some.found)) (c.loop-found.invariant.value fixed)
       ∙ sym (fold_more step item (made_value c.args.made.now) c.loop-found.yielded c.in-Some.found);
   depth = λ depth all before.
@@ -26,7 +27,7 @@ pub returns-clause-value : goal.returns-clause-value
 returns-clause-value g c = λ fixed.
     let begins = c.into_iter-found-iterator.ensures.into_iter_gives in
     let all = YieldsList-end (YieldsList-from_vec {s = c.into_iter-found-iterator.result} c.args.list.items begins.0 (begins.1 ∙ c.args.list.ok.0)) c.loop-found.yielded c.loop-found.found-iterator c.loop-found.yielded_by c.next.result c.next.new.self c.in-None.is c.next.ensures.steps in
-    c.loop-found.invariant.value fixed ∙ ap (λ l. fold (with_root_item c.args.self.now.settings (g.T.Texts.functions c.args.self.now.texts)) (made_value c.args.made.now) (map item l)) (sym (map-id c.loop-found.yielded) ∙ all.0)
+    c.loop-found.invariant.value fixed ∙ ap (λ l. fold (with_root_item (settings_value c.args.self.now.settings) (g.T.Texts.functions c.args.self.now.texts)) (made_value c.args.made.now) (map item l)) (sym (map-id c.loop-found.yielded) ∙ all.0)
 
 pub returns-clause-depth : goal.returns-clause-depth
 returns-clause-depth g c = λ depth all before.

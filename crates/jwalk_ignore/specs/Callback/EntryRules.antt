@@ -1,0 +1,15 @@
+-- The rules that decide on the entries of a directory.
+use Rattle.std.specs.Prelude.{◌≡◌, ℕ, List}
+use Rattle.jwalk_ignore.specs.Callback.Places.{IsPlaced}
+use Rattle.jwalk_ignore.specs.Callback.Settings.{patterns_in}
+use Rattle.jwalk_ignore.specs.Pattern.{Pattern}
+use Rattle.jwalk_ignore.specs.Rules.Chain.{Chain, place_in}
+use Rattle.jwalk_ignore.specs.Rules.ChainViews.{chain_value}
+use Rattle.jwalk_ignore.specs.declared.callback.entry_rules.EntryRules.{EntryRules}
+
+-- These patterns are given, and these rules are in force in this directory. Both buffers are placed there.
+pub record Decide {A : Type 0} (given : List Pattern) (directory : List ℕ) (chain : Chain) (rules : EntryRules A) : Type 0 where
+  pub given_is : patterns_in rules.given.now ≡ given
+  pub chain_is : chain_value rules.chain.now ≡ chain
+  pub placed : IsPlaced (place_in chain directory) rules.places
+  pub at_path : IsPlaced directory rules.paths

@@ -1,0 +1,99 @@
+//! The rules that decide on the entries of a directory.
+ghost use Rattle.std.specs.Prelude.{◌≡◌, IfOk};
+ghost use Rattle.jwalk.specs.jwalk_job.Entry.{item};
+ghost use Rattle.jwalk_ignore.specs.Callback.EntryRules.{Decide};
+ghost use Rattle.jwalk_ignore.specs.Callback.IgnoreFiles.{given_says, is_kept, without_dot};
+ghost use Rattle.jwalk_ignore.specs.Callback.Places.{IsPlaced};
+ghost use Rattle.jwalk_ignore.specs.Callback.Settings.{patterns_in};
+ghost use Rattle.jwalk_ignore.specs.Rules.Chain.{place_in};
+ghost use Rattle.jwalk_ignore.specs.Rules.ChainViews.{chain_value};
+
+use crate::callback::places::Places;
+use crate::rules::Rules;
+use crate::rules::chain::Chain;
+use crate::rules::decision::Decision;
+use jwalk::{ClientState, DirEntry, Error};
+use std::alloc::{AllocError, Allocator};
+
+/// The rules in force in a directory, and those that are given, with the places of entries for each.
+#[derive(Drop)]
+pub(crate) struct EntryRules<'r, A: Allocator + Copy> {
+    chain: &'r Chain<A>,
+    /// Where entries are, by the root's absolute path.
+    places: Places<A>,
+    given: &'r Option<Rules>,
+    /// The paths of entries.
+    paths: Places<A>,
+}
+
+fn place_of<A: Allocator + Copy>(alloc: A, directory: &str) -> Result<Places<A>, AllocError>
+    ensures { IfOk result (IsPlaced directory.now) }
+{
+    let mut path = Vec::new(alloc);
+    path.extend_from_slice(directory.as_bytes())?;
+    Places::new(path)
+}
+
+fn without_dot(path: &[u8]) -> &[u8]
+    ensures { result.now ≡ without_dot path.now }
+{
+    match path {
+        [b'.', b'/', behind @ ..] => behind,
+        _ => path,
+    }
+}
+
+impl<'r, A: Allocator + Copy> EntryRules<'r, A> {
+    pub(crate) fn new(
+        alloc: A,
+        chain: &'r Chain<A>,
+        given: &'r Option<Rules>,
+        directory: &str,
+    ) -> Result<Self, AllocError>
+        ensures { IfOk result (Decide (patterns_in given.entry.now) directory.now (chain_value chain.entry.now)) }
+    {
+        Ok(EntryRules {
+            chain,
+            places: Places::new(chain.place(alloc, directory)?)?,
+            given,
+            paths: place_of(alloc, directory)?,
+        })
+    }
+
+    /// Returns what the rules that are given say of a name in the directory.
+    #[tactic(auto, using(jwalk_ignore_rules::proofs::MatchingFacts::says_computed))]
+    fn given_decision(&mut self, name: &str, is_dir: bool) -> Result<Decision, AllocError>
+        ensures said { (directory : _) → IsPlaced directory self.old.paths
+            → IfOk result (λ said. said ≡ given_says (patterns_in self.old.given.now) directory name.now is_dir) }
+        ensures paths { (directory : _) → IsPlaced directory self.old.paths → IsPlaced directory self.new.paths }
+        ensures rest { self.new ≡ record self.old { paths = self.new.paths } }
+    {
+        let Some(given) = self.given else {
+            return Ok(Decision::Unsaid);
+        };
+        self.paths.set_name(name)?;
+        Ok(given.decision(without_dot(self.paths.bytes()), is_dir))
+    }
+
+    /// Returns whether an item of the directory stays. The rules that are given decide where those in force say nothing.
+    pub(crate) fn is_kept<C: ClientState>(
+        &mut self,
+        found: &Result<DirEntry<C, A>, Error<A>>,
+    ) -> Result<bool, AllocError>
+        ensures kept { (given : _) → (directory : _) → (chain : _) → Decide given directory chain self.old
+            → IfOk result (λ kept. kept ≡ is_kept given directory chain (place_in chain directory) (item found.now)) }
+        ensures rules { (given : _) → (directory : _) → (chain : _) → Decide given directory chain self.old
+            → Decide given directory chain self.new }
+    {
+        let Ok(entry) = found else {
+            return Ok(true);
+        };
+        let (name, is_dir) = (entry.file_name.as_str(), entry.file_type.is_dir());
+        self.places.set_name(name)?;
+        let said = self.chain.decision(self.places.bytes(), is_dir);
+        if said.is_said() {
+            return Ok(!said.is_ignored());
+        }
+        Ok(!self.given_decision(name, is_dir)?.is_ignored())
+    }
+}

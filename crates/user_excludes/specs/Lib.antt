@@ -1,0 +1,3 @@
+pub mod Config
+pub mod Excludes
+pub mod Home
