@@ -1,6 +1,6 @@
 //! Many links to the directory that they are in, with rules in force.
-use crate::ignore::always::{Shared, crew_of_two};
-use crate::ignore::planted::{Planted, Rules, repository};
+use crate::always::{Shared, crew_of_two};
+use crate::planted::{Planted, Rules, repository};
 use jwalk::file_system::BuildError;
 use std::alloc::Global;
 use test_fixtures::answers::Answer;

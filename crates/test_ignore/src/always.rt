@@ -1,6 +1,6 @@
 //! Walks that honour ignore files, in each way and over a crew.
-use crate::ignore::left::text_of;
-use crate::ignore::planted::{Planted, Rules};
+use crate::left::text_of;
+use crate::planted::{Planted, Rules};
 use jwalk::file_system::{FileSystem, MemoryFs};
 use jwalk::read_dir::ProcessReadDir;
 use jwalk::{ClientState, Crew, Parallelism, WalkDirGeneric};

@@ -1,6 +1,6 @@
 //! Rules that are the same wherever a walk starts.
-use crate::ignore::left::{left_following, left_from};
-use crate::ignore::planted::{Planted, repository, tree_of};
+use crate::left::{left_following, left_from};
+use crate::planted::{Planted, repository, tree_of};
 use jwalk::file_system::{BuildError, FileType};
 use jwalk_ignore::ignore_files::IgnoreFiles;
 use std::alloc::Global;

@@ -1,5 +1,5 @@
 //! Rows of trees.
-use crate::ignore::tree_rows::TreeRow;
+use crate::tree_rows::TreeRow;
 
 /// Trees, with what is kept of each.
 const ROWS: &[TreeRow] = &[

@@ -1,5 +1,5 @@
 //! The answers of walks that honour ignore files, as texts.
-use crate::ignore::planted::{Planted, Rules};
+use crate::planted::{Planted, Rules};
 use jwalk::WalkDirGeneric;
 use jwalk::file_system::{BuildError, FileSystem};
 use jwalk_ignore::builder::with_ignore_files;

@@ -1,7 +1,7 @@
 //! Trees of one repository, compared with git's answers.
-use crate::ignore::left::left;
-use crate::ignore::planted::repository;
-use crate::ignore::tree_rows::{TreeRow, first, second};
+use crate::left::left;
+use crate::planted::repository;
+use crate::tree_rows::{TreeRow, first, second};
 use std::alloc::Global;
 
 fn is_as_git(alloc: Global, row: &TreeRow) -> bool {

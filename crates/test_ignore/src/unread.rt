@@ -1,6 +1,6 @@
 //! Files of rules that can't be read.
-use crate::ignore::always::Shared;
-use crate::ignore::planted::repository;
+use crate::always::Shared;
+use crate::planted::repository;
 use jwalk::file_system::BuildError;
 use std::io::ErrorKind;
 use test_fixtures::host::Host;

@@ -1,8 +1,8 @@
 //! Trees of one repository, over a crew of two and serially.
-use crate::ignore::always::{Shared, crew_of_two};
-use crate::ignore::left::text_of;
-use crate::ignore::planted::repository;
-use crate::ignore::tree_rows::{TreeRow, first, second};
+use crate::always::{Shared, crew_of_two};
+use crate::left::text_of;
+use crate::planted::repository;
+use crate::tree_rows::{TreeRow, first, second};
 use jwalk::Crew;
 use jwalk::file_system::BuildError;
 use std::sync::Arc;

@@ -1,6 +1,6 @@
 //! What is left where not all files of rules count, or more of them do.
-use crate::ignore::left::left_from;
-use crate::ignore::planted::{Planted, repository, tree_of};
+use crate::left::left_from;
+use crate::planted::{Planted, repository, tree_of};
 use jwalk::file_system::BuildError;
 use jwalk_ignore::ignore_files::IgnoreFiles;
 use jwalk_ignore::memory_texts::MemoryTexts;

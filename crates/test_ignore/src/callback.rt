@@ -1,6 +1,6 @@
 //! The rules that are in force at each place, and the walk's answers for their files.
-use crate::ignore::left::{left, left_from};
-use crate::ignore::planted::{Planted, repository, tree_of};
+use crate::left::{left, left_from};
+use crate::planted::{Planted, repository, tree_of};
 use jwalk::file_system::BuildError;
 use jwalk_ignore::ignore_files::IgnoreFiles;
 use std::alloc::Global;
