@@ -2,11 +2,11 @@
 #![tactic(auto)]
 
 #[cfg(test)]
-mod always;
-#[cfg(test)]
-mod by_crew;
-#[cfg(test)]
 mod callback;
+#[cfg(test)]
+mod counted;
+#[cfg(test)]
+mod leave;
 #[cfg(test)]
 mod left;
 #[cfg(test)]
@@ -24,8 +24,12 @@ mod settings;
 #[cfg(test)]
 mod starts;
 #[cfg(test)]
+mod table;
+#[cfg(test)]
 mod tree_rows;
 #[cfg(test)]
 mod trees;
 #[cfg(test)]
 mod unread;
+#[cfg(test)]
+mod walks;

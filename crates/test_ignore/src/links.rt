@@ -1,6 +1,7 @@
 //! Many links to the directory that they are in, with rules in force.
-use crate::always::{Shared, crew_of_two};
-use crate::planted::{Planted, Rules, repository};
+use crate::planted::{Planted, Rules, tree_of};
+use crate::settings::Settings;
+use crate::walks::{Shared, Walk, crew_of_two};
 use jwalk::file_system::BuildError;
 use std::alloc::Global;
 use test_fixtures::answers::Answer;
@@ -9,9 +10,11 @@ use test_fixtures::ways::WAYS;
 
 const LINKS: usize = 300;
 
+const TREE: &str = ".git/\n.gitignore=l1*|l2*/|\nl2d/\nl2d/a\ns/\ns/l1\ns/a";
+
 /// One rule is for names that begin with `l1`, the other for directories whose names begin with `l2`.
 fn linked(alloc: Global) -> Result<Planted, BuildError> {
-    let mut planted = repository(alloc, ".gitignore=l1*|l2*/|\nl2d/\nl2d/a\ns/\ns/l1\ns/a")?;
+    let mut planted = tree_of(alloc, TREE)?;
     for number in 0..LINKS {
         let path = format!(in alloc; "/r/l{number}")?;
         planted.fs.add_link(path.as_str(), ".")?;
@@ -47,14 +50,20 @@ fn numbers_of(found: &[Answer<Rules>]) -> Numbers {
 }
 
 /// Walks in each way and over a crew of two.
-fn has<R: Host>(rt: &R, follows: bool, wanted: Numbers) -> Result<bool, BuildError> {
+fn has<R: Host>(rt: &R, follow: bool, wanted: Numbers) -> Result<bool, BuildError> {
     let alloc = rt.alloc();
-    let mut shared = Shared::new(alloc, linked(alloc)?)?;
-    shared.follows = follows;
-    let by_crew = shared.found_by_crew(alloc, crew_of_two(rt)?)?;
+    let walk = Walk {
+        over: &Shared::new(alloc, linked(alloc)?)?,
+        root: "/r",
+        settings: Settings {
+            follow,
+            ..Settings::NONE
+        },
+    };
+    let by_crew = walk.found_by_crew(alloc, crew_of_two(rt)?)?;
     let mut is_so = numbers_of(&by_crew) == wanted;
     for way in WAYS {
-        is_so &= numbers_of(&shared.found(rt, *way)?) == wanted;
+        is_so &= numbers_of(&walk.found(rt, *way)?) == wanted;
     }
     Ok(is_so)
 }

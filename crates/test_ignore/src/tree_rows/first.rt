@@ -1,193 +1,680 @@
 //! Rows of trees.
-use crate::tree_rows::TreeRow;
 
 /// Trees, with what is kept of each.
-const ROWS: &[TreeRow] = &[
-    (
-        ".gitignore=*sub/**|\nc.o\nk.o/\nk.o/.gitignore=!k.o[!a]|\nk.o/.h\nk.o/b/\nk.o/b/b\nsub/\nsub/a",
-        ".gitignore\nc.o\nk.o\nk.o/.gitignore\nk.o/.h\nk.o/b\nk.o/b/b\nsub",
-    ),
-    (
-        ".gitignore=a/**|?|!?\\a*.o|\n.h\nc.o/\nc.o/b/\nc.o/b/.gitignore=subsub[ab]|\nc.o/b/a/\nc.o/b/a/b\nc.o/b/b\nc.o/k.o/\nc.o/k.o/c.o/\nc.o/k.o/c.o/b\nsub",
-        ".gitignore\n.h\nc.o\nc.o/k.o\nc.o/k.o/c.o\nsub",
-    ),
-    (
-        ".gitignore=?|a\\a?|\na/\na/sub\nab\nc.o/\nc.o/.h",
-        ".gitignore\nab\nc.o\nc.o/.h",
-    ),
-    (".gitignore=*?|?|\n.h\na", ""),
-    (
-        ".gitignore=*.o/|\na/\na/b/\na/b/.h\na/b/c.o/\na/b/c.o/.h\na/b/k.o\na/sub/\na/sub/ab/\na/sub/ab/c.o\na/sub/k.o",
-        ".gitignore\na\na/b\na/b/.h\na/b/k.o\na/sub\na/sub/ab\na/sub/ab/c.o\na/sub/k.o",
-    ),
-    (
-        ".git/info/exclude=**//|\n.gitignore=.hasub|/**/**|*[ab]**//|\nb",
-        "",
-    ),
-    (
-        ".git/info/exclude=*.o/c.?/|\n.gitignore=/***|!/aa|!/**.h|\nc.o/\nc.o/c.o/\nc.o/c.o/.gitignore=*?|\nc.o/c.o/b/\nc.o/c.o/b/ab",
-        "",
-    ),
-    (
-        ".gitignore=/**|\nk.o/\nk.o/.gitignore=[ab]\\a/|\\a|\nk.o/ab/\nk.o/ab/.h\nk.o/ab/ab\nk.o/ab/sub\nk.o/b\nk.o/c.o",
-        "",
-    ),
-    (".gitignore=[!a]/ab/|!/**ab|/**|\nb\nk.o", ""),
-    (
-        ".git/info/exclude=ab|!*/|[!a][ab]c.?|\n.gitignore=subab|c.?subb|!k.o*|\na\nab/\nab/b/\nab/b/.gitignore=!bab|c.?ab[!a]/|\nab/b/ab\nc.o",
-        ".gitignore\na\nab\nab/b\nab/b/.gitignore\nc.o",
-    ),
-    (
-        ".git/info/exclude=!k.oc.?.h|\n.gitignore=[!a]|/**|!k.o**//|\na/\na/.h\na/c.o\na/k.o/\na/k.o/sub\nc.o\nsub",
-        "",
-    ),
-    (
-        ".gitignore=*?/|k.o\\a/|\nab/\nab/.h\nab/c.o\nab/sub\nb\nk.o/\nk.o/c.o",
-        ".gitignore\nb",
-    ),
-    (
-        ".git/info/exclude=ab|*.oab|\n.gitignore=!/aa|\n.h\nab\nsub",
-        ".gitignore\n.h\nsub",
-    ),
-    (
-        ".git/info/exclude=.h|ab|\n.gitignore=sub|\nab\nc.o",
-        ".gitignore\nc.o",
-    ),
-    (
-        ".gitignore=[ab]\\a|a|\n.h\na\nc.o/\nc.o/a/\nc.o/a/sub",
-        ".gitignore\n.h\nc.o",
-    ),
-    (
-        ".git/info/exclude=/**|ab|[!a]k.oab|\n.gitignore=asub|\nsub/\nsub/.h\nsub/b/\nsub/b/.gitignore=*|b|!/**|\nsub/b/a\nsub/sub",
-        "",
-    ),
-    (".gitignore=?ab**//|**.o|\nk.o", ".gitignore"),
-    (
-        ".gitignore=!.h?/**|/**/|*.o/|\nab\nc.o\nk.o/\nk.o/.gitignore=\\a|\nk.o/.h\nk.o/c.o/\nk.o/c.o/sub/\nk.o/c.o/sub/a\nk.o/c.o/sub/ab\nk.o/c.o/sub/k.o",
-        ".gitignore\nab\nc.o",
-    ),
-    (
-        ".gitignore=/**/***.o/|!ab.hab|!?*.o//|\nk.o/\nk.o/.gitignore=!b.hab|\nk.o/a\nk.o/b\nsub",
-        ".gitignore\nsub",
-    ),
-    (".gitignore=b|*abk.o|/b*.o|\nb\nsub", ".gitignore\nsub"),
-    (
-        ".gitignore=!/**k.o|\\ac.?b/|*/|\na\nb/\nb/k.o/\nb/k.o/.gitignore=!?c.?sub|[ab]/|\nb/k.o/c.o\nsub",
-        ".gitignore\na\nsub",
-    ),
-    (
-        ".gitignore=!?/**/**|\nc.o/\nc.o/c.o/\nc.o/c.o/.gitignore=?|\nc.o/c.o/a/\nc.o/c.o/a/.gitignore=sub|.hc.?|*b.h|\nc.o/c.o/a/a\nc.o/c.o/ab\nc.o/c.o/k.o\nsub/\nsub/.h\nsub/c.o",
-        ".gitignore\nc.o\nc.o/c.o\nc.o/c.o/.gitignore\nc.o/c.o/ab\nc.o/c.o/k.o\nsub\nsub/.h\nsub/c.o",
-    ),
-    (
-        ".git/info/exclude=!*.o/|\\aab/|\n.gitignore=!\\a/**/|/**|/**.ha|\nsub",
-        "",
-    ),
-    (
-        ".gitignore=.h|![!a]|/**/|\na/\na/a/\na/a/c.o\nk.o/\nk.o/.gitignore=!\\ab/|!c.??|\nk.o/sub",
-        ".gitignore",
-    ),
-    (
-        ".gitignore=!bsub|[ab]*|*.o/**?|\na\nb/\nb/.gitignore=[!a][ab]|\nb/ab\nb/sub",
-        ".gitignore",
-    ),
-    (
-        ".git/info/exclude=*.o*|.hc.?.h|\n.gitignore=!a/|\nb/\nb/a\nb/c.o/\nb/c.o/.h\nb/c.o/b\nb/c.o/k.o",
-        ".gitignore\nb\nb/a",
-    ),
-    (
-        ".gitignore=!.h*.o.h|!/**//|\nk.o/\nk.o/.h\nk.o/b/\nk.o/b/a/\nk.o/b/a/.gitignore=aasub/|\nk.o/b/a/sub\nsub/\nsub/.gitignore=.h|\nsub/.h",
-        ".gitignore\nk.o\nk.o/.h\nk.o/b\nk.o/b/a\nk.o/b/a/.gitignore\nk.o/b/a/sub\nsub\nsub/.gitignore",
-    ),
-    (".gitignore=k.o|c.?/|k.oab|\nk.o", ".gitignore"),
-    (
-        ".gitignore=**/k.o*|!.h/|.h/|\na/\na/c.o\na/k.o",
-        ".gitignore\na\na/c.o",
-    ),
-    (
-        ".gitignore=*.o|\nc.o\nk.o/\nk.o/b/\nk.o/b/.gitignore=*.o|**/[ab]/|b*.o/|\nk.o/b/.h",
-        ".gitignore",
-    ),
-    (
-        ".gitignore=.h[!a]|.hab\\a|[!a]|\na\nab/\nab/b/\nab/b/.h\nab/b/k.o/\nab/b/k.o/.gitignore=!**/[ab]?|!ac.?|\\a|\nab/b/k.o/k.o",
-        ".gitignore\na\nab",
-    ),
-    (
-        ".gitignore=!a?ab|c.?a.h|\nb/\nb/.gitignore=b|b|b.h|\nb/ab\nb/b\nb/c.o/\nb/c.o/a/\nb/c.o/a/c.o\nb/c.o/a/k.o\nc.o",
-        ".gitignore\nb\nb/.gitignore\nb/ab\nb/c.o\nb/c.o/a\nb/c.o/a/c.o\nb/c.o/a/k.o\nc.o",
-    ),
-    (
-        ".gitignore=c.?|\\a.h|a/|\n.h\nk.o/\nk.o/.gitignore=sub|b|\nk.o/c.o/\nk.o/c.o/b\nk.o/c.o/c.o\nk.o/k.o",
-        ".gitignore\n.h\nk.o\nk.o/.gitignore\nk.o/k.o",
-    ),
-    (
-        ".git/info/exclude=*.o|**/|\n.gitignore=!/k.o/**|!.h|\n.h\nc.o/\nc.o/.gitignore=\\asuba|\nc.o/b\nc.o/k.o",
-        ".gitignore\n.h",
-    ),
-    (
-        ".gitignore=*.o|k.o\\a|sub|\nb/\nb/a/\nb/a/ab/\nb/a/ab/.gitignore=*/|?/\\a|/**|\nb/a/ab/.h\nb/a/ab/c.o\nb/a/b/\nb/a/b/c.o\nb/a/b/k.o\nb/ab\nb/sub",
-        ".gitignore\nb\nb/a\nb/a/ab\nb/a/b\nb/ab",
-    ),
-    (
-        ".git/info/exclude=!ac.?|\n.gitignore=/?|\na/\na/.gitignore=**/c.?\\a|\na/b\nk.o/\nk.o/.h\nk.o/c.o/\nk.o/c.o/a\nk.o/c.o/ab\nk.o/c.o/b\nk.o/k.o",
-        ".gitignore\nk.o\nk.o/.h\nk.o/c.o\nk.o/c.o/a\nk.o/c.o/ab\nk.o/c.o/b\nk.o/k.o",
-    ),
-    (
-        ".git/info/exclude=c.?|![ab]*.o**//|!/a[ab]|\n.gitignore=a*|!/**/**a/|\n.h\na",
-        ".gitignore\n.h",
-    ),
-    (
-        ".gitignore=!*.o|/**?|k.o[ab]**/|\na\nb/\nb/.gitignore=![!a]|**/k.ok.o|[!a]**//|\nb/c.o/\nb/c.o/.gitignore=/[!a]|!b?\\a|!*.o*[ab]|\nb/c.o/ab/\nb/c.o/ab/ab\nb/c.o/ab/sub\nb/c.o/c.o\nb/c.o/k.o",
-        "",
-    ),
-    (
-        ".gitignore=\\a/|!.h\\a\\a/|**/|\na\nb/\nb/.gitignore=!//|\nb/ab\nb/b",
-        ".gitignore\na",
-    ),
-    (
-        ".gitignore=sub/|\nab/\nab/.gitignore=[!a]b**/|?[ab]b|/**/*|\nab/ab/\nab/ab/c.o/\nab/ab/c.o/.h\nab/ab/c.o/k.o\nab/c.o",
-        ".gitignore\nab",
-    ),
-    (
-        ".gitignore=!?**/\\a|b[!a]|sub|\nab/\nab/sub\nc.o/\nc.o/ab/\nc.o/ab/.gitignore=bsub|\nc.o/ab/ab\nc.o/ab/k.o\nc.o/ab/sub",
-        ".gitignore\nab\nc.o\nc.o/ab\nc.o/ab/.gitignore\nc.o/ab/ab\nc.o/ab/k.o",
-    ),
-    (
-        "a\nab/\nab/ab\nab/b\nsub/\nsub/.h\nsub/b/\nsub/b/.gitignore=*.oc.?sub/|!sub/|/**?|\nsub/b/c.o",
-        "a\nab\nab/ab\nab/b\nsub\nsub/.h\nsub/b",
-    ),
-    (".gitignore=**/*.oc.?|!sub|/**|\n.h\nab\nk.o", ""),
-    (
-        "c.o/\nc.o/.gitignore=!b|/**?|!a|\nc.o/.h\nc.o/c.o\nc.o/k.o",
-        "c.o",
-    ),
-    (
-        ".git/info/exclude=!subsub|!sub*.o*|![ab]subc.?/|\n.gitignore=\\ab/|k.osub/**|!c.?/**|\nb\nk.o/\nk.o/.gitignore=!k.o|.h|\nk.o/.h\nk.o/k.o",
-        ".gitignore\nb\nk.o\nk.o/.gitignore\nk.o/k.o",
-    ),
-    (
-        ".git/info/exclude=/\\ab|\n.gitignore=!**/|\n.h\na\nb/\nb/.gitignore=***/|\nb/a\nb/k.o/\nb/k.o/c.o/\nb/k.o/c.o/.gitignore=!*|\nb/k.o/c.o/b\nb/k.o/c.o/k.o",
-        ".gitignore\n.h\na\nb\nb/.gitignore\nb/a",
-    ),
-    (
-        ".gitignore=*.o*/|aab|!sub/**/|\nk.o/\nk.o/.h\nk.o/a/\nk.o/a/.gitignore=![!a]aba/|\nk.o/a/ab\nk.o/sub\nsub",
-        ".gitignore\nsub",
-    ),
-    (
-        ".gitignore=sub|\n.h\na/\na/c.o\na/sub/\na/sub/.gitignore=sub**/|!c.??/|!/**/?|\na/sub/a/\na/sub/a/a\na/sub/a/c.o\na/sub/b",
-        ".gitignore\n.h\na\na/c.o",
-    ),
-    (
-        ".gitignore=subsub|\n.h\nab/\nab/a\nab/ab/\nab/ab/.gitignore=!**/*k.o|*|\nab/ab/.h\nab/ab/k.o/\nab/ab/k.o/.gitignore=?[ab]/|[!a]a/|!a\\a|\nab/ab/k.o/.h\nab/ab/sub\nab/c.o",
-        ".gitignore\n.h\nab\nab/a\nab/ab\nab/c.o",
-    ),
-    (
-        ".git/info/exclude=c.?b[ab]/|/**|\n.gitignore=!sub|/|\nab\nsub/\nsub/.h",
-        "sub",
-    ),
-];
-
-/// Returns them. What calls this has none of the table in its own proof.
-pub(crate) fn rows() -> &'static [TreeRow] {
-    ROWS
-}
+pub(crate) const ROWS: &str = "\
+# tree 0
+repository
+  .gitignore=*sub/**|
+  c.o
+  k.o/
+  k.o/.gitignore=!k.o[!a]|
+  k.o/.h
+  k.o/b/
+  k.o/b/b
+  sub/
+  sub/a
+$ walk /r
+  .gitignore
+  c.o
+  k.o
+  k.o/.gitignore
+  k.o/.h
+  k.o/b
+  k.o/b/b
+  sub
+# tree 1
+repository
+  .gitignore=a/**|?|!?\\a*.o|
+  .h
+  c.o/
+  c.o/b/
+  c.o/b/.gitignore=subsub[ab]|
+  c.o/b/a/
+  c.o/b/a/b
+  c.o/b/b
+  c.o/k.o/
+  c.o/k.o/c.o/
+  c.o/k.o/c.o/b
+  sub
+$ walk /r
+  .gitignore
+  .h
+  c.o
+  c.o/k.o
+  c.o/k.o/c.o
+  sub
+# tree 2
+repository
+  .gitignore=?|a\\a?|
+  a/
+  a/sub
+  ab
+  c.o/
+  c.o/.h
+$ walk /r
+  .gitignore
+  ab
+  c.o
+  c.o/.h
+# tree 3
+repository
+  .gitignore=*?|?|
+  .h
+  a
+$ walk /r
+# tree 4
+repository
+  .gitignore=*.o/|
+  a/
+  a/b/
+  a/b/.h
+  a/b/c.o/
+  a/b/c.o/.h
+  a/b/k.o
+  a/sub/
+  a/sub/ab/
+  a/sub/ab/c.o
+  a/sub/k.o
+$ walk /r
+  .gitignore
+  a
+  a/b
+  a/b/.h
+  a/b/k.o
+  a/sub
+  a/sub/ab
+  a/sub/ab/c.o
+  a/sub/k.o
+# tree 5
+repository
+  .git/info/exclude=**//|
+  .gitignore=.hasub|/**/**|*[ab]**//|
+  b
+$ walk /r
+# tree 6
+repository
+  .git/info/exclude=*.o/c.?/|
+  .gitignore=/***|!/aa|!/**.h|
+  c.o/
+  c.o/c.o/
+  c.o/c.o/.gitignore=*?|
+  c.o/c.o/b/
+  c.o/c.o/b/ab
+$ walk /r
+# tree 7
+repository
+  .gitignore=/**|
+  k.o/
+  k.o/.gitignore=[ab]\\a/|\\a|
+  k.o/ab/
+  k.o/ab/.h
+  k.o/ab/ab
+  k.o/ab/sub
+  k.o/b
+  k.o/c.o
+$ walk /r
+# tree 8
+repository
+  .gitignore=[!a]/ab/|!/**ab|/**|
+  b
+  k.o
+$ walk /r
+# tree 9
+repository
+  .git/info/exclude=ab|!*/|[!a][ab]c.?|
+  .gitignore=subab|c.?subb|!k.o*|
+  a
+  ab/
+  ab/b/
+  ab/b/.gitignore=!bab|c.?ab[!a]/|
+  ab/b/ab
+  c.o
+$ walk /r
+  .gitignore
+  a
+  ab
+  ab/b
+  ab/b/.gitignore
+  c.o
+# tree 10
+repository
+  .git/info/exclude=!k.oc.?.h|
+  .gitignore=[!a]|/**|!k.o**//|
+  a/
+  a/.h
+  a/c.o
+  a/k.o/
+  a/k.o/sub
+  c.o
+  sub
+$ walk /r
+# tree 11
+repository
+  .gitignore=*?/|k.o\\a/|
+  ab/
+  ab/.h
+  ab/c.o
+  ab/sub
+  b
+  k.o/
+  k.o/c.o
+$ walk /r
+  .gitignore
+  b
+# tree 12
+repository
+  .git/info/exclude=ab|*.oab|
+  .gitignore=!/aa|
+  .h
+  ab
+  sub
+$ walk /r
+  .gitignore
+  .h
+  sub
+# tree 13
+repository
+  .git/info/exclude=.h|ab|
+  .gitignore=sub|
+  ab
+  c.o
+$ walk /r
+  .gitignore
+  c.o
+# tree 14
+repository
+  .gitignore=[ab]\\a|a|
+  .h
+  a
+  c.o/
+  c.o/a/
+  c.o/a/sub
+$ walk /r
+  .gitignore
+  .h
+  c.o
+# tree 15
+repository
+  .git/info/exclude=/**|ab|[!a]k.oab|
+  .gitignore=asub|
+  sub/
+  sub/.h
+  sub/b/
+  sub/b/.gitignore=*|b|!/**|
+  sub/b/a
+  sub/sub
+$ walk /r
+# tree 16
+repository
+  .gitignore=?ab**//|**.o|
+  k.o
+$ walk /r
+  .gitignore
+# tree 17
+repository
+  .gitignore=!.h?/**|/**/|*.o/|
+  ab
+  c.o
+  k.o/
+  k.o/.gitignore=\\a|
+  k.o/.h
+  k.o/c.o/
+  k.o/c.o/sub/
+  k.o/c.o/sub/a
+  k.o/c.o/sub/ab
+  k.o/c.o/sub/k.o
+$ walk /r
+  .gitignore
+  ab
+  c.o
+# tree 18
+repository
+  .gitignore=/**/***.o/|!ab.hab|!?*.o//|
+  k.o/
+  k.o/.gitignore=!b.hab|
+  k.o/a
+  k.o/b
+  sub
+$ walk /r
+  .gitignore
+  sub
+# tree 19
+repository
+  .gitignore=b|*abk.o|/b*.o|
+  b
+  sub
+$ walk /r
+  .gitignore
+  sub
+# tree 20
+repository
+  .gitignore=!/**k.o|\\ac.?b/|*/|
+  a
+  b/
+  b/k.o/
+  b/k.o/.gitignore=!?c.?sub|[ab]/|
+  b/k.o/c.o
+  sub
+$ walk /r
+  .gitignore
+  a
+  sub
+# tree 21
+repository
+  .gitignore=!?/**/**|
+  c.o/
+  c.o/c.o/
+  c.o/c.o/.gitignore=?|
+  c.o/c.o/a/
+  c.o/c.o/a/.gitignore=sub|.hc.?|*b.h|
+  c.o/c.o/a/a
+  c.o/c.o/ab
+  c.o/c.o/k.o
+  sub/
+  sub/.h
+  sub/c.o
+$ walk /r
+  .gitignore
+  c.o
+  c.o/c.o
+  c.o/c.o/.gitignore
+  c.o/c.o/ab
+  c.o/c.o/k.o
+  sub
+  sub/.h
+  sub/c.o
+# tree 22
+repository
+  .git/info/exclude=!*.o/|\\aab/|
+  .gitignore=!\\a/**/|/**|/**.ha|
+  sub
+$ walk /r
+# tree 23
+repository
+  .gitignore=.h|![!a]|/**/|
+  a/
+  a/a/
+  a/a/c.o
+  k.o/
+  k.o/.gitignore=!\\ab/|!c.??|
+  k.o/sub
+$ walk /r
+  .gitignore
+# tree 24
+repository
+  .gitignore=!bsub|[ab]*|*.o/**?|
+  a
+  b/
+  b/.gitignore=[!a][ab]|
+  b/ab
+  b/sub
+$ walk /r
+  .gitignore
+# tree 25
+repository
+  .git/info/exclude=*.o*|.hc.?.h|
+  .gitignore=!a/|
+  b/
+  b/a
+  b/c.o/
+  b/c.o/.h
+  b/c.o/b
+  b/c.o/k.o
+$ walk /r
+  .gitignore
+  b
+  b/a
+# tree 26
+repository
+  .gitignore=!.h*.o.h|!/**//|
+  k.o/
+  k.o/.h
+  k.o/b/
+  k.o/b/a/
+  k.o/b/a/.gitignore=aasub/|
+  k.o/b/a/sub
+  sub/
+  sub/.gitignore=.h|
+  sub/.h
+$ walk /r
+  .gitignore
+  k.o
+  k.o/.h
+  k.o/b
+  k.o/b/a
+  k.o/b/a/.gitignore
+  k.o/b/a/sub
+  sub
+  sub/.gitignore
+# tree 27
+repository
+  .gitignore=k.o|c.?/|k.oab|
+  k.o
+$ walk /r
+  .gitignore
+# tree 28
+repository
+  .gitignore=**/k.o*|!.h/|.h/|
+  a/
+  a/c.o
+  a/k.o
+$ walk /r
+  .gitignore
+  a
+  a/c.o
+# tree 29
+repository
+  .gitignore=*.o|
+  c.o
+  k.o/
+  k.o/b/
+  k.o/b/.gitignore=*.o|**/[ab]/|b*.o/|
+  k.o/b/.h
+$ walk /r
+  .gitignore
+# tree 30
+repository
+  .gitignore=.h[!a]|.hab\\a|[!a]|
+  a
+  ab/
+  ab/b/
+  ab/b/.h
+  ab/b/k.o/
+  ab/b/k.o/.gitignore=!**/[ab]?|!ac.?|\\a|
+  ab/b/k.o/k.o
+$ walk /r
+  .gitignore
+  a
+  ab
+# tree 31
+repository
+  .gitignore=!a?ab|c.?a.h|
+  b/
+  b/.gitignore=b|b|b.h|
+  b/ab
+  b/b
+  b/c.o/
+  b/c.o/a/
+  b/c.o/a/c.o
+  b/c.o/a/k.o
+  c.o
+$ walk /r
+  .gitignore
+  b
+  b/.gitignore
+  b/ab
+  b/c.o
+  b/c.o/a
+  b/c.o/a/c.o
+  b/c.o/a/k.o
+  c.o
+# tree 32
+repository
+  .gitignore=c.?|\\a.h|a/|
+  .h
+  k.o/
+  k.o/.gitignore=sub|b|
+  k.o/c.o/
+  k.o/c.o/b
+  k.o/c.o/c.o
+  k.o/k.o
+$ walk /r
+  .gitignore
+  .h
+  k.o
+  k.o/.gitignore
+  k.o/k.o
+# tree 33
+repository
+  .git/info/exclude=*.o|**/|
+  .gitignore=!/k.o/**|!.h|
+  .h
+  c.o/
+  c.o/.gitignore=\\asuba|
+  c.o/b
+  c.o/k.o
+$ walk /r
+  .gitignore
+  .h
+# tree 34
+repository
+  .gitignore=*.o|k.o\\a|sub|
+  b/
+  b/a/
+  b/a/ab/
+  b/a/ab/.gitignore=*/|?/\\a|/**|
+  b/a/ab/.h
+  b/a/ab/c.o
+  b/a/b/
+  b/a/b/c.o
+  b/a/b/k.o
+  b/ab
+  b/sub
+$ walk /r
+  .gitignore
+  b
+  b/a
+  b/a/ab
+  b/a/b
+  b/ab
+# tree 35
+repository
+  .git/info/exclude=!ac.?|
+  .gitignore=/?|
+  a/
+  a/.gitignore=**/c.?\\a|
+  a/b
+  k.o/
+  k.o/.h
+  k.o/c.o/
+  k.o/c.o/a
+  k.o/c.o/ab
+  k.o/c.o/b
+  k.o/k.o
+$ walk /r
+  .gitignore
+  k.o
+  k.o/.h
+  k.o/c.o
+  k.o/c.o/a
+  k.o/c.o/ab
+  k.o/c.o/b
+  k.o/k.o
+# tree 36
+repository
+  .git/info/exclude=c.?|![ab]*.o**//|!/a[ab]|
+  .gitignore=a*|!/**/**a/|
+  .h
+  a
+$ walk /r
+  .gitignore
+  .h
+# tree 37
+repository
+  .gitignore=!*.o|/**?|k.o[ab]**/|
+  a
+  b/
+  b/.gitignore=![!a]|**/k.ok.o|[!a]**//|
+  b/c.o/
+  b/c.o/.gitignore=/[!a]|!b?\\a|!*.o*[ab]|
+  b/c.o/ab/
+  b/c.o/ab/ab
+  b/c.o/ab/sub
+  b/c.o/c.o
+  b/c.o/k.o
+$ walk /r
+# tree 38
+repository
+  .gitignore=\\a/|!.h\\a\\a/|**/|
+  a
+  b/
+  b/.gitignore=!//|
+  b/ab
+  b/b
+$ walk /r
+  .gitignore
+  a
+# tree 39
+repository
+  .gitignore=sub/|
+  ab/
+  ab/.gitignore=[!a]b**/|?[ab]b|/**/*|
+  ab/ab/
+  ab/ab/c.o/
+  ab/ab/c.o/.h
+  ab/ab/c.o/k.o
+  ab/c.o
+$ walk /r
+  .gitignore
+  ab
+# tree 40
+repository
+  .gitignore=!?**/\\a|b[!a]|sub|
+  ab/
+  ab/sub
+  c.o/
+  c.o/ab/
+  c.o/ab/.gitignore=bsub|
+  c.o/ab/ab
+  c.o/ab/k.o
+  c.o/ab/sub
+$ walk /r
+  .gitignore
+  ab
+  c.o
+  c.o/ab
+  c.o/ab/.gitignore
+  c.o/ab/ab
+  c.o/ab/k.o
+# tree 41
+repository
+  a
+  ab/
+  ab/ab
+  ab/b
+  sub/
+  sub/.h
+  sub/b/
+  sub/b/.gitignore=*.oc.?sub/|!sub/|/**?|
+  sub/b/c.o
+$ walk /r
+  a
+  ab
+  ab/ab
+  ab/b
+  sub
+  sub/.h
+  sub/b
+# tree 42
+repository
+  .gitignore=**/*.oc.?|!sub|/**|
+  .h
+  ab
+  k.o
+$ walk /r
+# tree 43
+repository
+  c.o/
+  c.o/.gitignore=!b|/**?|!a|
+  c.o/.h
+  c.o/c.o
+  c.o/k.o
+$ walk /r
+  c.o
+# tree 44
+repository
+  .git/info/exclude=!subsub|!sub*.o*|![ab]subc.?/|
+  .gitignore=\\ab/|k.osub/**|!c.?/**|
+  b
+  k.o/
+  k.o/.gitignore=!k.o|.h|
+  k.o/.h
+  k.o/k.o
+$ walk /r
+  .gitignore
+  b
+  k.o
+  k.o/.gitignore
+  k.o/k.o
+# tree 45
+repository
+  .git/info/exclude=/\\ab|
+  .gitignore=!**/|
+  .h
+  a
+  b/
+  b/.gitignore=***/|
+  b/a
+  b/k.o/
+  b/k.o/c.o/
+  b/k.o/c.o/.gitignore=!*|
+  b/k.o/c.o/b
+  b/k.o/c.o/k.o
+$ walk /r
+  .gitignore
+  .h
+  a
+  b
+  b/.gitignore
+  b/a
+# tree 46
+repository
+  .gitignore=*.o*/|aab|!sub/**/|
+  k.o/
+  k.o/.h
+  k.o/a/
+  k.o/a/.gitignore=![!a]aba/|
+  k.o/a/ab
+  k.o/sub
+  sub
+$ walk /r
+  .gitignore
+  sub
+# tree 47
+repository
+  .gitignore=sub|
+  .h
+  a/
+  a/c.o
+  a/sub/
+  a/sub/.gitignore=sub**/|!c.??/|!/**/?|
+  a/sub/a/
+  a/sub/a/a
+  a/sub/a/c.o
+  a/sub/b
+$ walk /r
+  .gitignore
+  .h
+  a
+  a/c.o
+# tree 48
+repository
+  .gitignore=subsub|
+  .h
+  ab/
+  ab/a
+  ab/ab/
+  ab/ab/.gitignore=!**/*k.o|*|
+  ab/ab/.h
+  ab/ab/k.o/
+  ab/ab/k.o/.gitignore=?[ab]/|[!a]a/|!a\\a|
+  ab/ab/k.o/.h
+  ab/ab/sub
+  ab/c.o
+$ walk /r
+  .gitignore
+  .h
+  ab
+  ab/a
+  ab/ab
+  ab/c.o
+# tree 49
+repository
+  .git/info/exclude=c.?b[ab]/|/**|
+  .gitignore=!sub|/|
+  ab
+  sub/
+  sub/.h
+$ walk /r
+  sub
+";

@@ -1,34 +1,34 @@
 //! Walks that honour ignore files, in each way and over a crew.
-use crate::left::text_of;
 use crate::planted::{Planted, Rules};
+use crate::settings::Settings;
 use jwalk::file_system::{FileSystem, MemoryFs};
 use jwalk::read_dir::ProcessReadDir;
 use jwalk::{ClientState, Crew, Parallelism, WalkDirGeneric};
+use jwalk_ignore::builder::with_ignore_files;
 use jwalk_ignore::chain::Chain;
 use jwalk_ignore::ignore_files::IgnoreFiles;
 use jwalk_ignore::memory_texts::MemoryTexts;
+use jwalk_ignore::texts::Texts;
 use std::alloc::{AllocError, Global};
+use std::fmt::Debug;
 use std::sync::Arc;
 use std::thread::Threads;
 use test_fixtures::answers::Answer;
 use test_fixtures::host::Host;
-use test_fixtures::ways::{Asked, Setting, WAYS, Way, all_of};
+use test_fixtures::ways::{Asked, Setting, Way, all_of};
 
 /// The crew serves one walk at a time.
 pub(crate) fn crew_of_two<R: Host>(rt: &R) -> Result<Arc<Crew<R>>, AllocError> {
     Ok(Arc::new(rt.alloc(), Crew::new(rt.clone()?, 1, 2))?)
 }
 
-/// The settings of a walk by name that is shown hidden names.
-pub(crate) const BY_NAME: &[Setting] = &[Setting::Sort, Setting::Hidden];
-
 /// The rules of a tree that a crew's workers share, as a callback. It has a type of its own, since the types of rules
 /// are long, and proofs of functions over any runtime compare them.
 #[derive(Drop)]
-pub(crate) struct SharedRules(IgnoreFiles<Arc<MemoryTexts>>);
+struct SharedRules(IgnoreFiles<Arc<MemoryTexts>>);
 
 impl ProcessReadDir<Rules, Global> for SharedRules {
-    ghost IsLawful = { λ _. Unit {0} };
+    ghost IsLawful = { λ _ _. Unit {0} };
 
     ghost Makes = { λ _ _. ⊥ };
 
@@ -43,7 +43,7 @@ impl ProcessReadDir<Rules, Global> for SharedRules {
     }
 }
 
-/// The walk is by name from `/r`.
+/// The walk is by name, and is shown hidden names.
 fn all_by_crew<
     R: Host,
     C: ClientState + Send + 'static,
@@ -52,6 +52,7 @@ fn all_by_crew<
 >(
     alloc: Global,
     fs: S,
+    root: &str,
     follows: bool,
     process: P,
     pool: Arc<Crew<R>>,
@@ -61,7 +62,7 @@ where
     C::DirEntryState: Send + 'static,
     requires { P.IsLawful process }
 {
-    let root = String::from_str(alloc, "/r")?;
+    let root = String::from_str(alloc, root)?;
     let walk = WalkDirGeneric::<C, S, _, _, _>::with_crew(fs, root)
         .sort(true)
         .skip_hidden(false)
@@ -73,66 +74,87 @@ where
     all_of(alloc, walk.process_read_dir(process).into_iter())
 }
 
-/// A tree with files of rules that a crew's workers share.
+/// The walk is by name. It may have any states besides those of the rules.
+fn all_by_builder<
+    B: Clone + Default + Debug + Drop,
+    E: Default + Debug + Drop,
+    S: FileSystem,
+    X: Texts,
+>(
+    fs: S,
+    root: String,
+    follows: bool,
+    rules: IgnoreFiles<X>,
+) -> Result<Vec<Answer<((Chain, B), E)>>, AllocError> {
+    let alloc = *root.allocator();
+    let walk = WalkDirGeneric::<((Chain, B), E), _, _, _>::new(fs, root)
+        .sort(true)
+        .follow_links(follows);
+    all_of(alloc, with_ignore_files(walk, rules).into_iter())
+}
+
+/// A tree with files of rules that a crew's workers share, and a walk by name over it.
 #[derive(Drop)]
 pub(crate) struct Shared {
     pub(crate) fs: Arc<MemoryFs>,
     pub(crate) texts: Arc<MemoryTexts>,
-    /// Whether hidden names stay.
-    pub(crate) keeps_hidden: bool,
-    /// Whether links are followed.
-    pub(crate) follows: bool,
 }
 
 impl Shared {
-    /// Hidden names stay, and links aren't followed.
     pub(crate) fn new(alloc: Global, planted: Planted) -> Result<Self, AllocError> {
         Ok(Shared {
             fs: Arc::new(alloc, planted.fs)?,
             texts: Arc::new(alloc, planted.texts)?,
-            keeps_hidden: true,
-            follows: false,
         })
     }
 
-    fn rules(&self) -> Result<SharedRules, AllocError> {
-        let rules = IgnoreFiles::new(self.texts.clone()?);
-        Ok(SharedRules(rules.keep_hidden(self.keeps_hidden)))
+    fn rules(&self, settings: Settings) -> Result<SharedRules, AllocError> {
+        Ok(SharedRules(settings.rules(self.texts.clone()?)))
     }
+}
 
-    /// Walks by name from `/r`.
+/// A walk by name over a tree with files of rules.
+#[derive(Clone, Copy)]
+pub(crate) struct Walk<'w> {
+    pub(crate) over: &'w Shared,
+    pub(crate) root: &'w str,
+    pub(crate) settings: Settings,
+}
+
+impl Walk<'_> {
     pub(crate) fn found<R: Threads + AllocGlobal + Sync>(
         &self,
         rt: &R,
         way: Way,
     ) -> Result<Vec<Answer<Rules>>, AllocError> {
+        const BY_NAME: &[Setting] = &[Setting::Sort, Setting::Hidden];
         const FOLLOWING: &[Setting] = &[Setting::Sort, Setting::Hidden, Setting::Follow];
         let asked = Asked {
-            fs: &*self.fs,
-            root: "/r",
-            settings: if self.follows { FOLLOWING } else { BY_NAME },
+            fs: &*self.over.fs,
+            root: self.root,
+            settings: if self.settings.follow {
+                FOLLOWING
+            } else {
+                BY_NAME
+            },
         };
-        asked.found(rt, self.rules()?, way)
+        asked.found(rt, self.over.rules(self.settings)?, way)
     }
 
-    /// Walks by name from `/r`.
     pub(crate) fn found_by_crew<R: Host>(
         &self,
         alloc: Global,
         pool: Arc<Crew<R>>,
     ) -> Result<Vec<Answer<Rules>>, AllocError> {
-        all_by_crew(alloc, self.fs.clone()?, self.follows, self.rules()?, pool)
+        let fs = self.over.fs.clone()?;
+        let rules = self.over.rules(self.settings)?;
+        all_by_crew(alloc, fs, self.root, self.settings.follow, rules, pool)
     }
 
-    /// Walks from `/r` in each way and over a crew of two.
-    pub(crate) fn leaves_always<R: Host>(&self, rt: &R, wanted: &str) -> Result<bool, AllocError> {
-        let alloc = rt.alloc();
-        let found = self.found_by_crew(alloc, crew_of_two(rt)?)?;
-        let mut is_left = text_of(alloc, &found)?.as_str() == wanted;
-        for way in WAYS {
-            let found = self.found(rt, *way)?;
-            is_left &= text_of(alloc, &found)?.as_str() == wanted;
-        }
-        Ok(is_left)
+    /// The builder sets the rules.
+    pub(crate) fn found_by_builder(&self, alloc: Global) -> Result<Vec<Answer<Rules>>, AllocError> {
+        let root = String::from_str(alloc, self.root)?;
+        let rules = self.settings.rules(&*self.over.texts);
+        all_by_builder(&*self.over.fs, root, self.settings.follow, rules)
     }
 }
