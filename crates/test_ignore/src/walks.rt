@@ -28,7 +28,7 @@ pub(crate) fn crew_of_two<R: Host>(rt: &R) -> Result<Arc<Crew<R>>, AllocError> {
 struct SharedRules(IgnoreFiles<Arc<MemoryTexts>>);
 
 impl ProcessReadDir<Rules, Global> for SharedRules {
-    ghost IsLawful = { λ _ _. Unit {0} };
+    ghost IsLawful = { λ _. Unit {0} };
 
     ghost Makes = { λ _ _. ⊥ };
 
