@@ -1,12 +1,11 @@
 //! Many links to the directory that they are in, with rules in force.
-use crate::planted::{Planted, Rules, tree_of};
+use crate::left::{Numbers, Wanted};
+use crate::planted::{Planted, tree_of};
 use crate::settings::Settings;
-use crate::walks::{Shared, Walk, crew_of_two};
+use crate::walks::{Shared, crew_of_two};
 use jwalk::file_system::BuildError;
 use std::alloc::Global;
-use test_fixtures::answers::Answer;
 use test_fixtures::host::Host;
-use test_fixtures::ways::WAYS;
 
 const LINKS: usize = 300;
 
@@ -22,50 +21,16 @@ fn linked(alloc: Global) -> Result<Planted, BuildError> {
     Ok(planted)
 }
 
-/// The numbers of answers.
-#[derive(Clone, Copy, PartialEq, Eq)]
-struct Numbers {
-    /// All of them.
-    all: usize,
-    /// Links that are yielded as links.
-    links: usize,
-    /// Errors of links that lead back to the root.
-    loops: usize,
-}
-
-fn is_loop(answer: &Answer<Rules>) -> bool {
-    matches!(answer, Err(error) if error.loop_ancestor() == Some("/r"))
-}
-
-fn is_link(answer: &Answer<Rules>) -> bool {
-    matches!(answer, Ok(entry) if entry.file_type.is_symlink())
-}
-
-fn numbers_of(found: &[Answer<Rules>]) -> Numbers {
-    Numbers {
-        all: found.len(),
-        links: found.iter().filter(|answer| is_link(*answer)).count(),
-        loops: found.iter().filter(|answer| is_loop(*answer)).count(),
-    }
-}
-
 /// Walks in each way and over a crew of two.
 fn has<R: Host>(rt: &R, follow: bool, wanted: Numbers) -> Result<bool, BuildError> {
-    let alloc = rt.alloc();
-    let walk = Walk {
-        over: &Shared::new(alloc, linked(alloc)?)?,
-        root: "/r",
-        settings: Settings {
-            follow,
-            ..Settings::NONE
-        },
+    let shared = Shared::new(rt.alloc(), linked(rt.alloc())?)?;
+    let settings = Settings {
+        follow,
+        ..Settings::NONE
     };
-    let by_crew = walk.found_by_crew(alloc, crew_of_two(rt)?)?;
-    let mut is_so = numbers_of(&by_crew) == wanted;
-    for way in WAYS {
-        is_so &= numbers_of(&walk.found(rt, *way)?) == wanted;
-    }
-    Ok(is_so)
+    let pool = crew_of_two(rt)?;
+    let wrong = shared.wrong(rt, &pool, ("/r", settings), Wanted::Numbers(wanted))?;
+    Ok(wrong.is_none())
 }
 
 // Of the names `l0` to `l299`, 111 begin with `l1`. A link isn't a directory, so the other rule keeps it. Beside the

@@ -12,7 +12,7 @@
 //! | `$ walk ROOT SETTING ..` | a row, which is a walk by name |
 //! | two spaces, `TEXT` | a line of the tree, or an item that the walk must yield |
 //!
-//! An item is as in [`text_of`](crate::left::text_of). An empty line says nothing.
+//! An item is as in [`Wanted`](crate::left::Wanted). An empty line says nothing.
 use crate::planted::Planted;
 use crate::settings::Settings;
 use jwalk::file_system::FileType;

@@ -1,31 +1,51 @@
 //! Walks that honour ignore files, in each way and over a crew.
+ghost use Rattle.std.specs.Prelude.{IfOk};
+
+use crate::left::Wanted;
 use crate::planted::{Planted, Rules};
 use crate::settings::Settings;
 use jwalk::file_system::{FileSystem, MemoryFs};
 use jwalk::read_dir::ProcessReadDir;
 use jwalk::{ClientState, Crew, Parallelism, WalkDirGeneric};
-use jwalk_ignore::builder::with_ignore_files;
 use jwalk_ignore::chain::Chain;
 use jwalk_ignore::ignore_files::IgnoreFiles;
 use jwalk_ignore::memory_texts::MemoryTexts;
-use jwalk_ignore::texts::Texts;
 use std::alloc::{AllocError, Global};
-use std::fmt::Debug;
 use std::sync::Arc;
 use std::thread::Threads;
 use test_fixtures::answers::Answer;
 use test_fixtures::host::Host;
-use test_fixtures::ways::{Asked, Setting, Way, all_of};
+use test_fixtures::ways::{Asked, Setting, WAYS, Way, all_of};
 
 /// The crew serves one walk at a time.
 pub(crate) fn crew_of_two<R: Host>(rt: &R) -> Result<Arc<Crew<R>>, AllocError> {
     Ok(Arc::new(rt.alloc(), Crew::new(rt.clone()?, 1, 2))?)
 }
 
+/// A callback that can be made again.
+pub(crate) trait Again<C: ClientState>: ProcessReadDir<C, Global> + Send + Sync + 'static {
+    fn again(&self) -> Result<Self, AllocError>
+        ensures { IfOk result (λ it. Self.IsLawful it) };
+}
+
 /// The rules of a tree that a crew's workers share, as a callback. It has a type of its own, since the types of rules
 /// are long, and proofs of functions over any runtime compare them.
 #[derive(Drop)]
-struct SharedRules(IgnoreFiles<Arc<MemoryTexts>>);
+struct SharedRules {
+    texts: Arc<MemoryTexts>,
+    settings: Settings,
+    rules: IgnoreFiles<Arc<MemoryTexts>>,
+}
+
+impl SharedRules {
+    fn new(texts: Arc<MemoryTexts>, settings: Settings) -> Result<Self, AllocError> {
+        Ok(SharedRules {
+            rules: settings.rules(texts.clone()?),
+            texts,
+            settings,
+        })
+    }
+}
 
 impl ProcessReadDir<Rules, Global> for SharedRules {
     ghost IsLawful = { λ _. Unit {0} };
@@ -39,7 +59,13 @@ impl ProcessReadDir<Rules, Global> for SharedRules {
         state: &mut (Chain, ()),
         list: &mut Vec<Answer<Rules>>,
     ) -> Result<(), AllocError> {
-        self.0.process(depth, path, state, list)
+        self.rules.process(depth, path, state, list)
+    }
+}
+
+impl Again<Rules> for SharedRules {
+    fn again(&self) -> Result<Self, AllocError> {
+        SharedRules::new(self.texts.clone()?, self.settings)
     }
 }
 
@@ -74,30 +100,79 @@ where
     all_of(alloc, walk.process_read_dir(process).into_iter())
 }
 
-/// The walk is by name. It may have any states besides those of the rules.
-fn all_by_builder<
-    B: Clone + Default + Debug + Drop,
-    E: Default + Debug + Drop,
-    S: FileSystem,
-    X: Texts,
->(
-    fs: S,
-    root: String,
-    follows: bool,
-    rules: IgnoreFiles<X>,
-) -> Result<Vec<Answer<((Chain, B), E)>>, AllocError> {
-    let alloc = *root.allocator();
-    let walk = WalkDirGeneric::<((Chain, B), E), _, _, _>::new(fs, root)
-        .sort(true)
-        .follow_links(follows);
-    all_of(alloc, with_ignore_files(walk, rules).into_iter())
+/// A walk by name, over a tree that a crew's workers share. It is shown hidden names.
+#[derive(Drop)]
+struct Walk<'w, S, P> {
+    fs: &'w Arc<S>,
+    root: &'w str,
+    follow: bool,
+    process: &'w P,
 }
 
-/// A tree with files of rules that a crew's workers share, and a walk by name over it.
+impl<S: FileSystem + Send + Sync + 'static, P> Walk<'_, S, P> {
+    fn found<R: Threads + AllocGlobal + Sync, C: ClientState + Send>(
+        &self,
+        rt: &R,
+        way: Way,
+    ) -> Result<Vec<Answer<C>>, AllocError>
+    where
+        P: Again<C>,
+        C::ReadDirState: Send,
+        C::DirEntryState: Send,
+    {
+        const BY_NAME: &[Setting] = &[Setting::Sort, Setting::Hidden];
+        const FOLLOWING: &[Setting] = &[Setting::Sort, Setting::Hidden, Setting::Follow];
+        let asked = Asked {
+            fs: &**self.fs,
+            root: self.root,
+            settings: if self.follow { FOLLOWING } else { BY_NAME },
+        };
+        asked.found(rt, self.process.again()?, way)
+    }
+
+    fn found_by_crew<R: Host, C: ClientState + Send + 'static>(
+        &self,
+        alloc: Global,
+        pool: &Arc<Crew<R>>,
+    ) -> Result<Vec<Answer<C>>, AllocError>
+    where
+        P: Again<C>,
+        C::ReadDirState: Send + 'static,
+        C::DirEntryState: Send + 'static,
+    {
+        let fs = self.fs.clone()?;
+        let process = self.process.again()?;
+        all_by_crew(alloc, fs, self.root, self.follow, process, pool.clone()?)
+    }
+
+    /// Walks over a crew and in each way. Returns the items of the first walk that doesn't yield what is wanted.
+    fn wrong<R: Host, C: ClientState + Send + 'static>(
+        &self,
+        rt: &R,
+        pool: &Arc<Crew<R>>,
+        wanted: Wanted<'_>,
+    ) -> Result<Option<String>, AllocError>
+    where
+        P: Again<C>,
+        C::ReadDirState: Send + 'static,
+        C::DirEntryState: Send + 'static,
+    {
+        let alloc = rt.alloc();
+        let mut wrong = wanted.wrong::<C>(alloc, &self.found_by_crew(alloc, pool)?)?;
+        for way in WAYS {
+            if wrong.is_none() {
+                wrong = wanted.wrong::<C>(alloc, &self.found(rt, *way)?)?;
+            }
+        }
+        Ok(wrong)
+    }
+}
+
+/// A tree with files of rules that a crew's workers share.
 #[derive(Drop)]
 pub(crate) struct Shared {
-    pub(crate) fs: Arc<MemoryFs>,
-    pub(crate) texts: Arc<MemoryTexts>,
+    fs: Arc<MemoryFs>,
+    texts: Arc<MemoryTexts>,
 }
 
 impl Shared {
@@ -108,53 +183,21 @@ impl Shared {
         })
     }
 
-    fn rules(&self, settings: Settings) -> Result<SharedRules, AllocError> {
-        Ok(SharedRules(settings.rules(self.texts.clone()?)))
-    }
-}
-
-/// A walk by name over a tree with files of rules.
-#[derive(Clone, Copy)]
-pub(crate) struct Walk<'w> {
-    pub(crate) over: &'w Shared,
-    pub(crate) root: &'w str,
-    pub(crate) settings: Settings,
-}
-
-impl Walk<'_> {
-    pub(crate) fn found<R: Threads + AllocGlobal + Sync>(
+    /// Walks over a crew and in each way. Returns the items of the first walk that doesn't yield what is wanted.
+    pub(crate) fn wrong<R: Host>(
         &self,
         rt: &R,
-        way: Way,
-    ) -> Result<Vec<Answer<Rules>>, AllocError> {
-        const BY_NAME: &[Setting] = &[Setting::Sort, Setting::Hidden];
-        const FOLLOWING: &[Setting] = &[Setting::Sort, Setting::Hidden, Setting::Follow];
-        let asked = Asked {
-            fs: &*self.over.fs,
-            root: self.root,
-            settings: if self.settings.follow {
-                FOLLOWING
-            } else {
-                BY_NAME
-            },
+        pool: &Arc<Crew<R>>,
+        (root, settings): (&str, Settings),
+        wanted: Wanted<'_>,
+    ) -> Result<Option<String>, AllocError> {
+        let process = SharedRules::new(self.texts.clone()?, settings)?;
+        let walk = Walk {
+            fs: &self.fs,
+            root,
+            follow: settings.follow,
+            process: &process,
         };
-        asked.found(rt, self.over.rules(self.settings)?, way)
-    }
-
-    pub(crate) fn found_by_crew<R: Host>(
-        &self,
-        alloc: Global,
-        pool: Arc<Crew<R>>,
-    ) -> Result<Vec<Answer<Rules>>, AllocError> {
-        let fs = self.over.fs.clone()?;
-        let rules = self.over.rules(self.settings)?;
-        all_by_crew(alloc, fs, self.root, self.settings.follow, rules, pool)
-    }
-
-    /// The builder sets the rules.
-    pub(crate) fn found_by_builder(&self, alloc: Global) -> Result<Vec<Answer<Rules>>, AllocError> {
-        let root = String::from_str(alloc, self.root)?;
-        let rules = self.settings.rules(&*self.over.texts);
-        all_by_builder(&*self.over.fs, root, self.settings.follow, rules)
+        walk.wrong::<R, Rules>(rt, pool, wanted)
     }
 }
