@@ -1,5 +1,5 @@
 #!/usr/bin/env python3
-"""Small trees with ignore files, and what git keeps of them, as in crates/test_seek/src/ignore/tree_rows.
+"""Small trees with ignore files, and what git keeps of them, as in crates/test_ignore/src/tree_rows.
 
     python3 bench/ignore_trees.py write SEED           writes the 100 trees of the tests, 50 a file; theirs is seed 1
     python3 bench/ignore_trees.py against PROGRAM COUNT SEED
@@ -103,9 +103,11 @@ def trees(count, seed):
             yield number, folder, lines, kept(folder, lines)
 
 
-def written(text):
-    """A string of Rust, over lines."""
-    return '"' + text.replace("\\", "\\\\").replace('"', '\\"').replace("\n", "\\n") + '"'
+def written(number, lines, left):
+    """The lines of a table for a tree, in a string of Rust."""
+    indented = lambda texts: [f"  {text}" for text in texts]
+    said = [f"# tree {number}", "repository", *indented(lines), "$ walk /r", *indented(left)]
+    return "".join(line.replace("\\", "\\\\").replace('"', '\\"') + "\n" for line in said)
 
 
 FILES = ["first", "second"]
@@ -158,17 +160,17 @@ def chosen(rows, count):
 
 def write(seed):
     """Writes the tables of the tests, of trees of at most 12 lines."""
-    top = os.path.join(os.path.dirname(os.path.abspath(__file__)), "..", "crates", "test_seek", "src", "ignore", "tree_rows")
+    top = os.path.join(os.path.dirname(os.path.abspath(__file__)), "..", "crates", "test_ignore", "src", "tree_rows")
     os.makedirs(top, exist_ok=True)
     rows = [(lines, left) for _, _, lines, left in trees(900, seed) if len(lines) <= 12 and len(left) < len(paths_of(lines))]
     rows = chosen(rows[:200], PER_FILE * len(FILES))
     for index, name in enumerate(FILES):
+        first = PER_FILE * index
         with open(os.path.join(top, name + ".rt"), "w") as file:
-            file.write("//! Rows of trees.\nuse crate::ignore::tree_rows::TreeRow;\n\n/// Trees, with what is kept of each.\n")
-            file.write("const ROWS: &[TreeRow] = &[\n")
-            for lines, left in rows[PER_FILE * index:PER_FILE * (index + 1)]:
-                file.write(f"    (\n        {written(chr(10).join(lines))},\n        {written(chr(10).join(left))},\n    ),\n")
-            file.write("];\n\n/// Returns them. What calls this has none of the table in its own proof.\npub(crate) fn rows() -> &'static [TreeRow] {\n    ROWS\n}\n")
+            file.write("//! Rows of trees.\n\n/// Trees, with what is kept of each.\npub(crate) const ROWS: &str = \"\\\n")
+            for number, (lines, left) in enumerate(rows[first:first + PER_FILE], first):
+                file.write(written(number, lines, left))
+            file.write("\";\n")
 
 
 def against(program, count, seed):

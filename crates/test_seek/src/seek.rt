@@ -1,5 +1,6 @@
 //! Runs of the program `seek`.
 mod braces;
+mod come;
 mod disk;
 mod errors;
 mod folder;
@@ -9,6 +10,8 @@ mod names;
 mod options;
 mod output;
 mod outputs;
+mod patterns;
 mod rules;
 mod runs;
+mod table;
 mod words;

@@ -1,171 +1,157 @@
 //! Braces in globs and in lines of `-E`.
-use crate::seek::runs::{Row, TREE, all_come, prints, prints_by};
+use crate::seek::come::all_come;
 use std::alloc::{AllocError, Global};
 use std::test::Fail;
 
-const BRACED: &str = "d /r\nf 1 /r/{a,b}\nf 1 /r/{a,b\nf 1 /r/a\nf 1 /r/b}\nf 1 /r/{\nf 1 /r/a,c\n";
+const BRACES: &str = "\
+# a glob takes what one of its texts takes
+$ seek -g *.{rs,txt} /t
+  /t/a.txt
+  /t/B.TXT
+  /t/sub/c.rs
+  /t/sub/deep/a.rs
+$ seek -g {a,B}.{txt,TXT} /t
+  /t/a.txt
+  /t/B.TXT
+$ seek -g {link,{c,notes}.{rs,tar.*}} /t
+  /t/sub/c.rs
+  /t/sub/notes.tar.gz
+  /t/link
+$ seek -p -g /t/{sub/*.rs,**/a.*} /t
+  /t/a.txt
+  /t/sub/c.rs
+  /t/sub/deep/a.rs
+# alternatives that are empty or alone
+$ seek -g {a}.txt /t
+  /t/a.txt
+$ seek -g a{}.txt /t
+  /t/a.txt
+$ seek -g a{,.txt} /t
+  /t/a.txt
+$ seek -g {link,} /t
+  /t/link
+$ seek -g {} /t
+# a malformed alternative is refused
+$ seek -g {a,b\\ /t
+! seek: bad pattern '{a,b\\': no glob
+= 2
+$ seek -g {a,[b} /t
+! seek: bad pattern '{a,[b}': no glob
+= 2
+# lines of exclude
+$ seek -E *.{rs,txt,TXT} . /t
+  /t/sub
+  /t/sub/notes.tar.gz
+  /t/sub/deep
+  /t/link
+  /t/down
+$ seek -E *.{rs,txt} -E !{c,x}.rs rs$ /t
+  /t/sub/c.rs
+$ seek -E {/a,b,deep/}* a /t
+  /t/sub/notes.tar.gz
+  /t/sub/deep/a.rs
+$ seek -I -E /{sub,link} . /t
+  /t/a.txt
+  /t/B.TXT
+  /t/down
+# more than 1024 texts are refused
+$ seek -g {a,b}{a,b}{a,b}{a,b}{a,b}{a,b}{a,b}{a,b}{a,b}{a,b} /t
+$ seek -g {{a,b}{a,b}{a,b}{a,b}{a,b}{a,b}{a,b}{a,b}{a,b}{a,b},a} /t
+! seek: bad pattern '{{a,b}{a,b}{a,b}{a,b}{a,b}{a,b}{a,b}{a,b}{a,b}{a,b},a}': short for more than 1024 others
+= 2
+$ seek -g --and {{a,b}{a,b}{a,b}{a,b}{a,b}{a,b}{a,b}{a,b}{a,b}{a,b},a} * /t
+! seek: bad pattern '{{a,b}{a,b}{a,b}{a,b}{a,b}{a,b}{a,b}{a,b}{a,b}{a,b},a}': short for more than 1024 others
+= 2
+$ seek -E {a,b}{a,b}{a,b}{a,b}{a,b}{a,b}{a,b}{a,b}{a,b}{a,b} txt /t
+  /t/a.txt
+  /t/B.TXT
+$ seek -E a -E {{a,b}{a,b}{a,b}{a,b}{a,b}{a,b}{a,b}{a,b}{a,b}{a,b},a} txt /t
+! seek: bad pattern '{{a,b}{a,b}{a,b}{a,b}{a,b}{a,b}{a,b}{a,b}{a,b}{a,b},a}': short for more than 1024 others
+= 2
+$ seek -F {{a,b}{a,b}{a,b}{a,b}{a,b}{a,b}{a,b}{a,b}{a,b}{a,b},a} /t
+";
 
 #[test]
-fn a_glob_takes_what_one_of_its_texts_takes(rt: HostRuntime) {
-    prints(
-        &rt,
-        &["-g", "*.{rs,txt}", "/t"],
-        "/t/a.txt\n/t/B.TXT\n/t/sub/c.rs\n/t/sub/deep/a.rs\n",
-    );
-    prints(
-        &rt,
-        &["-g", "{a,B}.{txt,TXT}", "/t"],
-        "/t/a.txt\n/t/B.TXT\n",
-    );
-    prints(
-        &rt,
-        &["-g", "{link,{c,notes}.{rs,tar.*}}", "/t"],
-        "/t/sub/c.rs\n/t/sub/notes.tar.gz\n/t/link\n",
-    );
-    prints(
-        &rt,
-        &["-p", "-g", "/t/{sub/*.rs,**/a.*}", "/t"],
-        "/t/a.txt\n/t/sub/c.rs\n/t/sub/deep/a.rs\n",
-    );
+fn braces(rt: HostRuntime) {
+    all_come(&rt, BRACES);
 }
 
-#[test]
-fn alternatives_that_are_empty_or_alone(rt: HostRuntime) {
-    prints(&rt, &["-g", "{a}.txt", "/t"], "/t/a.txt\n");
-    prints(&rt, &["-g", "a{}.txt", "/t"], "/t/a.txt\n");
-    prints(&rt, &["-g", "a{,.txt}", "/t"], "/t/a.txt\n");
-    prints(&rt, &["-g", "{link,}", "/t"], "/t/link\n");
-    prints(&rt, &["-g", "{}", "/t"], "");
-}
+/// Names with braces and commas.
+const LITERAL: &str = "\
+# braces and commas that are themselves
+tree
+  d /r
+  f 1 /r/{a,b}
+  f 1 /r/{a,b
+  f 1 /r/a
+  f 1 /r/b}
+  f 1 /r/{
+  f 1 /r/a,c
+$ seek -g \\{a,b\\} /r
+  /r/{a,b}
+$ seek -g \\{a,b} /r
+  /r/{a,b}
+$ seek -g {a\\,c,x} /r
+  /r/a,c
+$ seek -g {a,b /r
+  /r/{a,b
+$ seek -g {a,b}} /r
+  /r/b}
+$ seek -g a,c /r
+  /r/a,c
+$ seek -g { /r
+  /r/{
+$ seek -g [{] /r
+  /r/{
+$ seek -g {[{],[]{]a*[}]} /r
+  /r/{a,b}
+  /r/{
+$ seek -g {[[:alpha:]{}],x} /r
+  /r/a
+  /r/{
+# braces and commas that are themselves in lines of exclude
+$ seek -E \\{* -E {a,b}* . /r
+$ seek -E {a,b -E a* b /r
+  /r/{a,b}
+  /r/b}
+";
 
 #[test]
 fn braces_and_commas_that_are_themselves(rt: HostRuntime) {
-    const ROWS: &[Row] = &[
-        (
-            &["-g", r"\{a,b\}", "/r"],
-            BRACED,
-            &[],
-            ("/r/{a,b}\n", "", 0),
-        ),
-        (&["-g", r"\{a,b}", "/r"], BRACED, &[], ("/r/{a,b}\n", "", 0)),
-        (&["-g", r"{a\,c,x}", "/r"], BRACED, &[], ("/r/a,c\n", "", 0)),
-        (&["-g", "{a,b", "/r"], BRACED, &[], ("/r/{a,b\n", "", 0)),
-        (&["-g", "{a,b}}", "/r"], BRACED, &[], ("/r/b}\n", "", 0)),
-        (&["-g", "a,c", "/r"], BRACED, &[], ("/r/a,c\n", "", 0)),
-        (&["-g", "{", "/r"], BRACED, &[], ("/r/{\n", "", 0)),
-        (&["-g", "[{]", "/r"], BRACED, &[], ("/r/{\n", "", 0)),
-        (
-            &["-g", "{[{],[]{]a*[}]}", "/r"],
-            BRACED,
-            &[],
-            ("/r/{a,b}\n/r/{\n", "", 0),
-        ),
-        (
-            &["-g", "{[[:alpha:]{}],x}", "/r"],
-            BRACED,
-            &[],
-            ("/r/a\n/r/{\n", "", 0),
-        ),
-    ];
-    all_come(&rt, ROWS);
+    all_come(&rt, LITERAL);
 }
 
-#[test]
-fn a_malformed_alternative_is_refused(rt: HostRuntime) {
-    const TOLD: &str = "seek: bad pattern '{a,b\\': no glob\n";
-    const CLASS_TOLD: &str = "seek: bad pattern '{a,[b}': no glob\n";
-    const ROWS: &[Row] = &[
-        (&["-g", r"{a,b\", "/t"], TREE, &[], ("", TOLD, 2)),
-        (&["-g", "{a,[b}", "/t"], TREE, &[], ("", CLASS_TOLD, 2)),
-    ];
-    all_come(&rt, ROWS);
+/// Adds a row for a word that is too long for a table.
+fn push_row(table: &mut String, option: &str, word: &str, told: &str) -> Result<(), AllocError> {
+    table.push_str("$ seek ")?;
+    table.push_str(option)?;
+    table.push_str(word)?;
+    table.push_str(" /t\n")?;
+    table.push_str(told)
 }
 
-#[test]
-fn lines_of_exclude(rt: HostRuntime) {
-    prints(
-        &rt,
-        &["-E", "*.{rs,txt,TXT}", ".", "/t"],
-        "/t/sub\n/t/sub/notes.tar.gz\n/t/sub/deep\n/t/link\n/t/down\n",
-    );
-    prints(
-        &rt,
-        &["-E", "*.{rs,txt}", "-E", "!{c,x}.rs", "rs$", "/t"],
-        "/t/sub/c.rs\n",
-    );
-    prints(
-        &rt,
-        &["-E", "{/a,b,deep/}*", "a", "/t"],
-        "/t/sub/notes.tar.gz\n/t/sub/deep/a.rs\n",
-    );
-    prints(
-        &rt,
-        &["-I", "-E", "/{sub,link}", ".", "/t"],
-        "/t/a.txt\n/t/B.TXT\n/t/down\n",
-    );
-    const ROWS: &[Row] = &[
-        (
-            &["-E", r"\{*", "-E", "{a,b}*", ".", "/r"],
-            BRACED,
-            &[],
-            ("", "", 0),
-        ),
-        (
-            &["-E", "{a,b", "-E", "a*", "b", "/r"],
-            BRACED,
-            &[],
-            ("/r/{a,b}\n/r/b}\n", "", 0),
-        ),
-    ];
-    all_come(&rt, ROWS);
-}
-
-#[test]
-fn more_than_1024_texts_are_refused(rt: HostRuntime) {
-    const MOST: &str = "{a,b}{a,b}{a,b}{a,b}{a,b}{a,b}{a,b}{a,b}{a,b}{a,b}";
-    const MORE: &str = "{{a,b}{a,b}{a,b}{a,b}{a,b}{a,b}{a,b}{a,b}{a,b}{a,b},a}";
-    const TOLD: &str =
-        "seek: bad pattern '{{a,b}{a,b}{a,b}{a,b}{a,b}{a,b}{a,b}{a,b}{a,b}{a,b},a}': short for more than 1024 others\n";
-    const ROWS: &[Row] = &[
-        (&["-g", MOST, "/t"], TREE, &[], ("", "", 0)),
-        (&["-g", MORE, "/t"], TREE, &[], ("", TOLD, 2)),
-        (&["-g", "--and", MORE, "*", "/t"], TREE, &[], ("", TOLD, 2)),
-        (
-            &["-E", MOST, "txt", "/t"],
-            TREE,
-            &[],
-            ("/t/a.txt\n/t/B.TXT\n", "", 0),
-        ),
-        (
-            &["-E", "a", "-E", MORE, "txt", "/t"],
-            TREE,
-            &[],
-            ("", TOLD, 2),
-        ),
-        (&["-F", MORE, "/t"], TREE, &[], ("", "", 0)),
-    ];
-    all_come(&rt, ROWS);
-}
-
-fn repeated(alloc: Global, part: &str, times: usize) -> Result<String, AllocError> {
-    let mut text = String::new(alloc);
-    for _ in 0..times {
-        text.push_str(part)?;
-    }
-    Ok(text)
+fn long_words(alloc: Global) -> Result<String, AllocError> {
+    let mut table = String::from_str(alloc, "# long and deep texts\n")?;
+    let refused = "!~ short for more than 1024 others\n= 2\n";
+    push_row(
+        &mut table,
+        "-g ",
+        "{a,b}".repeat(alloc, 20_000)?.as_str(),
+        refused,
+    )?;
+    push_row(&mut table, "-g ", "{".repeat(alloc, 50_000)?.as_str(), "")?;
+    let mut nest = "{x".repeat(alloc, 20_000)?;
+    nest.push_str("y}".repeat(alloc, 20_000)?.as_str())?;
+    push_row(&mut table, "-g ", nest.as_str(), "")?;
+    let mut split = "{x,".repeat(alloc, 2_000)?;
+    split.push_str("}".repeat(alloc, 2_000)?.as_str())?;
+    split.push_str(" .")?;
+    push_row(&mut table, "-E ", split.as_str(), refused)?;
+    Ok(table)
 }
 
 #[test]
 fn long_and_deep_texts(rt: HostRuntime) -> Result<(), Fail> {
-    let many = repeated(rt.alloc(), "{a,b}", 20_000)?;
-    prints_by(&rt, "-j1", &["-g", many.as_str(), "/t"], "", 2);
-    let open = repeated(rt.alloc(), "{", 50_000)?;
-    prints_by(&rt, "-j1", &["-g", open.as_str(), "/t"], "", 0);
-    let mut nest = repeated(rt.alloc(), "{x", 20_000)?;
-    nest.push_str(repeated(rt.alloc(), "y}", 20_000)?.as_str())?;
-    prints_by(&rt, "-j1", &["-g", nest.as_str(), "/t"], "", 0);
-    let mut split = repeated(rt.alloc(), "{x,", 2_000)?;
-    split.push_str(repeated(rt.alloc(), "}", 2_000)?.as_str())?;
-    prints_by(&rt, "-j1", &["-E", split.as_str(), ".", "/t"], "", 2);
+    all_come(&rt, long_words(rt.alloc())?.as_str());
     Ok(())
 }

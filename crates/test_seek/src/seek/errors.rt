@@ -1,116 +1,113 @@
 //! Errors of walks.
+use crate::seek::come::all_come;
 use crate::seek::output::Output;
-use crate::seek::runs::{Row, RulesFile, all_come, called};
+use crate::seek::runs::{Call, called};
 use std::alloc::{AllocError, Global};
 
-#[test]
-fn a_root_that_is_missing(rt: HostRuntime) {
-    const ROWS: &[Row] = &[
-        (
-            &[".", "/no"],
-            "d /r\n",
-            &[],
-            ("", "seek: /no: entity not found\n", 1),
-        ),
-        (
-            &[".", "/no", "/r"],
-            "d /r\nf 1 /r/a\n",
-            &[],
-            ("/r/a\n", "seek: /no: entity not found\n", 1),
-        ),
-    ];
-    all_come(&rt, ROWS);
-}
+const ERRORS: &str = "\
+# a root that is missing
+tree
+  d /r
+$ seek . /no
+! seek: /no: entity not found
+= 1
+tree
+  d /r
+  f 1 /r/a
+$ seek . /no /r
+  /r/a
+! seek: /no: entity not found
+= 1
+# a root that is no directory
+tree
+  d /r
+  f 1 /r/a
+  d /r/d
+  f 1 /r/d/x
+  l d\t/r/l
+  l a\t/r/k
+$ seek . /r/a /r/k /r/l
+  /r/l/x
+! seek: /r/a: Not a directory
+! seek: /r/k: Not a directory
+= 1
+$ seek -L . /r/a /r/k /r/l
+  /r/l/x
+! seek: /r/a: Not a directory
+! seek: /r/k: Not a directory
+= 1
+$ seek -d0 . /r/l
+# a directory that may not be read
+tree
+  d /r
+  d /r/x
+  f 1 /r/x/a
+  f 1 /r/y
+  x /r/x
+$ seek . /r
+  /r/x
+  /r/y
+! seek: /r/x: permission denied
+= 1
+$ seek y /r
+  /r/y
+! seek: /r/x: permission denied
+= 1
+$ seek -t f --min-depth 2 . /r
+! seek: /r/x: permission denied
+= 1
+$ seek -d1 . /r
+  /r/x
+  /r/y
+$ seek -E x . /r
+  /r/y
+$ seek . /r/x
+! seek: /r/x: permission denied
+= 1
+# a link that leads back
+tree
+  d /r
+  f 1 /r/a
+  l ..\t/r/up
+  l .\t/r/here
+$ seek . /r
+  /r/a
+  /r/up
+  /r/here
+$ seek -L a /r -d1
+  /r/a
+! seek: /r/here: a link that leads back to /r
+= 1
+# a link that leads nowhere
+tree
+  d /r
+  f 1 /r/.ignore
+  l no\t/r/c
+  l no\t/r/.h
+  d /r/b
+  l no\t/r/b/d
+  l no\t/r/b/e
+rules /r/.ignore
+  e
+$ seek -L --sort . /r
+  /r/b
+  /r/b/d
+  /r/c
+$ seek -LI -tl . /r
+  /r/c
+  /r/b/d
+  /r/b/e
+$ seek -LH -E c -tl . /r
+  /r/.h
+  /r/b/d
+$ seek -L . /r/c
+! seek: /r/c: Not a directory
+= 1
+";
 
 #[test]
-fn a_root_that_is_no_directory(rt: HostRuntime) {
-    const LINKS: &str = "d /r\nf 1 /r/a\nd /r/d\nf 1 /r/d/x\nl d\t/r/l\nl a\t/r/k\n";
-    const TOLD: &str = "seek: /r/a: Not a directory\nseek: /r/k: Not a directory\n";
-    const ROWS: &[Row] = &[
-        (
-            &[".", "/r/a", "/r/k", "/r/l"],
-            LINKS,
-            &[],
-            ("/r/l/x\n", TOLD, 1),
-        ),
-        (
-            &["-L", ".", "/r/a", "/r/k", "/r/l"],
-            LINKS,
-            &[],
-            ("/r/l/x\n", TOLD, 1),
-        ),
-        (&["-d0", ".", "/r/l"], LINKS, &[], ("", "", 0)),
-    ];
-    all_come(&rt, ROWS);
-}
-
-#[test]
-fn a_directory_that_may_not_be_read(rt: HostRuntime) {
-    const DENIED: &str = "d /r\nd /r/x\nf 1 /r/x/a\nf 1 /r/y\nx /r/x\n";
-    const TOLD: &str = "seek: /r/x: permission denied\n";
-    const ROWS: &[Row] = &[
-        (&[".", "/r"], DENIED, &[], ("/r/x\n/r/y\n", TOLD, 1)),
-        (&["y", "/r"], DENIED, &[], ("/r/y\n", TOLD, 1)),
-        (
-            &["-t", "f", "--min-depth", "2", ".", "/r"],
-            DENIED,
-            &[],
-            ("", TOLD, 1),
-        ),
-        (&["-d1", ".", "/r"], DENIED, &[], ("/r/x\n/r/y\n", "", 0)),
-        (&["-E", "x", ".", "/r"], DENIED, &[], ("/r/y\n", "", 0)),
-        (&[".", "/r/x"], DENIED, &[], ("", TOLD, 1)),
-    ];
-    all_come(&rt, ROWS);
-}
-
-#[test]
-fn a_link_that_leads_back(rt: HostRuntime) {
-    const BACK: &str = "d /r\nf 1 /r/a\nl ..\t/r/up\nl .\t/r/here\n";
-    const ROWS: &[Row] = &[
-        (&[".", "/r"], BACK, &[], ("/r/a\n/r/up\n/r/here\n", "", 0)),
-        (
-            &["-L", "a", "/r", "-d1"],
-            BACK,
-            &[],
-            ("/r/a\n", "seek: /r/here: a link that leads back to /r\n", 1),
-        ),
-    ];
-    all_come(&rt, ROWS);
-}
-
-#[test]
-fn a_link_that_leads_nowhere(rt: HostRuntime) {
-    const NOWHERE: &str =
-        "d /r\nf 1 /r/.ignore\nl no\t/r/c\nl no\t/r/.h\nd /r/b\nl no\t/r/b/d\nl no\t/r/b/e\n";
-    const RULES: &[RulesFile] = &[("/r/.ignore", "e\n")];
-    const ROWS: &[Row] = &[
-        (
-            &["-L", "--sort", ".", "/r"],
-            NOWHERE,
-            RULES,
-            ("/r/b\n/r/b/d\n/r/c\n", "", 0),
-        ),
-        (
-            &["-LI", "-tl", ".", "/r"],
-            NOWHERE,
-            RULES,
-            ("/r/c\n/r/b/d\n/r/b/e\n", "", 0),
-        ),
-        (
-            &["-LH", "-E", "c", "-tl", ".", "/r"],
-            NOWHERE,
-            RULES,
-            ("/r/.h\n/r/b/d\n", "", 0),
-        ),
-        (
-            &["-L", ".", "/r/c"],
-            NOWHERE,
-            RULES,
-            ("", "seek: /r/c: Not a directory\n", 1),
-        ),
-    ];
-    all_come(&rt, ROWS);
+fn errors(rt: HostRuntime) {
+    all_come(&rt, ERRORS);
 }
 
 /// Each link of the directory leads to the next one, and the last to the first.
@@ -130,11 +127,15 @@ fn line_count(text: &[u8]) -> usize {
 #[test]
 fn three_hundred_links_in_a_ring(rt: HostRuntime) -> Result<(), AllocError> {
     let lines = ring(rt.alloc(), 300)?;
-    let tree = (lines.as_str(), [].as_slice());
-    for (words, printed, told) in [(["-tl", ".", "/r"], 300, 0), (["-L", ".", "/r"], 0, 300)] {
+    for (words, printed, told) in [("-tl . /r", 300, 0), ("-L . /r", 0, 300)] {
+        let call = Call {
+            front: "-j2",
+            words,
+            on_terminal: false,
+        };
         let mut out = Output::new(rt.alloc());
         let mut err = Output::new(rt.alloc());
-        let status = called(&rt, tree, "-j2", &words, false, &mut out, &mut err);
+        let status = called(&rt, lines.as_str(), call, &mut out, &mut err);
         assert_eq!(rt; status, u8::from(told > 0));
         assert_eq!(rt;
             (line_count(out.written()), line_count(err.written())),

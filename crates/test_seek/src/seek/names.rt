@@ -1,31 +1,35 @@
 //! Names with odd characters.
-use crate::seek::runs::{Row, all_come};
+use crate::seek::come::all_come;
 
-const ODD: &str = "d /r\nf 1 /r/with space\nf 1 /r/-dash\nf 1 /r/tab\there\nf 1 /r/ü.Jpg\n";
-
-/// Calls, and their outputs.
-const ROWS: &[Row<'static>] = &[
-    (
-        &[".", "/r"],
-        ODD,
-        &[],
-        ("/r/with space\n/r/-dash\n/r/tab\there\n/r/ü.Jpg\n", "", 0),
-    ),
-    (&["h s", "/r"], ODD, &[], ("/r/with space\n", "", 0)),
-    (&["--", "-d", "/r"], ODD, &[], ("/r/-dash\n", "", 0)),
-    (&[r"\t", "/r"], ODD, &[], ("/r/tab\there\n", "", 0)),
-    (&["Ü", "/r"], ODD, &[], ("", "", 0)),
-    (&["-i", "Ü", "/r"], ODD, &[], ("/r/ü.Jpg\n", "", 0)),
-    (&["-e", "jpg", ".", "/r"], ODD, &[], ("/r/ü.Jpg\n", "", 0)),
-    (
-        &["-0", "a", "/r"],
-        ODD,
-        &[],
-        ("/r/with space\0/r/-dash\0/r/tab\there\0", "", 0),
-    ),
-];
+const NAMES: &str = "\
+# names are written as they are
+tree
+  d /r
+  f 1 /r/with space
+  f 1 /r/-dash
+  f 1 /r/tab\there
+  f 1 /r/ü.Jpg
+$ seek . /r
+  /r/with space
+  /r/-dash
+  /r/tab\there
+  /r/ü.Jpg
+$ seek 'h s' /r
+  /r/with space
+$ seek -- -d /r
+  /r/-dash
+$ seek \\t /r
+  /r/tab\there
+$ seek Ü /r
+$ seek -i Ü /r
+  /r/ü.Jpg
+$ seek -e jpg . /r
+  /r/ü.Jpg
+$ seek -0 a /r
+  /r/with space\0/r/-dash\0/r/tab\there\0
+";
 
 #[test]
 fn names_are_written_as_they_are(rt: HostRuntime) {
-    all_come(&rt, ROWS);
+    all_come(&rt, NAMES);
 }

@@ -1,130 +1,133 @@
 //! Rules in force.
-use crate::seek::runs::{Row, all_come};
+use crate::seek::come::all_come;
 
-/// A repository with rules at two depths.
-const REPOSITORY: &str =
-    "d /r\nd /r/.git\nf 1 /r/.gitignore\nf 1 /r/a.o\nf 1 /r/a.c\nd /r/build\nf 1 /r/build/x.c\nd /r/lib\nf 1 /r/lib/.gitignore\nf 1 /r/lib/keep.o\nf 1 /r/lib/b.o\n";
-
-const RULES: &[(&str, &str)] = &[
-    ("/r/.gitignore", "*.o\nbuild/\n"),
-    ("/r/lib/.gitignore", "!keep.o\n"),
-];
+/// The first tree is a repository with rules at two depths.
+const RULES: &str = "\
+# rules leave out what they name
+tree
+  d /r
+  d /r/.git
+  f 1 /r/.gitignore
+  f 1 /r/a.o
+  f 1 /r/a.c
+  d /r/build
+  f 1 /r/build/x.c
+  d /r/lib
+  f 1 /r/lib/.gitignore
+  f 1 /r/lib/keep.o
+  f 1 /r/lib/b.o
+rules /r/.gitignore
+  *.o
+  build/
+rules /r/lib/.gitignore
+  !keep.o
+$ seek . /r
+  /r/a.c
+  /r/lib
+  /r/lib/keep.o
+$ seek -H . /r
+  /r/.gitignore
+  /r/a.c
+  /r/lib
+  /r/lib/.gitignore
+  /r/lib/keep.o
+$ seek keep /r/lib
+  /r/lib/keep.o
+# no ignore
+$ seek -I . /r
+  /r/a.o
+  /r/a.c
+  /r/build
+  /r/build/x.c
+  /r/lib
+  /r/lib/keep.o
+  /r/lib/b.o
+$ seek --no-ignore . /r
+  /r/a.o
+  /r/a.c
+  /r/build
+  /r/build/x.c
+  /r/lib
+  /r/lib/keep.o
+  /r/lib/b.o
+$ seek -HI git /r
+  /r/.git
+  /r/.gitignore
+  /r/lib/.gitignore
+# rules of exclude and words of a call
+tree
+  d /r
+  d /r/.git
+  f 1 /r/.gitignore
+  f 1 /r/a.o
+  f 1 /r/a.c
+  d /r/build
+  f 1 /r/build/x.c
+  d /r/lib
+  f 1 /r/lib/.gitignore
+  f 1 /r/lib/keep.o
+  f 1 /r/lib/b.o
+rules /r/.git/info/exclude
+  *.c
+rules /r/.gitignore
+  !a.c
+rules /r/lib/.gitignore
+$ seek c$ /r
+  /r/a.c
+$ seek -E a.* -E lib . /r
+  /r/build
+$ seek -E !x.c c$ /r
+  /r/a.c
+# rules above the root
+tree
+  d /r
+  d /r/.git
+  f 1 /r/.gitignore
+  f 1 /r/a.o
+  f 1 /r/a.c
+  d /r/build
+  f 1 /r/build/x.c
+  d /r/lib
+  f 1 /r/lib/.gitignore
+  f 1 /r/lib/keep.o
+  f 1 /r/lib/b.o
+rules /r/.git
+rules /r/.gitignore
+  /lib/b.o
+rules /r/lib/.gitignore
+$ seek . /r/lib
+  /r/lib/keep.o
+$ seek -I . /r/lib
+  /r/lib/keep.o
+  /r/lib/b.o
+# gitignore counts in repositories alone
+tree
+  d /r
+  f 1 /r/.gitignore
+  f 1 /r/.ignore
+  f 1 /r/a.o
+  f 1 /r/b.o
+  f 1 /r/c
+rules /r/.gitignore
+  c
+rules /r/.ignore
+  *.o
+  !b.o
+$ seek . /r
+  /r/b.o
+  /r/c
+# rules that cannot be read
+tree
+  d /r
+  f 1 /r/.ignore
+  f 1 /r/a
+$ seek . /r
+  /r/a
+! seek: /r/.ignore: entity not found
+= 1
+";
 
 #[test]
-fn rules_leave_out_what_they_name(rt: HostRuntime) {
-    const ROWS: &[Row] = &[
-        (
-            &[".", "/r"],
-            REPOSITORY,
-            RULES,
-            ("/r/a.c\n/r/lib\n/r/lib/keep.o\n", "", 0),
-        ),
-        (
-            &["-H", ".", "/r"],
-            REPOSITORY,
-            RULES,
-            (
-                "/r/.gitignore\n/r/a.c\n/r/lib\n/r/lib/.gitignore\n/r/lib/keep.o\n",
-                "",
-                0,
-            ),
-        ),
-        (
-            &["keep", "/r/lib"],
-            REPOSITORY,
-            RULES,
-            ("/r/lib/keep.o\n", "", 0),
-        ),
-    ];
-    all_come(&rt, ROWS);
-}
-
-#[test]
-fn no_ignore(rt: HostRuntime) {
-    const ALL: &str = "/r/a.o\n/r/a.c\n/r/build\n/r/build/x.c\n/r/lib\n/r/lib/keep.o\n/r/lib/b.o\n";
-    const ROWS: &[Row] = &[
-        (&["-I", ".", "/r"], REPOSITORY, RULES, (ALL, "", 0)),
-        (&["--no-ignore", ".", "/r"], REPOSITORY, RULES, (ALL, "", 0)),
-        (
-            &["-HI", "git", "/r"],
-            REPOSITORY,
-            RULES,
-            ("/r/.git\n/r/.gitignore\n/r/lib/.gitignore\n", "", 0),
-        ),
-    ];
-    all_come(&rt, ROWS);
-}
-
-#[test]
-fn gitignore_counts_in_repositories_alone(rt: HostRuntime) {
-    const PLAIN: &str =
-        "d /r\nf 1 /r/.gitignore\nf 1 /r/.ignore\nf 1 /r/a.o\nf 1 /r/b.o\nf 1 /r/c\n";
-    const FILES: &[(&str, &str)] = &[("/r/.gitignore", "c\n"), ("/r/.ignore", "*.o\n!b.o\n")];
-    all_come(
-        &rt,
-        &[(&[".", "/r"], PLAIN, FILES, ("/r/b.o\n/r/c\n", "", 0))],
-    );
-}
-
-#[test]
-fn rules_of_exclude_and_words_of_a_call(rt: HostRuntime) {
-    const FILES: &[(&str, &str)] = &[
-        ("/r/.git/info/exclude", "*.c\n"),
-        ("/r/.gitignore", "!a.c\n"),
-        ("/r/lib/.gitignore", ""),
-    ];
-    const ROWS: &[Row] = &[
-        (&["c$", "/r"], REPOSITORY, FILES, ("/r/a.c\n", "", 0)),
-        (
-            &["-E", "a.*", "-E", "lib", ".", "/r"],
-            REPOSITORY,
-            FILES,
-            ("/r/build\n", "", 0),
-        ),
-        (
-            &["-E", "!x.c", "c$", "/r"],
-            REPOSITORY,
-            FILES,
-            ("/r/a.c\n", "", 0),
-        ),
-    ];
-    all_come(&rt, ROWS);
-}
-
-#[test]
-fn rules_above_the_root(rt: HostRuntime) {
-    const ABOVE: &[(&str, &str)] = &[
-        ("/r/.git", ""),
-        ("/r/.gitignore", "/lib/b.o\n"),
-        ("/r/lib/.gitignore", ""),
-    ];
-    const ROWS: &[Row] = &[
-        (
-            &[".", "/r/lib"],
-            REPOSITORY,
-            ABOVE,
-            ("/r/lib/keep.o\n", "", 0),
-        ),
-        (
-            &["-I", ".", "/r/lib"],
-            REPOSITORY,
-            ABOVE,
-            ("/r/lib/keep.o\n/r/lib/b.o\n", "", 0),
-        ),
-    ];
-    all_come(&rt, ROWS);
-}
-
-#[test]
-fn rules_that_cannot_be_read(rt: HostRuntime) {
-    const TREE: &str = "d /r\nf 1 /r/.ignore\nf 1 /r/a\n";
-    all_come(
-        &rt,
-        &[(
-            &[".", "/r"],
-            TREE,
-            &[],
-            ("/r/a\n", "seek: /r/.ignore: entity not found\n", 1),
-        )],
-    );
+fn rules(rt: HostRuntime) {
+    all_come(&rt, RULES);
 }

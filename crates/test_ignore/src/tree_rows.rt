@@ -1,6 +1,3 @@
 //! Small trees with ignore files, and the part of each that git 2.39 keeps. `bench/ignore_trees.py` writes the rows.
 pub(crate) mod first;
 pub(crate) mod second;
-
-/// The lines of a tree, and of its part that is kept.
-pub(crate) type TreeRow = (&'static str, &'static str);

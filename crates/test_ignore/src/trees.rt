@@ -1,0 +1,9 @@
+//! Trees of one repository, compared with git's answers.
+use crate::leave::all_leave;
+use crate::tree_rows::{first, second};
+
+#[test]
+fn walks_leave_what_git_keeps(rt: HostRuntime) {
+    all_leave(&rt, first::ROWS);
+    all_leave(&rt, second::ROWS);
+}
