@@ -1,169 +1,282 @@
 //! Ignore files that a call names, and those of the user.
-use crate::seek::runs::{Row, all_come, comes};
+use crate::seek::come::{all_come, wrong_below};
 use jwalk_ignore::memory_texts::MemoryTexts;
+use std::alloc::AllocError;
 use std::io::ErrorKind;
+use std::sync::Arc;
 use walk_text::tree::build_tree;
 
-/// Two folders, one of which is a repository.
-const TREE: &str =
-    "d t\nd t/r\nd t/r/.git\nf 1 t/r/a.o\nf 1 t/r/b.c\nd t/r/s\nf 1 t/r/s/b.c\nf 1 t/r/s/top\nf 1 t/r/top\nd t/p\nf 1 t/p/a.o\nf 1 t/p/b.c\nf 1 t/p/top\n";
-
-const ALL: &str =
-    "t/r\nt/r/a.o\nt/r/b.c\nt/r/s\nt/r/s/b.c\nt/r/s/top\nt/r/top\nt/p\nt/p/a.o\nt/p/b.c\nt/p/top\n";
+const NAMED: &str = "\
+# ignore files that are named
+tree
+  d t
+  d t/r
+  d t/r/.git
+  f 1 t/r/a.o
+  f 1 t/r/b.c
+  d t/r/s
+  f 1 t/r/s/b.c
+  f 1 t/r/s/top
+  f 1 t/r/top
+  d t/p
+  f 1 t/p/a.o
+  f 1 t/p/b.c
+  f 1 t/p/top
+rules objects
+  *.o
+rules in/folders
+  /t/p/b.c
+  r/s
+  /p
+rules kept
+  \u{feff}!a.o
+$ seek --ignore-file objects . t
+  t/r
+  t/r/b.c
+  t/r/s
+  t/r/s/b.c
+  t/r/s/top
+  t/r/top
+  t/p
+  t/p/b.c
+  t/p/top
+# a slash in front is the folder that the program runs in
+$ seek --ignore-file=in/folders . t
+  t/r
+  t/r/a.o
+  t/r/b.c
+  t/r/s
+  t/r/s/b.c
+  t/r/s/top
+  t/r/top
+  t/p
+  t/p/a.o
+  t/p/top
+# the last one decides
+$ seek --ignore-file=objects --ignore-file=kept . t
+  t/r
+  t/r/a.o
+  t/r/b.c
+  t/r/s
+  t/r/s/b.c
+  t/r/s/top
+  t/r/top
+  t/p
+  t/p/a.o
+  t/p/b.c
+  t/p/top
+$ seek --ignore-file=kept --ignore-file=objects .o t
+  t/r/s/top
+  t/r/top
+  t/p/top
+# no ignore files
+$ seek -I --ignore-file=objects . t/p
+  t/p/a.o
+  t/p/b.c
+  t/p/top
+# one that cannot be read
+$ seek --ignore-file none -d1 . t
+  t/r
+  t/p
+! seek: none: entity not found
+= 1
+# named ignore files decide last
+tree
+  d t
+  f 1 t/.ignore
+  f 1 t/a
+  f 1 t/b
+  d t/.git
+rules t/.ignore
+  !a
+rules /t/.ignore
+  !a
+rules named
+  a
+  b
+rules t/.git/info/exclude
+  !b
+$ seek --ignore-file=named . t
+  t/a
+  t/b
+$ seek --ignore-file=named --no-ignore-vcs . t
+  t/a
+";
 
 #[test]
 fn ignore_files_that_are_named(rt: HostRuntime) {
-    const FILES: &[(&str, &str)] = &[
-        ("objects", "*.o\n"),
-        ("in/folders", "/t/p/b.c\nr/s\n/p\n"),
-        ("kept", "\u{feff}!a.o"),
-    ];
-    const ROWS: &[Row] = &[
-        (
-            &["--ignore-file", "objects", ".", "t"],
-            TREE,
-            FILES,
-            (
-                "t/r\nt/r/b.c\nt/r/s\nt/r/s/b.c\nt/r/s/top\nt/r/top\nt/p\nt/p/b.c\nt/p/top\n",
-                "",
-                0,
-            ),
-        ),
-        // A slash in front is the folder that the program runs in.
-        (
-            &["--ignore-file=in/folders", ".", "t"],
-            TREE,
-            FILES,
-            (
-                "t/r\nt/r/a.o\nt/r/b.c\nt/r/s\nt/r/s/b.c\nt/r/s/top\nt/r/top\nt/p\nt/p/a.o\nt/p/top\n",
-                "",
-                0,
-            ),
-        ),
-        (
-            &["--ignore-file=objects", "--ignore-file=kept", ".", "t"],
-            TREE,
-            FILES,
-            (ALL, "", 0),
-        ),
-        (
-            &["--ignore-file=kept", "--ignore-file=objects", ".o", "t"],
-            TREE,
-            FILES,
-            ("t/r/s/top\nt/r/top\nt/p/top\n", "", 0),
-        ),
-        (
-            &["-I", "--ignore-file=objects", ".", "t/p"],
-            TREE,
-            FILES,
-            ("t/p/a.o\nt/p/b.c\nt/p/top\n", "", 0),
-        ),
-    ];
-    all_come(&rt, ROWS);
+    all_come(&rt, NAMED);
 }
 
-#[test]
-fn named_ignore_files_decide_last(rt: HostRuntime) {
-    const RULES: &str = "d t\nf 1 t/.ignore\nf 1 t/a\nf 1 t/b\nd t/.git\n";
-    const FILES: &[(&str, &str)] = &[
-        ("t/.ignore", "!a\n"),
-        ("/t/.ignore", "!a\n"),
-        ("named", "a\nb\n"),
-        ("t/.git/info/exclude", "!b\n"),
-    ];
-    const ROWS: &[Row] = &[
-        (
-            &["--ignore-file=named", ".", "t"],
-            RULES,
-            FILES,
-            ("t/a\nt/b\n", "", 0),
-        ),
-        (
-            &["--ignore-file=named", "--no-ignore-vcs", ".", "t"],
-            RULES,
-            FILES,
-            ("t/a\n", "", 0),
-        ),
-    ];
-    all_come(&rt, ROWS);
-}
-
-#[test]
-fn a_named_ignore_file_that_cannot_be_read(rt: HostRuntime) {
-    const ROWS: &[Row] = &[(
-        &["--ignore-file", "none", "-d1", ".", "t"],
-        TREE,
-        &[],
-        ("t/r\nt/p\n", "seek: none: entity not found\n", 1),
-    )];
-    all_come(&rt, ROWS);
-}
+/// The trees have two folders, one of which is a repository.
+const EXCLUDES: &str = "\
+# the user's excludes
+tree
+  d t
+  d t/r
+  d t/r/.git
+  f 1 t/r/a.o
+  f 1 t/r/b.c
+  d t/r/s
+  f 1 t/r/s/b.c
+  f 1 t/r/s/top
+  f 1 t/r/top
+  d t/p
+  f 1 t/p/a.o
+  f 1 t/p/b.c
+  f 1 t/p/top
+rules /home/u/.config/git/ignore
+  *.o
+  /top
+$ seek . t
+  t/r
+  t/r/b.c
+  t/r/s
+  t/r/s/b.c
+  t/r/s/top
+  t/p
+  t/p/a.o
+  t/p/b.c
+  t/p/top
+$ seek --no-global-ignore-file . t
+  t/r
+  t/r/a.o
+  t/r/b.c
+  t/r/s
+  t/r/s/b.c
+  t/r/s/top
+  t/r/top
+  t/p
+  t/p/a.o
+  t/p/b.c
+  t/p/top
+$ seek --no-ignore-vcs . t
+  t/r
+  t/r/a.o
+  t/r/b.c
+  t/r/s
+  t/r/s/b.c
+  t/r/s/top
+  t/r/top
+  t/p
+  t/p/a.o
+  t/p/b.c
+  t/p/top
+$ seek -I . t
+  t/r
+  t/r/a.o
+  t/r/b.c
+  t/r/s
+  t/r/s/b.c
+  t/r/s/top
+  t/r/top
+  t/p
+  t/p/a.o
+  t/p/b.c
+  t/p/top
+# the first configuration names the file
+tree
+  d t
+  d t/r
+  d t/r/.git
+  f 1 t/r/a.o
+  f 1 t/r/b.c
+  d t/r/s
+  f 1 t/r/s/b.c
+  f 1 t/r/s/top
+  f 1 t/r/top
+  d t/p
+  f 1 t/p/a.o
+  f 1 t/p/b.c
+  f 1 t/p/top
+rules /home/u/.gitconfig
+  [user]
+  \texcludesFile = /x
+  [Core] ; git
+  [core]
+  \tExcludesFile = \"~/my ignore\"
+  [x]
+  excludesfile=/y
+rules /home/u/.config/git/config
+  [core]
+  excludesfile=/z
+rules /home/u/.config/git/ignore
+  b.c
+rules /home/u/my ignore
+  *.o
+  /top
+$ seek . t
+  t/r
+  t/r/b.c
+  t/r/s
+  t/r/s/b.c
+  t/r/s/top
+  t/p
+  t/p/a.o
+  t/p/b.c
+  t/p/top
+# the second one does, and a repository's own rules decide before
+tree
+  d t
+  d t/r
+  d t/r/.git
+  f 1 t/r/a.o
+  f 1 t/r/b.c
+  d t/r/s
+  f 1 t/r/s/b.c
+  f 1 t/r/s/top
+  f 1 t/r/top
+  d t/p
+  f 1 t/p/a.o
+  f 1 t/p/b.c
+  f 1 t/p/top
+rules /home/u/.gitconfig
+  [user]
+  name = u
+rules /home/u/.config/git/config
+  [core]
+  excludesfile=/z
+rules /z
+  *.o
+  /top
+rules t/r/.git/info/exclude
+  !a.o
+$ seek . t
+  t/r
+  t/r/a.o
+  t/r/b.c
+  t/r/s
+  t/r/s/b.c
+  t/r/s/top
+  t/p
+  t/p/a.o
+  t/p/b.c
+  t/p/top
+";
 
 #[test]
 fn the_users_excludes(rt: HostRuntime) {
-    const LEFT: &str =
-        "t/r\nt/r/b.c\nt/r/s\nt/r/s/b.c\nt/r/s/top\nt/p\nt/p/a.o\nt/p/b.c\nt/p/top\n";
-    const LINES: &str = "*.o\n/top\n";
-    const FILES: &[(&str, &str)] = &[("/home/u/.config/git/ignore", LINES)];
-    const NAMED: &[(&str, &str)] = &[
-        (
-            "/home/u/.gitconfig",
-            "[user]\n\texcludesFile = /x\n[Core] ; git\n[core]\n\tExcludesFile = \"~/my ignore\"\n[x]\nexcludesfile=/y\n",
-        ),
-        ("/home/u/.config/git/config", "[core]\nexcludesfile=/z\n"),
-        ("/home/u/.config/git/ignore", "b.c\n"),
-        ("/home/u/my ignore", LINES),
-    ];
-    const OTHER: &[(&str, &str)] = &[
-        ("/home/u/.gitconfig", "[user]\nname = u\n"),
-        ("/home/u/.config/git/config", "[core]\nexcludesfile=/z\n"),
-        ("/z", LINES),
-        ("t/r/.git/info/exclude", "!a.o\n"),
-    ];
-    const ROWS: &[Row] = &[
-        (&[".", "t"], TREE, FILES, (LEFT, "", 0)),
-        (&[".", "t"], TREE, NAMED, (LEFT, "", 0)),
-        (
-            &[".", "t"],
-            TREE,
-            OTHER,
-            (
-                "t/r\nt/r/a.o\nt/r/b.c\nt/r/s\nt/r/s/b.c\nt/r/s/top\nt/p\nt/p/a.o\nt/p/b.c\nt/p/top\n",
-                "",
-                0,
-            ),
-        ),
-        (
-            &["--no-global-ignore-file", ".", "t"],
-            TREE,
-            FILES,
-            (ALL, "", 0),
-        ),
-        (&["--no-ignore-vcs", ".", "t"], TREE, FILES, (ALL, "", 0)),
-        (&["-I", ".", "t"], TREE, FILES, (ALL, "", 0)),
-    ];
-    all_come(&rt, ROWS);
+    all_come(&rt, EXCLUDES);
 }
 
+const DENIED: &str = "\
+# the user's excludes that cannot be read
+$ seek b t/p
+  t/p/b.c
+! seek: /home/u/.config/git/ignore: permission denied
+= 1
+";
+
 #[test]
-fn the_users_excludes_that_cannot_be_read(rt: HostRuntime) {
+fn the_users_excludes_that_cannot_be_read(rt: HostRuntime) -> Result<(), AllocError> {
     let alloc = rt.alloc();
-    let disk = build_tree(alloc, TREE.as_bytes());
+    let Ok(disk) = build_tree(alloc, b"d t\nd t/p\nf 1 t/p/b.c\n") else {
+        return Err(AllocError);
+    };
     let mut texts = MemoryTexts::new(alloc);
-    let denied = texts.deny("/home/u/.config/git/ignore", ErrorKind::PermissionDenied);
-    assert!(rt; denied.is_ok());
-    let told = "seek: /home/u/.config/git/ignore: permission denied\n";
-    match disk {
-        Ok(disk) => assert!(rt;
-            comes(
-                &rt,
-                disk,
-                texts,
-                "-j1",
-                &["b", "t/p"],
-                &("t/p/b.c\n", told, 1)
-            )
-        ),
-        Err(_) => assert!(rt; false),
-    }
+    texts.deny("/home/u/.config/git/ignore", ErrorKind::PermissionDenied)?;
+    let (disk, texts) = (Arc::new(alloc, disk)?, Arc::new(alloc, texts)?);
+    let wrong = wrong_below(&rt, disk, texts, "", DENIED)?;
+    assert_eq!(rt; wrong, None);
+    Ok(())
 }
