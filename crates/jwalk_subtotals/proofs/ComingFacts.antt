@@ -8,11 +8,12 @@ use Rattle.jwalk.specs.jwalk_model.Entry.{Entry, Item}
 use Rattle.jwalk_subtotals.specs.declared.options.SubtotalOptions.{SubtotalOptions}
 use Rattle.jwalk_subtotals.specs.Subtotal.{nothing}
 use Rattle.jwalk_subtotals.specs.Counted.{Weighed, weighed, counted_once, own, one_error, is_repeated, with_file, files_after, HaveSame}
-use Rattle.jwalk_subtotals.specs.Subtotals.{depth_at, below, asked}
-use Rattle.jwalk_subtotals.specs.Stack.{Frame, is_above, added, left_of, closed_of}
+use Rattle.jwalk_subtotals.specs.Subtotals.{depth_at, below, is_asked}
+use Rattle.jwalk_subtotals.specs.Stack.{Frame, is_above, added, entered, left_of, closed_of}
 use Rattle.jwalk_subtotals.specs.Files.{AreWith}
 use Rattle.jwalk_subtotals.specs.Coming.{closing}
-use Rattle.jwalk_subtotals.proofs.ClosingFacts.{closed_first, error_first, entry_first}
+use Rattle.jwalk_subtotals.specs.Turns.{own_beside}
+use Rattle.jwalk_subtotals.proofs.ClosingFacts.{closed_first, error_first, entered_first}
 
 repeated_same : (files others : List Identity) → HaveSame files others → (file : Option Identity) → is_repeated files file ≡ is_repeated others file
 repeated_same files others same None = refl
@@ -39,12 +40,12 @@ module _ {R E : Type 0} where
   after_same o files others same (Ok e ∷ l) =
       after_same o (with_file (counted_once o e) files) (with_file (counted_once o e) others) (with_same files others same (counted_once o e)) l
 
-  -- an entry that waited is opened
-  pub opened_first : (o : SubtotalOptions) (frames : List (Frame R E)) (files others : List Identity) (e : Entry R E) (l : List (Item R E)) → is_above e.depth frames ≡ true → AreWith (counted_once o e) files others
-      → closing o nothing frames (weighed o files (Ok e ∷ l)) ≡ closing o nothing (record { depth = e.depth; entry = asked o e; counted = own o.apparent (is_repeated files (counted_once o e)) e } ∷ frames) (weighed o others l)
-  opened_first o frames files others e l above same =
-      entry_first o e (own o.apparent (is_repeated files (counted_once o e)) e) frames (weighed o (with_file (counted_once o e) files) l) above
-      ∙ ap (closing o nothing (record { depth = e.depth; entry = asked o e; counted = own o.apparent (is_repeated files (counted_once o e)) e } ∷ frames)) (sym (weighed_same o others (with_file (counted_once o e) files) same l))
+  -- an entry that waited is entered
+  pub entered_on : (o : SubtotalOptions) (frames : List (Frame R E)) (files others : List Identity) (e : Entry R E) (l : List (Item R E)) → is_above e.depth frames ≡ true → AreWith (counted_once o e) files others
+      → closing o nothing frames (weighed o files (Ok e ∷ l)) ≡ closing o nothing (entered (is_asked o e) e (own_beside o files e) frames) (weighed o others l)
+  entered_on o frames files others e l above same =
+      entered_first o e (own_beside o files e) frames (weighed o (with_file (counted_once o e) files) l) above
+      ∙ ap (closing o nothing (entered (is_asked o e) e (own_beside o files e) frames)) (sym (weighed_same o others (with_file (counted_once o e) files) same l))
 
   -- an error that waited is counted
   pub counted_first : (o : SubtotalOptions) (frames : List (Frame R E)) (files : List Identity) (f : Failure) (l : List (Item R E)) → is_above (depth_at {R = R} {E = E} (Err f)) frames ≡ true
@@ -59,7 +60,7 @@ module _ {R E : Type 0} where
   pub closed_for : (o : SubtotalOptions) (frames : List (Frame R E)) (files : List Identity) (x : Item R E) (l : List (Item R E)) → is_above (depth_at x) frames ≡ false
       → closing o nothing frames (weighed o files (x ∷ l)) ≡ closed_of frames ++ closing o nothing (left_of frames) (weighed o files (x ∷ l))
   closed_for o [] files x l not = absurd cc
-  closed_for o (f ∷ fs) files x l not = closed_first o f fs (weighed o files (x ∷ l)) (none_below o f.depth files x l not)
+  closed_for o (f ∷ fs) files x l not = closed_first o f fs (weighed o files (x ∷ l)) (none_below o f.entry.depth files x l not)
 
   -- an entry is closed, since the walk has ended
   pub closed_last : (o : SubtotalOptions) (frames : List (Frame R E)) → closing o nothing frames [] ≡ closed_of frames ++ closing o nothing (left_of frames) []

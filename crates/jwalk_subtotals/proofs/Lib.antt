@@ -4,6 +4,7 @@ pub mod ClosingFacts
 pub mod ComingFacts
 pub mod RootFacts
 pub mod LastFacts
+pub mod OpenFacts
 pub mod TurnFacts
 pub mod RunFacts
 pub mod WholeFacts

@@ -1,19 +1,21 @@
 -- One turn after another, and one call after another.
-use Rattle.std.proofs.Common.{◌≡◌, ◌≤◌, Bool, true, false, not, ◌||◌, List, [], ◌∷◌, ◌++◌, map, Option, Some, None, Result, refl, sym, ap, ap₂, ◌∙◌, subst, append_assoc, arith}
+use Rattle.std.proofs.Common.{◌≡◌, ◌≤◌, Bool, true, false, not, ◌||◌, List, [], ◌∷◌, ◌++◌, map, Option, Some, None, Result, Err, refl, sym, ap, ap₂, ◌∙◌, subst, append_assoc, arith}
 use Rattle.std.specs.Iterator.{Count, at_most, MakesProgress, Yields, YieldsThen}
 use Rattle.std.proofs.lemmas.List.{map-append, append-nil}
 use Rattle.jwalk.specs.jwalk_job.declared.dir_entry.DirEntry.{DirEntry}
 use Rattle.jwalk.specs.jwalk_job.declared.error.Error.{Error}
 use Rattle.jwalk.specs.jwalk_job.Entry.{item}
 use Rattle.jwalk_subtotals.specs.declared.iter.Subtotals.{Subtotals}
+use Rattle.jwalk_subtotals.specs.declared.iter.Turn.{Turn}
 use Rattle.jwalk_subtotals.specs.declared.iter.Turn.TheVariants.{Yields as TurnYields, GoesOn, Ends}
 use Rattle.jwalk_subtotals.specs.declared.stack.WithSubtotal.{WithSubtotal}
 use Rattle.jwalk_subtotals.specs.declared.error.SubtotalError.{SubtotalError}
+use Rattle.jwalk_subtotals.specs.declared.error.SubtotalError.TheVariants.{TooMany}
 use Rattle.jwalk_subtotals.specs.Counted.{is_among}
 use Rattle.jwalk_subtotals.specs.Subtotals.{Yielded}
-use Rattle.jwalk_subtotals.specs.Coming.{coming, counted_behind, in_all, answers_of, options_of, held, is_over, is_stopped, value, ends_with, weight, CanGoOn, Takes, GoesOver, Gives}
+use Rattle.jwalk_subtotals.specs.Coming.{coming, counted_behind, in_all, answers_of, options_of, held, is_over, is_stopped, value, value_of, ends_with, stops_with, weight, CanGoOn, Takes, GoesOver, Gives}
 use Rattle.jwalk_subtotals.specs.Subtotal.{IsTooGreat}
-use Rattle.jwalk_subtotals.specs.Turns.{Turns}
+use Rattle.jwalk_subtotals.specs.Turns.{is_end, result_of, Turns}
 
 yields_on : {I X : Type 0} (next : I → Option X → I → Type 0) (xs ys : List X) (s m e : I) → Yields next s xs m → Yields next m ys e → Yields next s (xs ++ ys) e
 yields_on next [] ys s m e same more = subst (λ i. Yields next i ys e) (sym same) more
@@ -81,6 +83,13 @@ or_none : (b : Bool) → (b || false) ≡ b
 or_none true = refl
 or_none false = refl
 
+-- what yields something wasn't stopped
+yields_running : {C A R E : Type 0} (b : Bool) (turn : Turn C A R E) {x : Result (WithSubtotal C A R E) (SubtotalError A)} → (b ≡ true → is_end turn ≡ true) → result_of turn ≡ Some x → b ≡ false
+yields_running false turn silent is = refl
+yields_running true (TurnYields x) silent is = absurd (cc (silent refl))
+yields_running true GoesOn silent is = absurd (cc is)
+yields_running true Ends silent is = absurd (cc is)
+
 module _ {C A I R E : Type 0} (next : I → Option (Result (DirEntry C A R E) (Error A)) → I → Type 0) (can : I → Type 0) (left : I → Count) where
   -- Turns from the start yielded nothing yet.
   pub record Reaches (start now : Subtotals C A I R E) : Type 0 where
@@ -129,3 +138,19 @@ module _ {C A I R E : Type 0} (next : I → Option (Result (DirEntry C A R E) (E
     too_many = λ _ is. absurd (cc is);
     ends = turn.ends refl;
   }
+
+  -- a turn behind one that yields nothing, as one turn
+  pub turns_on : (old mid new : Subtotals C A I R E) (turn : Turn C A R E) → Turns next can left old GoesOn mid → Turns next can left mid turn new → Turns next can left old turn new
+  turns_on old mid new turn one two = record {
+    goes = goes_on next old mid new [] (value_of (result_of turn)) (not_before (is_stopped mid) (stops_with (result_of turn)) (is_stopped new) two.stops) one.goes two.goes;
+    stops = two.stops ∙ ap (λ b. b || stops_with (result_of turn)) (one.stops ∙ or_none (is_stopped old));
+    silent = λ is. absurd (cc (one.silent is));
+    too_many = λ is.
+        subst (λ m. IsTooGreat (in_all (options_of old) (held old) m)) (sym (map-append item one.goes.taken two.goes.taken))
+        (one.goes.no_more (runs is) (map item two.goes.taken) (λ over. ap (map item) (none_taken next (is_over mid) (is_over new) two.goes.taken (answers_of mid) (answers_of new) over two.goes.takes)) (two.too_many is));
+    ends = two.ends;
+    can_go_on = two.can_go_on;
+    falls = λ is. omega (arith, one.falls refl, two.falls is);
+  } where
+    runs : result_of turn ≡ Some (Err TooMany) → is_stopped mid ≡ false
+    runs is = yields_running (is_stopped mid) turn two.silent is

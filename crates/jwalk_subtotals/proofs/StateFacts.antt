@@ -10,7 +10,7 @@ use Rattle.jwalk_usage.specs.Kept.{length_kept}
 use Rattle.jwalk_usage.specs.Totals.{has_failed, one_if}
 use Rattle.jwalk_subtotals.specs.Counted.{Weighed, counted_by_type, counted_once, files_after, is_repeated, one_error, own, size_kept, weighed, with_file}
 use Rattle.jwalk_subtotals.specs.Subtotal.{plus}
-use Rattle.jwalk_subtotals.specs.Subtotals.{Yielded, asked, below, beyond, depth_at, listed, listed_all, shown, subtotal, subtotals_beside, total, yielded_by}
+use Rattle.jwalk_subtotals.specs.Subtotals.{Yielded, asked, is_asked, below, beyond, depth_at, listed, listed_all, shown, subtotal, subtotals_beside, total, yielded_by}
 use Rattle.jwalk_subtotals.specs.declared.options.SubtotalOptions.{SubtotalOptions}
 use Rattle.jwalk_subtotals.specs.declared.subtotal.Subtotal.{Subtotal}
 
@@ -78,6 +78,9 @@ module _ {R E V W : Type 0} (view : R → V) (mark : E → W) where
   subtotal_same : (e : Entry R E) (t : Subtotal) (l : List (Weighed R E)) → subtotal (Ok (entry_by view mark e), t) (map weighed_by l) ≡ subtotal (Ok e, t) l
   subtotal_same e t l = ap (λ (m : List (Weighed V W)). plus t (total m)) (below_same e.depth l) ∙ ap (plus t) (total_same (below e.depth l))
 
+  asked_same : (o : SubtotalOptions) (e : Entry R E) → is_asked o (entry_by view mark e) ≡ is_asked o e
+  asked_same o e = ap (λ (b : Bool). nat_le e.depth o.max_depth && (o.all || ((e.depth == 0) || (is_dir e.file_type || b)))) (failed_same e.read_children)
+
   shown_same : (b : Bool) (e : Entry R E) (t : Subtotal) → shown (if b then Some (entry_by view mark e) else None) t ≡ map (yielded_by view mark) (shown (if b then Some e else None) t)
   shown_same true e t = refl
   shown_same false e t = refl
@@ -95,7 +98,7 @@ module _ {R E V W : Type 0} (view : R → V) (mark : E → W) where
       let rest = listed n o (beyond e.depth l) in
       three_same
       (ap (listed n o) (below_same e.depth l) ∙ listed_same n o (below e.depth l))
-      (ap (shown (asked o (entry_by view mark e))) (subtotal_same e t l) ∙ shown_same (nat_le e.depth o.max_depth && (o.all || (is_dir e.file_type || (e.depth == 0)))) e (subtotal (Ok e, t) l))
+      (ap (shown (asked o (entry_by view mark e))) (subtotal_same e t l) ∙ ap (λ (b : Bool). shown (if b then Some (entry_by view mark e) else None) (subtotal (Ok e, t) l)) (asked_same o e) ∙ shown_same (is_asked o e) e (subtotal (Ok e, t) l))
       (ap (listed n o) (beyond_same e.depth l) ∙ listed_same n o (beyond e.depth l))
       ∙ sym (map-append (yielded_by view mark) (first ++ own) rest ∙ ap (λ (m : List (Yielded V W)). m ++ map (yielded_by view mark) rest) (map-append (yielded_by view mark) first own))
 

@@ -1,9 +1,9 @@
 -- One turn, by what it is made of.
-use Rattle.std.proofs.Common.{◌≡◌, ◌<◌, ◌+◌, ℕ, Bool, true, false, cond, ◌||◌, List, [], ◌∷◌, ◌++◌, length, Option, Some, None, Result, Ok, Err, inl, inr, refl, sym, ap, ap₂, ◌∙◌, subst, arith}
+use Rattle.std.proofs.Common.{◌≡◌, ◌≤◌, ◌<◌, ◌+◌, ℕ, Bool, true, false, cond, ◌||◌, List, [], ◌∷◌, ◌++◌, length, Option, Some, None, Result, Ok, Err, inl, inr, refl, sym, ap, ap₂, ◌∙◌, subst, arith}
 use Rattle.std.specs.Prelude.{◌↔◌, IsTrue}
 use Rattle.std.specs.Iterator.{Count, IsFinite, size}
 use Rattle.jwalk.specs.jwalk_model.declared.metadata.Identity.{Identity}
-use Rattle.jwalk.specs.jwalk_model.Entry.{Item}
+use Rattle.jwalk.specs.jwalk_model.Entry.{Entry, Item}
 use Rattle.jwalk.specs.jwalk_job.declared.dir_entry.DirEntry.{DirEntry}
 use Rattle.jwalk.specs.jwalk_job.declared.error.Error.{Error}
 use Rattle.jwalk.specs.jwalk_job.Entry.{entry, item}
@@ -19,16 +19,17 @@ use Rattle.jwalk_subtotals.specs.declared.files.Files.{Files}
 use Rattle.jwalk_subtotals.specs.declared.error.SubtotalError.{SubtotalError}
 use Rattle.jwalk_subtotals.specs.declared.error.SubtotalError.TheVariants.{Walk, TooMany}
 use Rattle.jwalk_subtotals.specs.declared.stack.WithSubtotal.{WithSubtotal}
+use Rattle.jwalk_subtotals.specs.declared.subtotal.Subtotal.{Subtotal}
 use Rattle.jwalk_subtotals.specs.Subtotal.{nothing, plus, IsTooGreat}
-use Rattle.jwalk_subtotals.specs.Counted.{weighed, one_error, own, is_repeated, counted_once, with_file, files_after, HaveSame}
-use Rattle.jwalk_subtotals.specs.Subtotals.{depth_at, total}
-use Rattle.jwalk_subtotals.specs.Stack.{Frame, frames_of, open_total, is_above, added, left_of, closed_of}
+use Rattle.jwalk_subtotals.specs.Counted.{weighed, one_error, counted_once, with_file, files_after, HaveSame}
+use Rattle.jwalk_subtotals.specs.Subtotals.{depth_at, is_asked, total}
+use Rattle.jwalk_subtotals.specs.Stack.{Frame, frames_of, open_total, is_above, added, entered, left_of, closed_of}
 use Rattle.jwalk_subtotals.specs.Coming.{closing, coming, answers_of, options_of, held, is_over, is_over_in, is_stopped, waiting_in, turns_in, weight, stops_with, CanGoOn, MayAsk, Takes}
-use Rattle.jwalk_subtotals.specs.Turns.{result_of, Closes, Opens, Turns}
+use Rattle.jwalk_subtotals.specs.Turns.{result_of, own_beside, Closes, Enters, Turns}
 use Rattle.jwalk_subtotals.specs.Files.{files_of}
 use Rattle.jwalk_subtotals.specs.Error.{ends_walk, is_last}
-use Rattle.jwalk_subtotals.proofs.GreatFacts.{added_great, left_great, opened_great, close_great}
-use Rattle.jwalk_subtotals.proofs.ComingFacts.{weighed_same, after_same, opened_first, counted_first, closed_for, closed_last, one_less, some_open}
+use Rattle.jwalk_subtotals.proofs.GreatFacts.{added_great, entered_great, left_great, close_great}
+use Rattle.jwalk_subtotals.proofs.ComingFacts.{weighed_same, after_same, entered_on, counted_first, closed_for, closed_last, one_less, some_open}
 
 -- no answer is taken
 pub takes_nothing : {I X : Type 0} (next : I → Option X → I → Type 0) (b : Bool) (s t : I) → s ≡ t → Takes next b b s [] t
@@ -132,6 +133,10 @@ length_added : {R E : Type 0} (t : _) (fs : List (Frame R E)) → length (added 
 length_added t [] = refl
 length_added t (f ∷ fs) = refl
 
+length_entered : {R E : Type 0} (b : Bool) (e : Entry R E) (t : Subtotal) (fs : List (Frame R E)) → length (entered b e t fs) ≤ length fs + 1
+length_entered true e t fs = omega arith
+length_entered false e t fs = omega (arith, length_added t fs)
+
 module _ {C A I R E : Type 0} (next : I → Option (Result (DirEntry C A R E) (Error A)) → I → Type 0) (can : I → Type 0) (left : I → Count) (s : Subtotals C A I R E) where
   -- an answer is taken
   pub taken_turn : (t : I) (x : Result (DirEntry C A R E) (Error A)) → next (answers_of s) (Some x) t → can t → IsFinite (left t) → size (left t) < size (left (answers_of s))
@@ -158,31 +163,36 @@ module _ {C A I R E : Type 0} (next : I → Option (Result (DirEntry C A R E) (E
     falls = λ _. omega arith;
   }
 
-  -- an entry is opened
-  pub opened_turn : (found : DirEntry C A R E) (stack : Stack C A R E) (files : Files A) → can (answers_of s) → IsFinite (left (answers_of s)) → is_above (entry found).depth (frames_of s.stack) ≡ true
-      → Opens (options_of s) (record { frames = frames_of s.stack; files = files_of s.files; waiting = [] }) (entry found) (record { frames = frames_of stack; files = files_of files; waiting = [] })
+  -- an entry is opened, or counts below the last
+  pub entered_turn : (found : DirEntry C A R E) (stack : Stack C A R E) (files : Files A) → can (answers_of s) → IsFinite (left (answers_of s)) → is_above (entry found).depth (frames_of s.stack) ≡ true
+      → Enters (options_of s) (record { frames = frames_of s.stack; files = files_of s.files; waiting = [] }) (entry found) (record { frames = frames_of stack; files = files_of files; waiting = [] })
       → Turns next can left (record s { ahead = Taken (Ok found); stopped = false }) GoesOn (record s { stack = stack; files = files; ahead = Unasked; stopped = false })
-  opened_turn found stack files may ends above opens = record {
-    goes = record {
-      taken = [];
-      takes = refl;
-      stays_over = λ is. is;
-      options = refl;
-      first = λ _ l _.
-          opened_first (options_of s) (frames_of s.stack) (files_of s.files) (files_of files) (entry found) l above opens.files
-          ∙ ap (λ fs. closing (options_of s) nothing fs (weighed (options_of s) (files_of files) l)) (sym opens.opened);
-      counted = λ _ l. after_same (options_of s) (files_of files) (with_file (counted_once (options_of s) (entry found)) (files_of s.files)) opens.files l;
-      no_more = λ _ l _ h.
-          opened_great (own (options_of s).apparent (is_repeated (files_of s.files) (counted_once (options_of s) (entry found))) (entry found)) (total (weighed (options_of s) (with_file (counted_once (options_of s) (entry found)) (files_of s.files)) l)) (open_total (frames_of s.stack))
-          (subst IsTooGreat (ap₂ (λ fs m. plus (open_total fs) (total m)) opens.opened (weighed_same (options_of s) (files_of files) (with_file (counted_once (options_of s) (entry found)) (files_of s.files)) opens.files l)) h);
-    };
-    stops = refl;
-    silent = λ is. absurd (cc is);
-    too_many = λ is. absurd (cc is);
-    ends = λ is. absurd (cc is);
-    can_go_on = (may, ends);
-    falls = λ _. omega (arith, ap length opens.opened);
-  }
+  entered_turn found stack files may ends above enters =
+      let o = options_of s in
+      let e = entry found in
+      let known = files_of s.files in
+      let t = own_beside o known e in
+      record {
+        goes = record {
+          taken = [];
+          takes = refl;
+          stays_over = λ is. is;
+          options = refl;
+          first = λ _ l _.
+              entered_on o (frames_of s.stack) known (files_of files) e l above enters.files
+              ∙ ap (λ fs. closing o nothing fs (weighed o (files_of files) l)) (sym enters.frames);
+          counted = λ _ l. after_same o (files_of files) (with_file (counted_once o e) known) enters.files l;
+          no_more = λ _ l _ h.
+              entered_great (is_asked o e) e t (total (weighed o (with_file (counted_once o e) known) l)) (frames_of s.stack)
+              (subst IsTooGreat (ap₂ (λ fs m. plus (open_total fs) (total m)) enters.frames (weighed_same o (files_of files) (with_file (counted_once o e) known) enters.files l)) h);
+        };
+        stops = refl;
+        silent = λ is. absurd (cc is);
+        too_many = λ is. absurd (cc is);
+        ends = λ is. absurd (cc is);
+        can_go_on = (may, ends);
+        falls = λ _. omega (arith, ap length enters.frames, length_entered (is_asked o e) e t (frames_of s.stack));
+      }
 
   -- an error is counted
   pub error_turn : (error : Error A) (stack : Stack C A R E) → can (answers_of s) → IsFinite (left (answers_of s)) → ends_walk (failure error) ≡ false → is_above (depth_at {R = R} {E = E} (Err (failure error))) (frames_of s.stack) ≡ true → frames_of stack ≡ added one_error (frames_of s.stack)

@@ -17,7 +17,7 @@ use Rattle.jwalk_subtotals.specs.declared.error.SubtotalError.{SubtotalError}
 use Rattle.jwalk_subtotals.specs.declared.error.SubtotalError.TheVariants.{Walk, TooMany, Memory}
 use Rattle.jwalk_subtotals.specs.Subtotal.{nothing, plus, IsTooGreat}
 use Rattle.jwalk_subtotals.specs.Counted.{Weighed, weighed, files_after, HaveSame}
-use Rattle.jwalk_subtotals.specs.Subtotals.{Yielded, below, beyond, total, shown, listed_all}
+use Rattle.jwalk_subtotals.specs.Subtotals.{Yielded, below, beyond, total, listed_all}
 use Rattle.jwalk_subtotals.specs.Stack.{Frame, frames_of, open_total}
 use Rattle.jwalk_subtotals.specs.Files.{files_of}
 use Rattle.jwalk_subtotals.specs.Error.{is_last}
@@ -33,8 +33,8 @@ module _ {R E : Type 0} where
   abbrev pub closing : SubtotalOptions → Subtotal → List (Frame R E) → List (Weighed R E) → List (Yielded R E)
   closing options t [] l = listed_all options l
   closing options t (f ∷ fs) l =
-      listed_all options (below f.depth l) ++ shown f.entry (plus (plus f.counted t) (total (below f.depth l)))
-      ++ closing options (plus (plus f.counted t) (total (below f.depth l))) fs (beyond f.depth l)
+      listed_all options (below f.entry.depth l) ++ (Ok (f.entry, plus (plus f.counted t) (total (below f.entry.depth l))) ∷ [])
+      ++ closing options (plus (plus f.counted t) (total (below f.entry.depth l))) fs (beyond f.entry.depth l)
 
   -- what is yielded from here on if the walk goes on with these answers
   abbrev pub coming : SubtotalOptions → Held R E → List (Item R E) → List (Yielded R E)

@@ -1,11 +1,12 @@
 -- The subtotals of a list of answers.
-use Rattle.std.specs.Prelude.{ℕ, zero, suc, nat_lt, nat_le, ◌&&◌, ◌||◌, ◌==◌, List, [], ◌∷◌, ◌++◌, length, Option, Some, None, Result, Ok, Err, if◌then◌else◌}
+use Rattle.std.specs.Prelude.{ℕ, zero, suc, Bool, nat_lt, nat_le, ◌&&◌, ◌||◌, ◌==◌, List, [], ◌∷◌, ◌++◌, length, Option, Some, None, Result, Ok, Err, if◌then◌else◌}
 use Rattle.jwalk.specs.jwalk_model.declared.metadata.Identity.{Identity}
 use Rattle.jwalk.specs.jwalk_model.FileType.{is_dir}
 use Rattle.jwalk.specs.jwalk_model.Error.{Failure}
 use Rattle.jwalk.specs.jwalk_model.Counted.{entry_by}
 use Rattle.jwalk.specs.jwalk_model.Entry.{Entry, Item}
 use Rattle.jwalk.specs.jwalk_job.Error.{depth_of}
+use Rattle.jwalk_usage.specs.Totals.{has_failed}
 use Rattle.jwalk_subtotals.specs.declared.subtotal.Subtotal.{Subtotal}
 use Rattle.jwalk_subtotals.specs.declared.options.SubtotalOptions.{SubtotalOptions}
 use Rattle.jwalk_subtotals.specs.Subtotal.{nothing, plus}
@@ -45,9 +46,13 @@ module _ {R E : Type 0} where
   abbrev pub subtotal : Weighed R E → List (Weighed R E) → Subtotal
   subtotal w behind = total (w ∷ below (depth_at w.0) behind)
 
-  -- the entry, if its subtotal is asked for: it is not too deep, and it is a directory or at depth 0, or all are asked for
+  -- whether an entry's subtotal is asked for: it is not too deep, and it is at depth 0, a directory, or could not be read, or all are asked for
+  abbrev pub is_asked : SubtotalOptions → Entry R E → Bool
+  is_asked options e = nat_le e.depth options.max_depth && (options.all || ((e.depth == 0) || (is_dir e.file_type || has_failed e.read_children)))
+
+  -- the entry, if its subtotal is asked for
   abbrev pub asked : SubtotalOptions → Entry R E → Option (Entry R E)
-  asked options e = if nat_le e.depth options.max_depth && (options.all || (is_dir e.file_type || (e.depth == 0))) then Some e else None
+  asked options e = if is_asked options e then Some e else None
 
   -- an entry with its subtotal, if it is asked for
   abbrev pub shown : Option (Entry R E) → Subtotal → List (Yielded R E)

@@ -1,7 +1,8 @@
 -- One turn of an iterator over subtotals, and what it is made of.
-use Rattle.std.specs.Prelude.{◌≡◌, ◌<◌, ◌⊎◌, Bool, true, false, ◌||◌, [], ◌∷◌, map, Option, Some, None, Result, Err}
+use Rattle.std.specs.Prelude.{◌≡◌, ◌<◌, ◌⊎◌, Bool, true, false, ◌||◌, List, [], ◌∷◌, map, Option, Some, None, Result, Err}
 use Rattle.std.specs.Iterator.{Count}
 use Rattle.jwalk.specs.jwalk_model.Entry.{Entry}
+use Rattle.jwalk.specs.jwalk_model.declared.metadata.Identity.{Identity}
 use Rattle.jwalk.specs.jwalk_job.Entry.{item}
 use Rattle.jwalk.specs.jwalk_job.declared.dir_entry.DirEntry.{DirEntry}
 use Rattle.jwalk.specs.jwalk_job.declared.error.Error.{Error}
@@ -12,8 +13,9 @@ use Rattle.jwalk_subtotals.specs.declared.iter.Turn.TheVariants.{Yields, GoesOn,
 use Rattle.jwalk_subtotals.specs.declared.error.SubtotalError.{SubtotalError}
 use Rattle.jwalk_subtotals.specs.declared.options.SubtotalOptions.{SubtotalOptions}
 use Rattle.jwalk_subtotals.specs.Counted.{counted_once, is_repeated, own}
-use Rattle.jwalk_subtotals.specs.Subtotals.{asked}
-use Rattle.jwalk_subtotals.specs.Stack.{left_of, closed_of, CannotClose}
+use Rattle.jwalk_subtotals.specs.Subtotals.{is_asked}
+use Rattle.jwalk_subtotals.specs.Stack.{left_of, closed_of, entered, AreTooMany, CannotClose}
+use Rattle.jwalk_subtotals.specs.declared.subtotal.Subtotal.{Subtotal}
 use Rattle.jwalk_subtotals.specs.Subtotal.{IsTooGreat}
 use Rattle.jwalk_subtotals.specs.declared.error.SubtotalError.TheVariants.{TooMany}
 use Rattle.jwalk_subtotals.specs.Files.{AreWith}
@@ -31,13 +33,22 @@ module _ {C A R E : Type 0} where
   is_end GoesOn = false
   is_end Ends = true
 
--- One more entry is open, below the others, and its file is counted.
-pub record Opens {R E : Type 0} (options : SubtotalOptions) (old : Held R E) (e : Entry R E) (new : Held R E) : Type 0 where
-  pub opened : new.frames ≡ record { depth = e.depth; entry = asked options e; counted = own options.apparent (is_repeated old.files (counted_once options e)) e } ∷ old.frames
-  pub files : AreWith (counted_once options e) old.files new.files
+module _ {R E : Type 0} where
+  -- what an entry counts by itself beside files that were counted before
+  abbrev pub own_beside : SubtotalOptions → List Identity → Entry R E → Subtotal
+  own_beside options files e = own options.apparent (is_repeated files (counted_once options e)) e
+
+  -- An entry is open below the others, or counts below the last, and its file is counted.
+  pub record Enters (options : SubtotalOptions) (old : Held R E) (e : Entry R E) (new : Held R E) : Type 0 where
+    pub frames : new.frames ≡ entered (is_asked options e) e (own_beside options old.files e) old.frames
+    pub files : AreWith (counted_once options e) old.files new.files
+
+  -- A number gets too great if an entry counts below the last.
+  abbrev pub CannotEnter : SubtotalOptions → Held R E → Entry R E → Type 0
+  CannotEnter options h e = AreTooMany (own_beside options h.files e) h.frames
 
 module _ {C A I R E : Type 0} where
-  -- The last open entry is closed, and yielded if it is asked for. All else stays, but that nothing more comes behind some errors.
+  -- The last open entry is closed, and yielded. All else stays, but that nothing more comes behind some errors.
   pub record Closes (old : Subtotals C A I R E) (turn : Turn C A R E) (new : Subtotals C A I R E) : Type 0 where
     pub answers : answers_of new ≡ answers_of old
     pub options : options_of new ≡ options_of old

@@ -4,7 +4,8 @@ ghost use Rattle.jwalk.specs.jwalk_job.Error.{failure};
 ghost use Rattle.jwalk_subtotals.specs.Error.{ends_walk, is_last};
 
 use jwalk::Error;
-use std::alloc::{Allocator, Global};
+use jwalk_usage::UsageFault;
+use std::alloc::{AllocError, Allocator, Global};
 
 /// What is yielded beside subtotals: an error of the walk, or why no more subtotals come.
 #[derive(Drop)]
@@ -33,6 +34,29 @@ impl<A: Allocator + Copy> SubtotalError<A> {
         match self {
             SubtotalError::Walk(error) => ends_walk(error),
             SubtotalError::TooMany | SubtotalError::Memory => true,
+        }
+    }
+}
+
+impl<A: Allocator + Copy> From<AllocError> for SubtotalError<A> {
+    ghost use Rattle.jwalk_subtotals.specs.declared.error.SubtotalError.TheVariants.{Memory};
+
+    ghost from_gives = { λ _ error. error ≡ Memory };
+
+    fn from(_refused: AllocError) -> SubtotalError<A> {
+        SubtotalError::Memory
+    }
+}
+
+impl<A: Allocator + Copy> From<UsageFault> for SubtotalError<A> {
+    ghost use Rattle.jwalk_subtotals.specs.Error.{of_fault};
+
+    ghost from_gives = { λ fault error. error ≡ of_fault fault };
+
+    fn from(fault: UsageFault) -> SubtotalError<A> {
+        match fault {
+            UsageFault::TooMany => SubtotalError::TooMany,
+            UsageFault::Memory => SubtotalError::Memory,
         }
     }
 }

@@ -1,8 +1,8 @@
 //! Subtotals while a walk is under way.
-ghost use Rattle.std.specs.Prelude.{◌≡◌, option_map};
+ghost use Rattle.std.specs.Prelude.{◌≡◌};
 ghost use Rattle.std.specs.Iterator.{at_most};
 ghost use Rattle.jwalk.specs.jwalk_job.Entry.{entry};
-ghost use Rattle.jwalk_subtotals.specs.Subtotals.{asked};
+ghost use Rattle.jwalk_subtotals.specs.Subtotals.{is_asked};
 ghost use Rattle.jwalk_subtotals.specs.Coming.{CanGoOn, Gives, weight};
 
 use crate::counting::{counted_once, one_error, own};
@@ -10,9 +10,11 @@ use crate::error::{SubtotalError, ends_walk};
 use crate::files::Files;
 use crate::options::SubtotalOptions;
 use crate::stack::{Stack, WithSubtotal};
+use crate::subtotal::Subtotal;
 use jwalk::error::Result as Answer;
 use jwalk::{ClientState, DirEntry, Error};
-use std::alloc::{AllocError, Allocator};
+use jwalk_usage::UsageFault;
+use std::alloc::Allocator;
 use std::mem;
 
 /// What is known of the walk's next answer.
@@ -58,18 +60,18 @@ impl<C: ClientState, A: Allocator + Copy, I: Drop> Drop for Subtotals<C, A, I> {
     }
 }
 
-fn asked<C: ClientState, A: Allocator + Copy>(
+fn is_asked<C: ClientState, A: Allocator + Copy>(
     options: &SubtotalOptions,
-    found: DirEntry<C, A>,
-) -> Option<DirEntry<C, A>>
-    ensures { option_map entry result ≡ asked options.now (entry found) }
+    found: &DirEntry<C, A>,
+) -> bool
+    ensures { result ≡ is_asked options.now (entry found.now) }
 {
-    let is_dir = found.file_type().is_dir();
-    if found.depth() <= options.max_depth && (options.all || is_dir || found.depth() == 0) {
-        Some(found)
-    } else {
-        None
-    }
+    let depth = found.depth();
+    depth <= options.max_depth
+        && (options.all
+            || depth == 0
+            || found.file_type().is_dir()
+            || found.read_children_error().is_some())
 }
 
 impl<C: ClientState, A: Allocator + Copy, I: Iterator<Item = Answer<DirEntry<C, A>, A>>> Subtotals<
@@ -77,13 +79,17 @@ impl<C: ClientState, A: Allocator + Copy, I: Iterator<Item = Answer<DirEntry<C, 
     A,
     I,
 > {
-    ghost use Rattle.std.specs.Prelude.{[], true, false, Ok, Err, OnOk};
+    ghost use Rattle.std.specs.Prelude.{[], true, false, Ok, Err, OnOk, IfOk, IfErr};
     ghost use Rattle.std.specs.Iterator.{IsFinite};
     ghost use Rattle.jwalk_subtotals.specs.declared.iter.Turn.TheVariants.{Yields, GoesOn};
     ghost use Rattle.jwalk_subtotals.specs.declared.iter.Ahead.TheVariants.{Unasked, Taken, Over};
     ghost use Rattle.jwalk_subtotals.specs.Coming.{answers_of, options_of, held, is_stopped, IsFreshBeside};
     ghost use Rattle.jwalk_subtotals.specs.Files.{files_of};
-    ghost use Rattle.jwalk_subtotals.specs.Turns.{Closes, Opens, Turns};
+    ghost use Rattle.jwalk_subtotals.specs.Error.{is_last};
+    ghost use Rattle.jwalk_subtotals.specs.Stack.{open_total};
+    ghost use Rattle.jwalk_subtotals.specs.Subtotal.{IsTooGreat};
+    ghost use Rattle.jwalk_subtotals.specs.declared.error.SubtotalError.TheVariants.{TooMany};
+    ghost use Rattle.jwalk_subtotals.specs.Turns.{CannotEnter, Closes, Enters, Turns};
 
     pub(crate) fn new(alloc: A, files: Files<A>, answers: I, options: SubtotalOptions) -> Self
         ensures fresh { IsFreshBeside (files_of files) result }
@@ -110,25 +116,24 @@ impl<C: ClientState, A: Allocator + Copy, I: Iterator<Item = Answer<DirEntry<C, 
         self.files.take()
     }
 
+    /// Returns what the entries that are open, and what was taken below them, count so far.
+    ///
+    /// # Errors
+    ///
+    /// `UsageFault::TooMany` if a number passes the greatest `u128`.
+    pub fn so_far(&self) -> Result<Subtotal, UsageFault>
+        ensures total { IfOk result (λ total. total ≡ open_total (held self.now).frames) }
+        ensures too_many { IfErr result (λ fault. (fault ≡ UsageFault.TooMany) × IsTooGreat (open_total (held self.now).frames)) }
+    {
+        self.stack.total()
+    }
+
     fn stop(&mut self, error: SubtotalError<A>) -> Turn<C, A>
         ensures yields { result ≡ Yields (Err error) }
         ensures stopped { self.new ≡ record self.old { stopped = true } }
     {
         self.stopped = true;
         Turn::Yields(Err(error))
-    }
-
-    fn take(&mut self)
-        requires can { I.can_next (answers_of self.old) }
-        requires ends { IsFinite (I.remaining (answers_of self.old)) }
-        requires runs { is_stopped self.old ≡ false }
-        requires unasked { self.old.ahead ≡ Unasked }
-        ensures { Turns I.next_gives I.can_next I.remaining self.old GoesOn self.new }
-    {
-        match self.answers.next() {
-            Some(answer) => self.ahead = Ahead::Taken(answer),
-            None => self.ahead = Ahead::Over,
-        }
     }
 
     fn close(&mut self) -> Turn<C, A>
@@ -142,17 +147,24 @@ impl<C: ClientState, A: Allocator + Copy, I: Iterator<Item = Answer<DirEntry<C, 
         }
     }
 
-    fn enter(&mut self, found: DirEntry<C, A>) -> Result<(), AllocError>
+    /// Opens an entry that is asked for. Another counts below the last open entry, and isn't kept.
+    fn enter(&mut self, found: DirEntry<C, A>) -> Result<(), SubtotalError<A>>
         ensures rest { self.new ≡ record self.old { stack = self.new.stack; files = self.new.files } }
-        ensures opened { OnOk result (Opens (options_of self.old) (held self.old) (entry found) (held self.new)) }
+        ensures entered { OnOk result (Enters (options_of self.old) (held self.old) (entry found) (held self.new)) }
+        ensures last { IfErr result (λ error. is_last error ≡ true) }
+        ensures too_many { IfErr result (λ error. error ≡ TooMany → CannotEnter (options_of self.old) (held self.old) (entry found)) }
     {
         let again = self.files.insert(counted_once(&self.options, &found))?;
         let counted = own(self.options.apparent, again, &found);
-        let depth = found.depth();
-        self.stack.push(depth, asked(&self.options, found), counted)
+        if is_asked(&self.options, &found) {
+            self.stack.push(found, counted)?;
+        } else {
+            self.stack.count(&counted)?;
+        }
+        Ok(())
     }
 
-    /// Opens an entry that was taken; or first closes one that it isn't below.
+    /// Enters an entry that was taken; or first closes one that it isn't below.
     fn place(&mut self, found: DirEntry<C, A>) -> Turn<C, A>
         requires can { I.can_next (answers_of self.old) }
         requires ends { IsFinite (I.remaining (answers_of self.old)) }
@@ -166,7 +178,7 @@ impl<C: ClientState, A: Allocator + Copy, I: Iterator<Item = Answer<DirEntry<C, 
         }
         match self.enter(found) {
             Ok(()) => Turn::GoesOn,
-            Err(AllocError) => self.stop(SubtotalError::Memory),
+            Err(error) => self.stop(error),
         }
     }
 
@@ -203,7 +215,25 @@ impl<C: ClientState, A: Allocator + Copy, I: Iterator<Item = Answer<DirEntry<C, 
         self.close()
     }
 
-    /// Takes an answer, counts one or closes an entry.
+    /// Takes an answer, and counts it, unless an open entry is closed first.
+    fn take(&mut self) -> Turn<C, A>
+        requires can { I.can_next (answers_of self.old) }
+        requires ends { IsFinite (I.remaining (answers_of self.old)) }
+        requires runs { is_stopped self.old ≡ false }
+        requires unasked { self.old.ahead ≡ Unasked }
+        ensures { Turns I.next_gives I.can_next I.remaining self.old result self.new }
+    {
+        match self.answers.next() {
+            Some(Ok(found)) => self.place(found),
+            Some(Err(error)) => self.place_error(error),
+            None => {
+                self.ahead = Ahead::Over;
+                self.close_last()
+            }
+        }
+    }
+
+    /// Counts an answer or closes an entry.
     fn turn(&mut self) -> Turn<C, A>
         requires { CanGoOn I.can_next I.remaining self.old }
         ensures { Turns I.next_gives I.can_next I.remaining self.old result self.new }
@@ -212,10 +242,7 @@ impl<C: ClientState, A: Allocator + Copy, I: Iterator<Item = Answer<DirEntry<C, 
             return Turn::Ends;
         }
         match mem::replace(&mut self.ahead, Ahead::Unasked) {
-            Ahead::Unasked => {
-                self.take();
-                Turn::GoesOn
-            }
+            Ahead::Unasked => self.take(),
             Ahead::Taken(Ok(found)) => self.place(found),
             Ahead::Taken(Err(error)) => self.place_error(error),
             Ahead::Over => {

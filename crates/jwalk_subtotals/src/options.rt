@@ -7,7 +7,7 @@ pub struct SubtotalOptions {
     pub apparent: bool,
     /// Whether each name of a file counts its size, and not only the first.
     pub each_name: bool,
-    /// Whether all entries are yielded, and not only directories and what is at depth 0.
+    /// Whether all entries are yielded, and not only directories, what is at depth 0, and what could not be read.
     pub all: bool,
     /// The greatest depth of the entries that are yielded.
     pub max_depth: usize,

@@ -1,6 +1,6 @@
 //! The entries whose subtotals are still open.
-ghost use Rattle.std.specs.Prelude.{◌≡◌, ◌↔◌, ◌∷◌, [], IfErr, IfOk, OnOk, IsTrue, option_map};
-ghost use Rattle.jwalk.specs.jwalk_job.Entry as value;
+ghost use Rattle.std.specs.Prelude.{◌≡◌, ◌↔◌, [], IfErr, IfOk, OnOk, IsTrue};
+ghost use Rattle.jwalk.specs.jwalk_job.Entry.{entry};
 ghost use Rattle.jwalk_usage.specs.declared.report.UsageFault.TheVariants.{TooMany};
 
 use crate::subtotal::Subtotal;
@@ -16,24 +16,15 @@ pub struct WithSubtotal<C: ClientState, A: Allocator + Copy> {
     pub subtotal: Subtotal,
 }
 
-/// An open entry.
-#[derive(Drop)]
-struct Open<C: ClientState, A: Allocator + Copy> {
-    depth: usize,
-    // The entry itself, if its subtotal is asked for.
-    entry: Option<DirEntry<C, A>>,
-    // What is at and below it, without what is still open below it.
-    counted: Subtotal,
-}
-
-/// The open entries, each below the one before.
+/// The open entries, each below the one before, with what is at and below each, without what is still open below it.
 #[derive(Drop)]
 pub(crate) struct Stack<C: ClientState, A: Allocator + Copy> {
-    open: Vec<Open<C, A>, A>,
+    open: Vec<WithSubtotal<C, A>, A>,
 }
 
 impl<C: ClientState, A: Allocator + Copy> Stack<C, A> {
-    ghost use Rattle.jwalk_subtotals.specs.Stack.{frames_of, is_above, added, left_of, closed, closed_of, AreTooMany, CannotClose};
+    ghost use Rattle.jwalk_subtotals.specs.Stack.{frames_of, is_above, added, left_of, opened, open_total, closed, closed_of, AreTooMany, CannotClose};
+    ghost use Rattle.jwalk_subtotals.specs.Subtotal.{IsTooGreat};
 
     pub(crate) fn new(alloc: A) -> Self
         ensures { frames_of result ≡ [] }
@@ -53,9 +44,21 @@ impl<C: ClientState, A: Allocator + Copy> Stack<C, A> {
         ensures { result ≡ is_above depth (frames_of self.now) }
     {
         match self.open.last() {
-            Some(last) => last.depth < depth,
+            Some(last) => last.entry.depth() < depth,
             None => true,
         }
+    }
+
+    /// Returns what all of them count together.
+    pub(crate) fn total(&self) -> Result<Subtotal, UsageFault>
+        ensures total { IfOk result (λ total. total ≡ open_total (frames_of self.now)) }
+        ensures too_many { IfErr result (λ fault. (fault ≡ TooMany) × IsTooGreat (open_total (frames_of self.now))) }
+    {
+        let mut total = Subtotal::nothing();
+        for open in self.open.as_slice() {
+            total.add(&open.subtotal)?;
+        }
+        Ok(total)
     }
 
     pub(crate) fn count(&mut self, more: &Subtotal) -> Result<(), UsageFault>
@@ -63,23 +66,21 @@ impl<C: ClientState, A: Allocator + Copy> Stack<C, A> {
         ensures too_many { IfErr result (λ fault. (fault ≡ TooMany) × AreTooMany more.now (frames_of self.old)) }
     {
         match self.open.last_mut() {
-            Some(last) => last.counted.add(more),
+            Some(last) => last.subtotal.add(more),
             None => Ok(()),
         }
     }
 
     pub(crate) fn push(
         &mut self,
-        depth: usize,
-        entry: Option<DirEntry<C, A>>,
+        found: DirEntry<C, A>,
         counted: Subtotal,
     ) -> Result<(), AllocError>
-        ensures { OnOk result (frames_of self.new ≡ record { depth = depth; entry = option_map value.entry entry; counted = counted } ∷ frames_of self.old) }
+        ensures { OnOk result (frames_of self.new ≡ opened (entry found) counted (frames_of self.old)) }
     {
-        self.open.push(Open {
-            depth,
-            entry,
-            counted,
+        self.open.push(WithSubtotal {
+            entry: found,
+            subtotal: counted,
         })?;
         Ok(())
     }
@@ -89,16 +90,10 @@ impl<C: ClientState, A: Allocator + Copy> Stack<C, A> {
         ensures closed { IfOk result (λ last. closed last ≡ closed_of (frames_of self.old)) }
         ensures too_many { IfErr result (λ fault. (fault ≡ TooMany) × CannotClose (frames_of self.old)) }
     {
-        let Some(Open { entry, counted, .. }) = self.open.pop() else {
+        let Some(last) = self.open.pop() else {
             return Ok(None);
         };
-        self.count(&counted)?;
-        match entry {
-            Some(entry) => Ok(Some(WithSubtotal {
-                entry,
-                subtotal: counted,
-            })),
-            None => Ok(None),
-        }
+        self.count(&last.subtotal)?;
+        Ok(Some(last))
     }
 }

@@ -7,6 +7,12 @@ use Rattle.jwalk_subtotals.proofs.iter.Subtotals.turn.Goals as goal
 pub returns-then-self : goal.returns-then-self
 returns-then-self g c = silent_turn g.I.Iterator.next_gives g.I.Iterator.can_next g.I.Iterator.remaining c.args.self.now c.if-self.true c.requires
 
+pub returns-in-Unasked : goal.returns-in-Unasked
+returns-in-Unasked g c =
+    let s = c.args.self.now in
+    let is : s.ahead ≡ c.replace.new.dest = cc (c.replace.ensures.value, c.in-Unasked.is, c.replace.ensures.after) in
+    subst (λ a. Turns g.I.Iterator.next_gives g.I.Iterator.can_next g.I.Iterator.remaining (record s { ahead = a }) c.take.result c.take.new.self) (sym is) c.take.ensures
+
 pub returns-in-Taken-Ok : goal.returns-in-Taken-Ok
 returns-in-Taken-Ok g c =
     let s = c.args.self.now in

@@ -11,8 +11,8 @@ returns-in-Some-clause-counted g c =
     let ends = index_last v.items v.len last v.ok.0 (c.in-Some.ensures.variant.0 refl) c.in-Some.ensures.value in
     let more = c.args.more.now in
     on_ok _ _ c.add.result
-    (λ (sums : c.add.new.self ≡ plus last.counted more).
-    reverse_set frame v.items v.len last (record { depth = last.depth; entry = last.entry; counted = c.add.new.self }) v.ok.0 ends
+    (λ (sums : c.add.new.self ≡ plus last.subtotal more).
+    reverse_set frame v.items v.len last (record { entry = last.entry; subtotal = c.add.new.self }) v.ok.0 ends
     ∙ ap (λ t. record (frame last) { counted = t } ∷ map frame (reverse ends.front)) sums
     ∙ ap (added more) (sym (reverse_last frame v.items last ends)))
     c.add.ensures.sums
