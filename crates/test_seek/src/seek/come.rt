@@ -25,8 +25,10 @@ fn told(alloc: Global, row: &Row<'_>, out: &[u8], err: &[u8]) -> Result<String, 
     text.push_str(": seek ")?;
     text.push_str(row.call)?;
     text.push_str("\n")?;
-    text.push_str(str::from_utf8(out).unwrap_or("?"))?;
-    text.push_str(str::from_utf8(err).unwrap_or("?"))?;
+    let printed = str::from_utf8(out).unwrap_or("?");
+    text.push_str(printed)?;
+    let complaints = str::from_utf8(err).unwrap_or("?");
+    text.push_str(complaints)?;
     Ok(text)
 }
 
