@@ -1,8 +1,11 @@
 //! Runs of the program `seek`.
+mod bases;
 mod braces;
 mod disk;
 mod errors;
 mod folder;
+mod help;
+mod hyphens;
 mod kept;
 mod names;
 mod options;
@@ -10,4 +13,5 @@ mod output;
 mod outputs;
 mod rules;
 mod runs;
+mod separators;
 mod words;

@@ -4,6 +4,7 @@ pub returns-clause-asked : goal.returns-clause-asked
 returns-clause-asked c = record {
   pattern = c.pattern_of.ensures;
   roots = c.in_ok-roots_of.ensures;
+  base = c.value_of.ensures;
   readings = c.readings_of-glob.ensures;
   others = c.in_ok-values_of.ensures;
   full_path = c.is_named.ensures;
@@ -22,7 +23,7 @@ returns-clause-asked c = record {
   owner = c.in_ok-owner_named.ensures.owner;
   changed_within = c.in_ok-time_named.ensures.time;
   changed_before = c.in_ok-time_named-2.ensures.time;
-  newer_than = c.value_of.ensures;
+  newer_than = c.value_of-2.ensures;
   prune = c.is_named-7.ensures;
   excludes = c.in_ok-values_of-3.ensures;
   max_results = c.results_of.ensures;
@@ -30,6 +31,7 @@ returns-clause-asked c = record {
   absolute = c.is_named-9.ensures;
   details = c.is_named-10.ensures;
   color = c.in_ok-color_of.ensures.color;
+  path_separator = c.value_of-3.ensures;
   print0 = c.is_named-11.ensures;
   threads = c.number_of.ensures;
 }
