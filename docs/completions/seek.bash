@@ -7,6 +7,7 @@ _seek() {
     -E | --exclude) compopt +o default; return ;;
     --ignore-file) compopt +o default; return ;;
     --search-path) compopt +o default; return ;;
+    --base-directory) compopt +o default; return ;;
     -j | --threads) compopt +o default; return ;;
     --min-depth) compopt +o default; return ;;
     -d | --max-depth | --maxdepth) compopt +o default; return ;;
@@ -20,7 +21,8 @@ _seek() {
     --newer-than-file) compopt +o default; return ;;
     --max-results) compopt +o default; return ;;
     --color) compopt +o default; return ;;
+    --path-separator) compopt +o default; return ;;
     esac
-    if [[ $word == -* ]]; then COMPREPLY=($(compgen -W "-g --glob -F --fixed-strings --and -p --full-path -i --ignore-case -s --case-sensitive -H --hidden -I --no-ignore -u --unrestricted -E --exclude -L --follow --no-ignore-vcs --no-ignore-parent --ignore-file --no-global-ignore-file --search-path --one-file-system --mount --xdev --prune --sort -j --threads --min-depth -d --max-depth --maxdepth --exact-depth -t --type -e --extension -S --size -o --owner --changed-within --newer --change-newer-than --changed-before --change-older-than --newer-than-file --max-results -1 -q --quiet --has-results -a --absolute-path -l --list-details --color --strip-cwd-prefix -0 --print0 -h --help -V --version" -- "$word")); fi
+    if [[ $word == -* ]]; then COMPREPLY=($(compgen -W "-g --glob -F --fixed-strings --regex --and -p --full-path -i --ignore-case -s --case-sensitive -H --hidden -I --no-ignore -u --unrestricted -E --exclude -L --follow --no-ignore-vcs --no-ignore-parent --ignore-file --no-global-ignore-file --search-path --base-directory --one-file-system --mount --xdev --prune --sort -j --threads --min-depth -d --max-depth --maxdepth --exact-depth -t --type -e --extension -S --size -o --owner --changed-within --newer --change-newer-than --changed-before --change-older-than --newer-than-file --max-results -1 -q --quiet --has-results -a --absolute-path -l --list-details --color --path-separator --strip-cwd-prefix -0 --print0 -h --help -V --version" -- "$word")); fi
 }
 complete -o default -F _seek seek

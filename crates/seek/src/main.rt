@@ -31,10 +31,12 @@ fn call_of(rt: &HostRuntime) -> io::Result<(Vec<String>, Disk)> {
 fn main(rt: HostRuntime) -> ExitCode {
     let mut err = rt.stderr();
     let (no_color, ls_colors) = (variable(&rt, "NO_COLOR"), variable(&rt, "LS_COLORS"));
+    let columns = variable(&rt, "COLUMNS");
     let screen = Screen {
         is_terminal: rt.stdout().is_terminal(),
         no_color: !no_color.is_empty(),
         ls_colors: ls_colors.as_str(),
+        columns: columns.as_str().parse::<usize>().ok(),
     };
     let (home, config) = (variable(&rt, "HOME"), variable(&rt, "XDG_CONFIG_HOME"));
     let status = match call_of(&rt) {

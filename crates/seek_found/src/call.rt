@@ -4,6 +4,7 @@ ghost use Rattle.seek_words.specs.Refusal.{status_of as status_for};
 ghost use Rattle.seek_found.specs.Call.{succeeds, AskToSearch, EndsUnsearched};
 
 use crate::sought::Sought;
+use program_help::help_text;
 use program_parts::halt::Halt;
 use program_parts::refusal::refuse;
 use seek_words::asked::Asked;
@@ -28,9 +29,26 @@ fn asks_to_start(refusal: &Refusal<'_>, words: &[String]) -> bool {
     }
 }
 
+/// Prints help or the version. If a width is known, lines of help have at most this width.
+fn print_text<W: Write>(
+    alloc: Global,
+    columns: Option<usize>,
+    refusal: &Refusal<'_>,
+    out: &mut W,
+) -> Result<(), Halt> {
+    let text = format!(in alloc; "{refusal}")?;
+    let text = help_text(alloc, columns, text.as_str())?;
+    if out.write_all(text.as_slice()).is_err() || out.flush().is_err() {
+        return Err(Halt::Output);
+    }
+    Ok(())
+}
+
 /// Prints help or the version, or reports why words are refused. For words that ask to start a program it says how that
 /// is done.
 fn refuse_words<W: Write, E: Write>(
+    alloc: Global,
+    columns: Option<usize>,
     refusal: &Refusal<'_>,
     words: &[String],
     out: &mut W,
@@ -41,7 +59,14 @@ fn refuse_words<W: Write, E: Write>(
     ensures untouched { result ≡ 2 → W.contents out.new ≡ W.contents out.old }
 {
     let status = refusal.status();
-    if status > 0 && asks_to_start(refusal, words) {
+    if status == 0 {
+        let Err(halt) = print_text(alloc, columns, refusal, out) else {
+            return 0;
+        };
+        halt.report("seek", err);
+        return 1;
+    }
+    if asks_to_start(refusal, words) {
         return refuse(&NOT_STARTED, status, out, err);
     }
     refuse(refusal, status, out, err)
@@ -78,7 +103,8 @@ pub fn status_of<E: Write>(quiet: bool, ended: Result<Ended, Halt>, err: &mut E)
     }
 }
 
-/// Reads the words of a call, and the patterns among them. The first word is the program's name.
+/// Reads the words of a call, and the patterns among them. The first word is the program's name. If `columns` is known, it
+/// is the greatest width of lines of help.
 ///
 /// # Errors
 ///
@@ -86,6 +112,7 @@ pub fn status_of<E: Write>(quiet: bool, ended: Result<Ended, Halt>, err: &mut E)
 /// error is the status of the program.
 pub fn read_call<'w, W: Write, E: Write>(
     alloc: Global,
+    columns: Option<usize>,
     words: &'w [String],
     out: &mut W,
     err: &mut E,
@@ -97,7 +124,7 @@ pub fn read_call<'w, W: Write, E: Write>(
 {
     let asked = match read_words(alloc, words) {
         Ok(asked) => asked,
-        Err(refusal) => return Err(refuse_words(&refusal, words, out, err)),
+        Err(refusal) => return Err(refuse_words(alloc, columns, &refusal, words, out, err)),
     };
     match Sought::read(alloc, &asked) {
         Ok(sought) => Ok((asked, sought)),

@@ -18,7 +18,18 @@ use Rattle.program_parts.specs.Values.{texts_of}
 use Rattle.seek_words.specs.declared.asked.Asked.{Asked}
 use Rattle.jwalk.specs.jwalk_model.FileSystem.{Functions}
 use Rattle.jwalk_ignore.specs.Rules.Texts.{Texts}
+use Rattle.std.specs.declared.sync.Arc.{Arc}
+use Rattle.jwalk_ignore.specs.declared.callback.excluding.Excluding.{Excluding}
+use Rattle.jwalk_ignore.specs.declared.callback.kept_rules.KeptRules.{KeptRules}
+use Rattle.jwalk_ignore.specs.jwalk_ignore_rules.declared.rules.chain.Chain.{Chain}
+use Rattle.seek_found.specs.declared.sought.Sought.{Sought as Looked}
+use Rattle.seek_words.specs.declared.screen.Screen.{Screen}
+use Rattle.user_excludes.specs.declared.home.Home.{Home}
+use Rattle.jwalk_ignore.specs.jwalk_ignore_rules.declared.rules.with_excludes.WithExcludes.{WithExcludes}
+use Rattle.seek_search.specs.Goes.{CallsOf}
+use Rattle.seek_search.specs.Run.{SearchesFor}
 use Rattle.seek_search.specs.Search.{yielded_by}
+use Rattle.seek_search.specs.declared.kept_links.KeptLinks.{KeptLinks}
 
 -- what is looked for, by its parts
 pub sought_by : {w w' : Wants} {t t' : List ℕ → Bool → Bool} {f f' : Option (List ℕ)} (p : Bool) → w ≡ w' → t ≡ t' → f ≡ f'
@@ -98,3 +109,18 @@ second_true false b is = absurd (cc)
 -- one isn't none
 pub one_not_none : {n : Option ℕ} → n ≡ Some 1 → n ≡ None → ⊥
 one_not_none {n} one none = let no : ◌≡◌ {A = Option ℕ} (Some 1) None = sym one ∙ none in absurd (cc)
+
+module _ {T C Z B X A D Q E G H F : Type 0} (plain : CallsOf T G (Arc (KeptLinks Z) B) Excluding A H F) (honouring : CallsOf T C (Arc (KeptLinks Z) B) (KeptRules (WithExcludes X)) A (Chain D × Q) E) {disk : Z} {reads : X} {fixed fixed' : Type 0} {fs fs' : Functions} {texts texts' : Texts} {home : Home} {screen : Screen} {asked : Asked} {sought : Looked} {old old' new : Option (List ℕ)} where
+  -- the same search, by other names of the file system, the texts and what was written before
+  pub searches_as : (fixed' → fixed) → fs ≡ fs' → texts ≡ texts' → old ≡ old' → SearchesFor plain honouring disk reads fixed fs texts home screen asked sought old new → SearchesFor plain honouring disk reads fixed' fs' texts' home screen asked sought old' new
+  searches_as fixes over from before s =
+      subst (λ (o : Option (List ℕ)). SearchesFor plain honouring disk reads fixed' fs' texts' home screen asked sought o new) before
+      (subst (λ (t : Texts). SearchesFor plain honouring disk reads fixed' fs' t home screen asked sought old new) from
+      (subst (λ (f : Functions). SearchesFor plain honouring disk reads fixed' f texts home screen asked sought old new) over
+      (record {
+        colored = s.colored;
+        times = λ both. s.times (fixes both);
+        quiet = s.quiet;
+        yielded = s.yielded;
+        prints = λ both. s.prints (fixes both);
+      })))

@@ -1,4 +1,5 @@
 pub mod Search
+pub mod Based
 pub mod Run
 pub mod RulesRead
 pub mod Printed

@@ -1,5 +1,5 @@
 -- The walks of a search, and its finds.
-use Rattle.std.specs.Prelude.{ℕ, zero, suc, ◌==◌, Bool, true, false, not, List, [], ◌∷◌, flat_map, length, Option, None, Some, Result, Ok, Err, unwrap_or, if◌then◌else◌}
+use Rattle.std.specs.Prelude.{ℕ, zero, suc, ◌==◌, Bool, true, false, not, List, [], ◌∷◌, flat_map, length, Option, None, Some, Result, Ok, Err, option_map, unwrap_or, if◌then◌else◌}
 use Rattle.std.specs.declared.io.ErrorKind.{ErrorKind}
 use Rattle.jwalk.specs.jwalk_model.Counted.{Worth, blank}
 use Rattle.jwalk.specs.jwalk_model.Entry.{Item}
@@ -133,6 +133,7 @@ form_before front screen asked = record {
   front = front;
   details = asked.details;
   painting = painting_asked screen asked;
+  slash = option_map (λ slash. slash.now) asked.path_separator;
 }
 
 -- the same over texts that always answer the same

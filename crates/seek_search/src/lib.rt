@@ -1,6 +1,7 @@
 //! A call of the program `seek`, over its words, a disk and texts of rules: walks, filtered and printed.
 #![tactic(auto)]
 
+mod based;
 mod excluded;
 mod kept_links;
 mod rules_read;

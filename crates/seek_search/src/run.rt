@@ -1,23 +1,26 @@
 //! A call of the program.
-ghost use Rattle.std.specs.Prelude.{◌≡◌, ◌≤◌, ◌⊎◌, None, true, flat_map, is_some, map, string_bytes, IfOk};
+ghost use Rattle.std.specs.Prelude.{◌≡◌, ◌≤◌, ◌⊎◌, Bool, None, true, flat_map, is_some, map, string_bytes, IfOk};
 ghost use Rattle.std.specs.Arc.{arc_value};
 ghost use Rattle.std.specs.Option.{option_map};
 ghost use Rattle.program_parts.specs.Values.{texts_of};
 ghost use Rattle.seek_words.specs.AsksFor.{AskForText};
 ghost use Rattle.seek_words.specs.Filter.{sought_of};
+ghost use Rattle.seek_words.specs.Joined.{joined};
 ghost use Rattle.seek_words.specs.Layout.{form_in};
 ghost use Rattle.seek_words.specs.Lines.{form_of};
 ghost use Rattle.seek_words.specs.Paint.{painting_of};
 ghost use Rattle.seek_words.specs.Subject.{front_of};
+ghost use Rattle.seek_words.specs.declared.times.Times.{Times};
 ghost use Rattle.seek_found.specs.Call.{AskForSearch, Ends};
 ghost use Rattle.seek_found.specs.Roots.{AreBelow};
 ghost use Rattle.seek_found.specs.Sought.{takes_by};
 ghost use Rattle.seek_found.specs.SoughtTest.{takes_of};
 ghost use Rattle.seek_search.specs.Goes.{ByRead, FindsOne, PrintsYielded, YieldedBelow};
 ghost use Rattle.seek_search.specs.Printed.{PrintsAll, PrintsThose};
-ghost use Rattle.seek_search.specs.Run.{PrintsAsked, PrintsRead, Searches};
+ghost use Rattle.seek_search.specs.Run.{PrintsAsked, PrintsRead, Searches, SearchesFor};
 ghost use Rattle.seek_search.specs.Search.{form_before, front_if, limit_asked, painting_asked, roots_asked, style_asked, unpruned_below, yielded_by};
 
+use crate::based::{Based, copied};
 use crate::kept_links::KeptLinks;
 use crate::rules_read::RulesRead;
 use crate::search::{HonouringWalk, PlainWalk, Search};
@@ -36,6 +39,7 @@ use seek_found::times::times_of;
 use seek_words::asked::Asked;
 use seek_words::filter::Filter;
 use seek_words::hidden::finds_none_shown;
+use seek_words::joined::joined_words;
 use seek_words::layout::Layout;
 use seek_words::lines::Lines;
 use seek_words::paint::Paint;
@@ -128,6 +132,7 @@ fn layout_of(
         absolute,
         details: asked.details,
         paint: paint_of(alloc, screen, asked)?,
+        slash: copied(alloc, asked.path_separator)?,
     })
 }
 
@@ -336,6 +341,118 @@ fn search_read<
     })
 }
 
+/// Sets what the words alone don't say: the times, and whether paths are in colors. Writes nothing to `out` if only the
+/// status is asked for.
+fn search_for<
+    T: Wait + Threads + Clock + Clone + Drop + Send + Sync + 'static,
+    K: Clock,
+    S: FileSystem + Send + Sync + 'static,
+    X: Texts + Send + Sync + 'static,
+    W: Write,
+    E: Write,
+>(
+    rt: &T,
+    clock: &K,
+    alloc: Global,
+    disk: S,
+    texts: X,
+    home: Home<'_>,
+    mut asked: Asked<'_>,
+    sought: &Sought,
+    screen: Screen<'_>,
+    out: &mut W,
+    err: &mut E,
+) -> u8
+    ensures status { result ≤ 1 }
+    ensures done { result ≡ 0 → (times : Times) × (colored : Bool) × SearchesFor ⟦<PlainWalk<T, KeptLinks<S>> as Iterator>⟧.next_gives
+        ⟦<HonouringWalk<T, KeptLinks<S>, WithExcludes<X>> as Iterator>⟧.next_gives disk texts
+        (S.IsFixed disk × X.IsFixed texts) (S.functions disk) (X.functions texts) home.entry screen.entry
+        (record asked.entry { times = times; colored = colored }) sought.now (W.contents out.old) (W.contents out.new) }
+{
+    match times_of(clock, &disk, &asked) {
+        Ok(times) => asked.times = times,
+        Err(untimed) => {
+            untimed.report(err);
+            return 1;
+        }
+    }
+    asked.colored = screen.is_colored(asked.color);
+    if asked.quiet {
+        let mut sink = io::sink();
+        let ended = search_read(
+            rt, clock, alloc, disk, texts, home, &asked, sought, screen, &mut sink, err,
+        );
+        return status_of(true, ended, err);
+    }
+    let ended = search_read(
+        rt, clock, alloc, disk, texts, home, &asked, sought, screen, out, err,
+    );
+    status_of(false, ended, err)
+}
+
+/// Returns whether the folder that is asked for is a directory or a link to one, if one is named. Reports it if not.
+fn has_folder<S: FileSystem, E: Write>(disk: &S, asked: &Asked<'_>, err: &mut E) -> bool {
+    let Some(base) = asked.base else {
+        return true;
+    };
+    let _ = match disk.metadata(".") {
+        Ok(found) if found.file_type().is_dir() => return true,
+        Ok(_) => writeln!(err, "seek: {base}: Not a directory"),
+        Err(Fault::Io(error)) => writeln!(err, "seek: {base}: {error}"),
+        Err(Fault::Memory) => writeln!(err, "seek: memory refused"),
+    };
+    false
+}
+
+fn run_words<
+    T: Wait + Threads + Clock + Clone + Drop + Send + Sync + 'static,
+    K: Clock,
+    S: FileSystem + Send + Sync + 'static,
+    X: Texts + Send + Sync + 'static,
+    W: Write,
+    E: Write,
+>(
+    rt: &T,
+    clock: &K,
+    alloc: Global,
+    disk: S,
+    texts: X,
+    words: &[String],
+    home: Home<'_>,
+    screen: Screen<'_>,
+    out: &mut W,
+    err: &mut E,
+) -> u8
+    ensures status { result ≤ 2 }
+    ensures ends { Ends (map string_bytes words.now) result }
+    ensures bad_words { ¬ (AskForText (map string_bytes words.now)) → ¬ (AskForSearch (map string_bytes words.now))
+        → (result ≡ 2) ⊎ (result ≡ 1) }
+    ensures untouched { result ≡ 2 → W.contents out.new ≡ W.contents out.old }
+    ensures done { result ≡ 0 → AskForText (map string_bytes words.now)
+        ⊎ Searches ⟦<PlainWalk<T, KeptLinks<Based<S>>> as Iterator>⟧.next_gives
+        ⟦<HonouringWalk<T, KeptLinks<Based<S>>, WithExcludes<Based<X>>> as Iterator>⟧.next_gives disk texts
+        (S.IsFixed disk × X.IsFixed texts) (S.functions disk) (X.functions texts) home.entry screen.entry
+        (map string_bytes words.now) (W.contents out.old) (W.contents out.new) }
+{
+    let (asked, sought) = match read_call(alloc, screen.columns, words, out, err) {
+        Ok(read) => read,
+        Err(status) => return status,
+    };
+    let (Ok(disk), Ok(texts)) = (
+        Based::new(alloc, disk, &asked),
+        Based::new(alloc, texts, &asked),
+    ) else {
+        Halt::Memory.report("seek", err);
+        return 1;
+    };
+    if !has_folder(&disk, &asked, err) {
+        return 1;
+    }
+    search_for(
+        rt, clock, alloc, disk, texts, home, asked, &sought, screen, out, err,
+    )
+}
+
 /// Searches the disk as the words ask. The first word is the program's name. Prints the path of each entry that is
 /// looked for, and reports errors on `err`. Returns the status. If the output is a terminal, control characters in
 /// paths are written as question marks, and paths are in colors, unless the words or the screen say otherwise. `home` says
@@ -365,37 +482,32 @@ pub fn run<
     err: &mut E,
 ) -> u8
     ensures status { result ≤ 2 }
-    ensures ends { Ends (map string_bytes words.now) result }
-    ensures bad_words { ¬ (AskForText (map string_bytes words.now)) → ¬ (AskForSearch (map string_bytes words.now))
+    ensures ends { Ends (joined (map string_bytes words.now)) result }
+    ensures bad_words { ¬ (AskForText (joined (map string_bytes words.now))) → ¬ (AskForSearch (joined (map string_bytes words.now)))
         → (result ≡ 2) ⊎ (result ≡ 1) }
     ensures untouched { result ≡ 2 → W.contents out.new ≡ W.contents out.old }
-    ensures done { result ≡ 0 → AskForText (map string_bytes words.now)
-        ⊎ Searches ⟦<PlainWalk<T, KeptLinks<S>> as Iterator>⟧.next_gives
-        ⟦<HonouringWalk<T, KeptLinks<S>, WithExcludes<X>> as Iterator>⟧.next_gives disk texts
+    ensures done { result ≡ 0 → AskForText (joined (map string_bytes words.now))
+        ⊎ Searches ⟦<PlainWalk<T, KeptLinks<Based<S>>> as Iterator>⟧.next_gives
+        ⟦<HonouringWalk<T, KeptLinks<Based<S>>, WithExcludes<Based<X>>> as Iterator>⟧.next_gives disk texts
         (S.IsFixed disk × X.IsFixed texts) (S.functions disk) (X.functions texts) home.entry screen.entry
-        (map string_bytes words.now) (W.contents out.old) (W.contents out.new) }
+        (joined (map string_bytes words.now)) (W.contents out.old) (W.contents out.new) }
 {
-    let (mut asked, sought) = match read_call(alloc, words, out, err) {
-        Ok(read) => read,
-        Err(status) => return status,
-    };
-    match times_of(clock, &disk, &asked) {
-        Ok(times) => asked.times = times,
-        Err(untimed) => {
-            untimed.report(err);
-            return 1;
+    match joined_words(alloc, words) {
+        Ok(words) => run_words(
+            rt,
+            clock,
+            alloc,
+            disk,
+            texts,
+            words.as_slice(),
+            home,
+            screen,
+            out,
+            err,
+        ),
+        Err(refused) => {
+            Halt::from(refused).report("seek", err);
+            1
         }
     }
-    asked.colored = screen.is_colored(asked.color);
-    if asked.quiet {
-        let mut sink = io::sink();
-        let ended = search_read(
-            rt, clock, alloc, disk, texts, home, &asked, &sought, screen, &mut sink, err,
-        );
-        return status_of(true, ended, err);
-    }
-    let ended = search_read(
-        rt, clock, alloc, disk, texts, home, &asked, &sought, screen, out, err,
-    );
-    status_of(false, ended, err)
 }

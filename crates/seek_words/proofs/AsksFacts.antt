@@ -27,6 +27,7 @@ shown_asks : (rows : List Row) (asked : Asked) (times : Times) (colored : Bool) 
 shown_asks rows asked times colored asks = record {
   pattern = asks.pattern;
   roots = asks.roots;
+  base = asks.base;
   readings = asks.readings;
   others = asks.others;
   full_path = asks.full_path;
@@ -53,6 +54,7 @@ shown_asks rows asked times colored asks = record {
   absolute = asks.absolute;
   details = asks.details;
   color = asks.color;
+  path_separator = asks.path_separator;
   print0 = asks.print0;
   threads = asks.threads;
   ignore_files = asks.ignore_files;

@@ -1,5 +1,5 @@
 -- The meaning of words, by the values of options.
-use Rattle.std.specs.Prelude.{◌≡◌, ℕ, ◌==◌, Bool, ◌&&◌, ◌||◌, true, false, List, [], ◌++◌, map, bytes_eq, codes, Option, Some, None, option_map, unwrap_or, if◌then◌else◌}
+use Rattle.std.specs.Prelude.{◌≡◌, ◌⊎◌, ℕ, ◌==◌, Bool, ◌&&◌, ◌||◌, true, false, List, [], ◌++◌, map, bytes_eq, codes, Option, Some, None, option_map, unwrap_or, if◌then◌else◌}
 use Rattle.std.specs.List.{list_any}
 use Rattle.clap.specs.Words.{Row, Text, first_of, one_of}
 use Rattle.program_parts.specs.Values.{is_named, values_in, texts_of, IsNumberOf}
@@ -44,9 +44,10 @@ abbrev pub IsCaseIn : List Row → Case → Type 0
 IsCaseIn rows case =
     ChoosesOne (is_named rows (codes "ignore-case")) (is_named rows (codes "case-sensitive")) (ignores case) (keeps case)
 
--- Whether the pattern is a glob or a text.
+-- Whether the pattern is a glob or a text. It is neither if the word for regular expressions undoes these.
 abbrev pub AreReadingsIn : List Row → Bool → Bool → Type 0
-AreReadingsIn rows = ChoosesOne (is_named rows (codes "glob")) (is_named rows (codes "fixed-strings"))
+AreReadingsIn rows glob fixed =
+    ((is_named rows (codes "regex") ≡ true) × (glob ≡ false) × (fixed ≡ false)) ⊎ ChoosesOne (is_named rows (codes "glob")) (is_named rows (codes "fixed-strings")) glob fixed
 
 -- the roots
 abbrev pub roots_in : List Row → List Text
@@ -93,6 +94,7 @@ is_slash byte = byte == 47
 pub record Asks (rows : List Row) (asked : Asked) : Type 0 where
   pub pattern : asked.pattern.now ≡ unwrap_or (first_of (codes "pattern") rows) []
   pub roots : texts_of asked.roots.items ≡ roots_in rows
+  pub base : option_map (λ it. it.now) asked.base ≡ first_of (codes "base-directory") rows
   pub readings : AreReadingsIn rows asked.glob asked.fixed
   pub others : texts_of asked.others.items ≡ values_in rows (codes "and")
   pub full_path : asked.full_path ≡ is_named rows (codes "full-path")
@@ -119,6 +121,7 @@ pub record Asks (rows : List Row) (asked : Asked) : Type 0 where
   pub absolute : asked.absolute ≡ is_named rows (codes "absolute-path")
   pub details : asked.details ≡ is_named rows (codes "list-details")
   pub color : IsColorIn (first_of (codes "color") rows) asked.color
+  pub path_separator : option_map (λ it. it.now) asked.path_separator ≡ first_of (codes "path-separator") rows
   pub print0 : asked.print0 ≡ is_named rows (codes "print0")
   pub threads : IsNumberOf (one_of (codes "threads") rows) asked.threads
   pub ignore_files : texts_of asked.ignore_files.items ≡ values_in rows (codes "ignore-file")

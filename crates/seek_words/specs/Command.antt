@@ -23,7 +23,7 @@ and_rule = record (valued_rule (codes "and")) { action = Some Append }
 -- the reading of a pattern
 abbrev pub pattern_rules : List Rule
 pattern_rules =
-    flag_rule (codes "glob") 103 ∷ flag_rule (codes "fixed-strings") 70 ∷ and_rule ∷ flag_rule (codes "full-path") 112 ∷ []
+    flag_rule (codes "glob") 103 ∷ flag_rule (codes "fixed-strings") 70 ∷ long_flag_rule (codes "regex") ∷ and_rule ∷ flag_rule (codes "full-path") 112 ∷ []
 
 -- whether the case of letters counts
 abbrev pub case_rules : List Rule
@@ -54,7 +54,7 @@ search_rule = record (valued_rule (codes "search-path")) { action = Some Append 
 -- the reach and the order of a walk
 abbrev pub reach_rules : List Rule
 reach_rules =
-    search_rule ∷ file_system_rule ∷ long_flag_rule (codes "prune") ∷ long_flag_rule (codes "sort") ∷ threads_rule ∷ []
+    search_rule ∷ valued_rule (codes "base-directory") ∷ file_system_rule ∷ long_flag_rule (codes "prune") ∷ long_flag_rule (codes "sort") ∷ threads_rule ∷ []
 
 -- the types, by these names
 abbrev pub kind_rule : Bor (List (Bor Text)) → Rule
@@ -98,7 +98,7 @@ one_rule = record (new_rule (codes "one-result")) { short = Some 49; action = So
 abbrev pub print_rules : List Rule
 print_rules =
     number_rule (codes "max-results") ∷ one_rule ∷ quiet_rule ∷ flag_rule (codes "absolute-path") 97 ∷ flag_rule (codes "list-details") 108
-    ∷ valued_rule (codes "color") ∷ long_flag_rule (codes "strip-cwd-prefix") ∷ flag_rule (codes "print0") 48 ∷ []
+    ∷ valued_rule (codes "color") ∷ valued_rule (codes "path-separator") ∷ long_flag_rule (codes "strip-cwd-prefix") ∷ flag_rule (codes "print0") 48 ∷ []
 
 -- the names of types
 abbrev pub kind_names : List Text

@@ -1,3 +1,4 @@
+pub mod Joined
 pub mod Command
 pub mod Asks
 pub mod Conflict

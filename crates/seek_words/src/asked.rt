@@ -18,6 +18,8 @@ pub struct Asked<'w> {
     pub pattern: &'w str,
     /// The roots. If there are none, it is the folder that the program runs in.
     pub roots: Vec<&'w str, Global>,
+    /// The folder that the search runs in, if it isn't that of the program.
+    pub base: Option<&'w str>,
     /// The pattern is a glob, which must take the whole name.
     pub glob: bool,
     /// The pattern is a text, which a name must have in it.
@@ -80,6 +82,8 @@ pub struct Asked<'w> {
     pub color: Color,
     /// Paths are printed in colors, by what they are printed to. The words alone don't set it.
     pub colored: bool,
+    /// The text that is printed in place of each slash of a path, if one is named.
+    pub path_separator: Option<&'w str>,
     /// A zero byte follows each path, in place of a line feed.
     pub print0: bool,
     /// The number of threads that read directories, if that was named.

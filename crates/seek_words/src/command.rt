@@ -68,6 +68,11 @@ fn pattern_options<'a>(alloc: Global) -> Result<Vec<Arg<'a>>, AllocError>
             'F',
             "The pattern is a text, which a name has in it",
         ),
+        long_flag(
+            alloc,
+            "regex",
+            "The pattern is a regular expression, which undoes -g and -F",
+        ),
         and_option(alloc),
         flag(
             alloc,
@@ -174,6 +179,12 @@ fn reach_options<'a>(alloc: Global) -> Result<Vec<Arg<'a>>, AllocError>
 {
     Ok(vec![in alloc;
         search_option(alloc),
+        valued(
+            alloc,
+            "base-directory",
+            "DIR",
+            "Search as if the program ran in this folder",
+        ),
         file_system_option(alloc)?,
         long_flag(
             alloc,
@@ -315,6 +326,12 @@ fn print_options<'a>(alloc: Global) -> Result<Vec<Arg<'a>>, AllocError>
             "color",
             "WHEN",
             "When to print colors: auto, always or never",
+        ),
+        valued(
+            alloc,
+            "path-separator",
+            "SEP",
+            "What is printed in place of each slash of a path",
         ),
         long_flag(
             alloc,

@@ -1,7 +1,7 @@
 //! The layout of printed lines.
-ghost use Rattle.std.specs.Prelude.{◌≡◌, ◌++◌, string_bytes, IfOk, OnOk};
+ghost use Rattle.std.specs.Prelude.{◌≡◌, ◌≤◌, ◌++◌, drop, length, string_bytes, take, IfOk, OnOk};
 ghost use Rattle.std.specs.Option.{option_copied, option_map};
-ghost use Rattle.seek_words.specs.Layout.{folder_text, plain_line};
+ghost use Rattle.seek_words.specs.Layout.{folder_text, plain_line, slashed};
 ghost use Rattle.seek_words.specs.Subject.{front_of};
 
 use crate::paint::Paint;
@@ -22,6 +22,8 @@ pub struct Layout {
     pub details: bool,
     /// The colors of paths, if they have some.
     pub paint: Option<Paint>,
+    /// The text in place of each slash, if one is named.
+    pub slash: Option<String>,
 }
 
 fn push_plain(
@@ -61,8 +63,30 @@ fn shown_folder(
     }
 }
 
+fn push_slashed(slash: &str, line: &[u8], out: &mut Vec<u8, Global>) -> Result<(), AllocError>
+    ensures { OnOk result (out.new.items ≡ out.old.items ++ slashed slash.now line.now) }
+{
+    for byte in line {
+        if *byte == b'/' {
+            out.extend_from_slice(slash.as_bytes())?;
+        } else {
+            out.push(*byte)?;
+        }
+    }
+    Ok(())
+}
+
+/// The slashes up to `start` stay.
+fn replace_slashes(slash: &str, start: usize, out: &mut Vec<u8, Global>) -> Result<(), AllocError>
+    requires { start ≤ length out.old.items }
+    ensures { OnOk result (out.new.items ≡ take start out.old.items ++ slashed slash.now (drop start out.old.items)) }
+{
+    let line = out.split_off(start)?;
+    push_slashed(slash, line.as_slice(), out)
+}
+
 impl Layout {
-    ghost use Rattle.seek_words.specs.Layout.{form_in, form_line, line_in};
+    ghost use Rattle.seek_words.specs.Layout.{form_in, form_line, line_in, slashed_line};
 
     fn write_line(&mut self, entry: Shown<'_>, out: &mut Vec<u8, Global>) -> Result<(), AllocError>
         ensures line { OnOk result (out.new.items ≡ out.old.items ++ line_in (form_in self.old) entry.entry.file_type
@@ -86,6 +110,23 @@ impl Layout {
         Ok(())
     }
 
+    fn write_slashed(
+        &mut self,
+        entry: Shown<'_>,
+        out: &mut Vec<u8, Global>,
+    ) -> Result<(), AllocError>
+        ensures line { OnOk result (out.new.items ≡ out.old.items ++ slashed_line (form_in self.old) entry.entry.file_type
+            (option_copied entry.entry.seen) entry.entry.folder.now entry.entry.name.now) }
+        ensures form { form_in self.new ≡ form_in self.old }
+    {
+        let start = out.len();
+        self.write_line(entry, out)?;
+        match &self.slash {
+            Some(slash) => replace_slashes(slash.as_str(), start, out),
+            None => Ok(()),
+        }
+    }
+
     /// Appends the line of an entry to `out`.
     ///
     /// # Errors
@@ -99,6 +140,6 @@ impl Layout {
         if self.details {
             push_details(entry.seen, out)?;
         }
-        self.write_line(entry, out)
+        self.write_slashed(entry, out)
     }
 }

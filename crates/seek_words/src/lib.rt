@@ -10,6 +10,7 @@ pub mod expression;
 pub mod extension;
 pub mod filter;
 pub mod hidden;
+pub mod joined;
 pub mod kinds;
 pub mod layout;
 pub mod lines;

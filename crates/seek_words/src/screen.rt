@@ -13,6 +13,8 @@ pub struct Screen<'s> {
     pub no_color: bool,
     /// The value of the variable `LS_COLORS`, or the empty text if it isn't set.
     pub ls_colors: &'s str,
+    /// The greatest width of the lines of help, if it is known.
+    pub columns: Option<usize>,
 }
 
 impl<'s> Screen<'s> {

@@ -1,5 +1,5 @@
 //! The meaning of words.
-ghost use Rattle.std.specs.Prelude.{◌≡◌, [], codes, is_some, map, option_map, unwrap_or, IfOk, IfErr, Some};
+ghost use Rattle.std.specs.Prelude.{◌≡◌, [], codes, is_some, map, option_map, true, unwrap_or, IfOk, IfErr, Some};
 ghost use Rattle.std.specs.List.{list_any};
 ghost use Rattle.clap.specs.Words.{found_of, rows_of, first_of};
 ghost use Rattle.program_parts.specs.Values.{is_named, values_in, texts_of};
@@ -87,9 +87,22 @@ fn last_named(found: &ArgMatches<'_>, one: &str, other: &str) -> (bool, bool)
     }
 }
 
+/// Returns whether the word for regular expressions is behind all that name another reading.
+fn is_regex_last(found: &ArgMatches<'_>) -> bool
+    ensures { result ≡ true → is_named (rows_of (found_of found.now)) (codes "regex") ≡ true }
+{
+    let regex = last_place(found, "regex");
+    is_named(found, "regex")
+        && last_place(found, "glob") < regex
+        && last_place(found, "fixed-strings") < regex
+}
+
 fn readings_of(found: &ArgMatches<'_>) -> (bool, bool)
     ensures { AreReadingsIn (rows_of (found_of found.now)) result.0 result.1 }
 {
+    if is_regex_last(found) {
+        return (false, false);
+    }
     last_named(found, "glob", "fixed-strings")
 }
 
@@ -227,6 +240,7 @@ fn asked_of<'w>(alloc: Global, found: &ArgMatches<'w>) -> Result<Asked<'w>, Refu
     Ok(Asked {
         pattern: pattern_of(found),
         roots: roots_of(alloc, found)?,
+        base: value_of(found, "base-directory"),
         glob,
         fixed,
         others: values_of(alloc, found, "and")?,
@@ -256,6 +270,7 @@ fn asked_of<'w>(alloc: Global, found: &ArgMatches<'w>) -> Result<Asked<'w>, Refu
         details: is_named(found, "list-details"),
         color: color_of(found)?,
         colored: false,
+        path_separator: value_of(found, "path-separator"),
         print0: is_named(found, "print0"),
         threads: number_of(found, "threads"),
         ignore_files: values_of(alloc, found, "ignore-file")?,

@@ -1,10 +1,13 @@
 //! Runs of the program `seek`.
+mod bases;
 mod braces;
 mod come;
 mod disk;
 mod errors;
 mod folder;
 mod given;
+mod help;
+mod hyphens;
 mod kept;
 mod names;
 mod options;
@@ -13,5 +16,6 @@ mod outputs;
 mod patterns;
 mod rules;
 mod runs;
+mod separators;
 mod table;
 mod words;

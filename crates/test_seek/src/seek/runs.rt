@@ -75,6 +75,7 @@ pub(crate) fn called_by<S: FileSystem + Send + Sync + 'static, X: Texts + Send +
                 is_terminal: call.on_terminal,
                 no_color: true,
                 ls_colors: "di=34:*.rs=31",
+                columns: None,
             },
             out,
             err,
