@@ -1,7 +1,8 @@
-use Rattle.std.proofs.Common.{inl, inr, map, string_bytes}
+use Rattle.std.proofs.Common.{inl, inr, ap, ap₂, map, string_bytes, subst, sym}
 use Rattle.seek_found.proofs.EndFacts.{bad_ends, ends_most, searched_ends}
 use Rattle.seek_found.proofs.ShownFacts.{shown_for}
 use Rattle.seek_words.proofs.AsksFacts.{shown_ask_for}
+use Rattle.seek_search.specs.Based.{functions_based, texts_based}
 use Rattle.seek_search.proofs.RunFacts.{searches_as}
 use Rattle.seek_search.proofs.run.run_words.Goals as goal
 
@@ -24,3 +25,22 @@ returns-clause-ends g c =
 
 pub returns-clause-bad_words : goal.returns-clause-bad_words
 returns-clause-bad_words g c = bad_ends _ _ (returns-clause-ends g c)
+
+pub returns-clause-done : goal.returns-clause-done
+returns-clause-done g c = λ zero.
+    let read = c.in-Ok.ensures.asked in
+    let over = c.in-Ok-Ok.ensures in
+    let from = c.in-Ok-Ok.ensures' in
+    let done = c.search_for.ensures.done zero in
+    inr (record {
+      asked = _;
+      ask = shown_ask_for _ _ done.0 done.1 read.0;
+      sought = _;
+      is_for = shown_for _ done.0 done.1 _ read.1;
+      over = c.in-Ok-Ok.disk;
+      is_over = record { of = over.of; from = over.from };
+      from = c.in-Ok-Ok.texts;
+      is_from = record { of = from.of; from = from.from };
+      searches = searches_as _ _ (λ both. (subst g.S.FileSystem.IsFixed (sym over.of) both.0, subst g.X.Texts.IsFixed (sym from.of) both.1))
+          (ap₂ functions_based over.from (ap g.S.FileSystem.functions over.of)) (ap₂ texts_based from.from (ap g.X.Texts.functions from.of)) c.in-Ok.ensures.unwritten done.2;
+    })
