@@ -1,10 +1,11 @@
 -- Roots that are searched one after another.
-use Rattle.std.proofs.Common.{◌≡◌, ◌≤◌, ◌<◌, ◌∙◌, ℕ, Bool, true, false, ◌&&◌, List, [], ◌∷◌, ◌++◌, length, slice_index_or, Option, Some, None, Result, Ok, Err, append-nil, ap, ap₂, arith, refl, subst, sym}
+use Rattle.std.proofs.Common.{◌≡◌, ◌≤◌, ◌<◌, ◌+◌, ◌∙◌, ℕ, nat_eq, take, Bool, true, false, ◌&&◌, List, [], ◌∷◌, ◌++◌, length, slice_index_or, Option, Some, None, Result, Ok, Err, append-nil, ap, ap₂, arith, refl, subst, sym}
 use Rattle.std.specs.Prelude.{flat_map, IfOk, IsOkAnd}
 use Rattle.std.specs.Borrow.{Bor}
 use Rattle.std.specs.Io.KnownBytes.{Appends, append_known}
 use Rattle.std.proofs.lemmas.Grind.{flat_map-append}
-use Rattle.std.proofs.lemmas.List.{map-append}
+use Rattle.std.proofs.lemmas.List.{map-append, take_more}
+use Rattle.std.proofs.Math.ListN.{get_or}
 use Rattle.jwalk.specs.jwalk_model.Entry.{Item}
 use Rattle.seek_words.specs.Sought.{Sought}
 use Rattle.seek_words.specs.Wanted.{Wants}
@@ -109,6 +110,22 @@ second_true false b is = absurd (cc)
 -- one isn't none
 pub one_not_none : {n : Option ℕ} → n ≡ Some 1 → n ≡ None → ⊥
 one_not_none {n} one none = let no : ◌≡◌ {A = Option ℕ} (Some 1) None = sym one ∙ none in absurd (cc)
+
+-- a list of no length
+pub no_items : {X : Type 0} (xs : List X) → nat_eq (length xs) 0 ≡ true → xs ≡ []
+no_items [] is = refl
+no_items (x ∷ xs) is = absurd (cc)
+
+-- the lines of one file more
+pub one_more : (f : List ℕ → List ℕ) (before after : List ℕ) (paths : List (Bor (List ℕ))) (i : ℕ) (path : Bor (List ℕ))
+    → i < length paths → before ≡ flat_map f (texts_of (take i paths)) → after ≡ before ++ f (get_or paths i path).now → after ≡ flat_map f (texts_of (take (i + 1) paths))
+one_more f before after paths i path below was is =
+    let first : List (List ℕ) = texts_of (take i paths) in
+    let last : Bor (List ℕ) = get_or paths i path in
+    is ∙ ap (λ (l : List ℕ). l ++ f last.now) was
+    ∙ sym (ap (λ (l : List (Bor (List ℕ))). flat_map f (texts_of l)) (take_more paths i path below)
+    ∙ ap (flat_map f) (map-append (λ it. it.now) (take i paths) (last ∷ []))
+    ∙ flat_map-append f first (last.now ∷ []) ∙ ap (λ (l : List ℕ). flat_map f first ++ l) (append-nil (f last.now)))
 
 module _ {T C Z B X A D Q E G H F : Type 0} (plain : CallsOf T G (Arc (KeptLinks Z) B) Excluding A H F) (honouring : CallsOf T C (Arc (KeptLinks Z) B) (KeptRules (WithExcludes X)) A (Chain D × Q) E) {disk : Z} {reads : X} {fixed fixed' : Type 0} {fs fs' : Functions} {texts texts' : Texts} {home : Home} {screen : Screen} {asked : Asked} {sought : Looked} {old old' new : Option (List ℕ)} where
   -- the same search, by other names of the file system, the texts and what was written before

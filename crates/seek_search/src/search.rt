@@ -1,5 +1,5 @@
 //! A search below roots.
-ghost use Rattle.std.specs.Prelude.{◌≡◌, false, IfOk};
+ghost use Rattle.std.specs.Prelude.{◌≡◌, [], false, IfOk};
 ghost use Rattle.std.specs.Arc.{arc_value};
 ghost use Rattle.seek_words.specs.Filter.{sought_of};
 ghost use Rattle.seek_words.specs.Lines.{form_of};
@@ -78,6 +78,18 @@ where
     print_found(&mut answers, printer, clock, out, err)
 }
 
+/// Returns the rules that are asked for, from these texts alone.
+fn rules_in<X: Texts>(asked: &Asked<'_>, texts: X) -> IgnoreFiles<X>
+    ensures texts { texts_of result ≡ texts }
+    ensures settings { settings_of result ≡ settings_asked [] asked.now }
+{
+    IgnoreFiles::new(texts)
+        .keep_hidden(asked.hidden)
+        .version_control(!asked.no_vcs)
+        .above_the_root(!asked.no_parents)
+        .fdignore(true)
+}
+
 /// Returns the rules that are asked for, from these texts and of these lines.
 fn rules_of<X: Texts>(
     alloc: Global,
@@ -88,11 +100,7 @@ fn rules_of<X: Texts>(
     ensures texts { IfOk result (λ it. texts_of it ≡ texts) }
     ensures settings { IfOk result (λ it. settings_of it ≡ settings_asked lines.now asked.now) }
 {
-    let rules = IgnoreFiles::new(texts)
-        .keep_hidden(asked.hidden)
-        .version_control(!asked.no_vcs)
-        .above_the_root(!asked.no_parents)
-        .fdignore(true);
+    let rules = rules_in(asked, texts);
     if lines.is_empty() {
         return Ok(rules);
     }

@@ -3,8 +3,10 @@ use Rattle.std.specs.Prelude.{◌≡◌, Bool, true, false, List, [], ◌∷◌,
 use Rattle.jwalk.specs.jwalk_model.declared.file_type.FileType.{FileType}
 use Rattle.jwalk.specs.jwalk_model.declared.file_type.FileType.TheVariants as type
 use Rattle.jwalk_ignore.specs.Callback.Given.{first_settings}
-use Rattle.jwalk_ignore.specs.Callback.IgnoreFiles.{all_kinds, is_read, is_read_above}
+use Rattle.jwalk_ignore.specs.Callback.IgnoreFiles.{all_kinds, given_says, is_read, is_read_above}
 use Rattle.jwalk_ignore.specs.Rules.Folder.{Folder}
+use Rattle.jwalk_ignore.specs.Rules.Line.{patterns_of}
+use Rattle.jwalk_ignore_rules.specs.declared.rules.decision.Decision.TheVariants.{Ignored, Unsaid}
 use Rattle.jwalk_ignore_rules.specs.declared.rules.rules_kind.RulesKind.{RulesKind}
 use Rattle.jwalk_ignore_rules.specs.declared.rules.rules_kind.RulesKind.TheVariants.{Fdignore, Ignore, Gitignore, Exclude}
 use Rattle.jwalk_ignore.specs.Callback.Settings.{Settings}
@@ -39,3 +41,11 @@ row_beyond = refl
 
 row_none_above : read_above (record first_settings { above_the_root = false }) false true (Some type.Dir) ≡ []
 row_none_above = refl
+
+-- what given rules say of a name in a directory: its path counts, as the walk makes it
+
+row_given_here : given_says (patterns_of (codes "/t/a\n")) (codes "./t") (codes "a") false ≡ Ignored
+row_given_here = refl
+
+row_given_from_the_top : given_says (patterns_of (codes "/t/a\n")) (codes "/r/t") (codes "a") false ≡ Unsaid
+row_given_from_the_top = refl

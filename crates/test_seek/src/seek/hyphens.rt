@@ -52,7 +52,7 @@ $ seek -S - . /s
 !~ -
 = 2
 $ seek -d -1 . /s
-!~ '--max-depth <N>'
+!~ --max-depth
 = 2
 # a root of the name of an option or of a size
 $ seek -- --size -1k
