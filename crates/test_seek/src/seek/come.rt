@@ -19,16 +19,21 @@ fn says_threads(call: &str) -> bool {
     call.split(' ').any(|word| word.starts_with("-j") || word.starts_with("--threads"))
 }
 
+fn push_output(text: &mut String, output: &[u8]) -> Result<(), AllocError> {
+    match str::from_utf8(output) {
+        Ok(output) => text.push_str(output),
+        Err(_) => text.push_str("no UTF-8"),
+    }
+}
+
 /// Returns the call, and what it came to.
 fn told(alloc: Global, row: &Row<'_>, out: &[u8], err: &[u8]) -> Result<String, AllocError> {
     let mut text = String::from_str(alloc, row.name)?;
     text.push_str(": seek ")?;
     text.push_str(row.call)?;
     text.push_str("\n")?;
-    let printed = str::from_utf8(out).unwrap_or("?");
-    text.push_str(printed)?;
-    let complaints = str::from_utf8(err).unwrap_or("?");
-    text.push_str(complaints)?;
+    push_output(&mut text, out)?;
+    push_output(&mut text, err)?;
     Ok(text)
 }
 
