@@ -1,4 +1,8 @@
 //! Walks that a crew reads for, over a file system that the tests look at too.
+ghost use Rattle.jwalk.specs.DirEntryIter.{job_of};
+ghost use Rattle.jwalk.specs.WalkDir.{callback_of};
+ghost use Rattle.jwalk.specs.jwalk_job.Job.{callback};
+
 use jwalk::file_system::FileSystem;
 use jwalk::read_dir::{NoProcess, ProcessReadDir};
 use jwalk::{Crew, DirEntryIter, Parallelism, Readers, WalkDirGeneric};
@@ -6,21 +10,65 @@ use std::alloc::{AllocError, Global};
 use std::sync::Arc;
 use test_fixtures::answers::{Answer, are_lines};
 use test_fixtures::host::Host;
-use test_fixtures::ways::{Asked, Setting, WAYS, all_of, with_all};
+use test_fixtures::ways::{Asked, Setting, WAYS, add_in_turn, with_all};
 
 /// A walk that has not begun, for which a crew will read.
-pub type CrewWalk<R, S> = WalkDirGeneric<((), ()), Arc<S>, NoProcess, Global, Crew<R>>;
+pub type CrewWalk<R, S, P = NoProcess> = WalkDirGeneric<((), ()), Arc<S>, P, Global, Crew<R>>;
 
 /// A walk under way that some readers read for.
-pub type WalkBy<S, L> = DirEntryIter<((), ()), Arc<S>, NoProcess, Global, L>;
+pub type WalkBy<S, L, P = NoProcess> = DirEntryIter<((), ()), Arc<S>, P, Global, L>;
 
 /// What a test does with a walk under way, whoever reads for it.
-pub trait Visit<S: FileSystem> {
+pub trait Visit<S: FileSystem, P: ProcessReadDir<((), ()), Global>> {
     /// Returns whether the walk went as it must.
+    fn visit<L: Readers<((), ()), Arc<S>, P, Global>>(&mut self, walk: &mut WalkBy<S, L, P>) -> bool
+        requires { P.IsLawful (callback (job_of walk.old)) };
+}
+
+/// Begins a walk, lends it and drops it. A walk over a crew has a long type, so this is the one function that owns one.
+pub fn lend<
+    R: Host,
+    S: FileSystem + Send + Sync + 'static,
+    P: ProcessReadDir<((), ()), Global> + Send + Sync + 'static,
+    V: Visit<S, P>,
+>(walk: CrewWalk<R, S, P>, visit: &mut V) -> bool
+    requires { P.IsLawful (callback_of walk) }
+{
+    let mut walk = walk.into_iter();
+    visit.visit(&mut walk)
+}
+
+/// A visit that takes all answers.
+#[derive(Drop)]
+struct All {
+    found: Vec<Answer>,
+}
+
+impl<S: FileSystem, P: ProcessReadDir<((), ()), Global>> Visit<S, P> for All {
+    fn visit<L: Readers<((), ()), Arc<S>, P, Global>>(
+        &mut self,
+        walk: &mut WalkBy<S, L, P>,
+    ) -> bool {
+        add_in_turn(walk, &mut self.found)
+    }
+}
+
+/// A visit that takes the first answers.
+#[derive(Drop)]
+pub struct First {
+    /// The greatest number of answers.
+    pub count: usize,
+    /// The answers.
+    pub found: Vec<Answer>,
+}
+
+impl<S: FileSystem> Visit<S, NoProcess> for First {
     fn visit<L: Readers<((), ()), Arc<S>, NoProcess, Global>>(
-        &self,
+        &mut self,
         walk: &mut WalkBy<S, L>,
-    ) -> bool;
+    ) -> bool {
+        walk.fill(self.count, &mut self.found).is_ok()
+    }
 }
 
 /// A walk to make: its file system, its root and its options.
@@ -55,10 +103,9 @@ impl<'a, S: FileSystem + Send + Sync + 'static> ByCrew<'a, S> {
         &self,
         alloc: Global,
         pool: Arc<Crew<R>>,
-        visit: &impl Visit<S>,
+        visit: &mut impl Visit<S, NoProcess>,
     ) -> Result<bool, AllocError> {
-        let mut walk = self.builder(alloc, pool)?.into_iter();
-        Ok(visit.visit(&mut walk))
+        Ok(lend(self.builder(alloc, pool)?, visit))
     }
 
     /// Returns all that the walk yields. A crew of its own reads for it, with the given number of workers.
@@ -73,7 +120,14 @@ impl<'a, S: FileSystem + Send + Sync + 'static> ByCrew<'a, S> {
         let alloc = rt.alloc();
         let pool = Arc::new(alloc, Crew::new(rt.clone()?, 1, workers))?;
         let walk = self.builder(alloc, pool)?.process_read_dir(process);
-        all_of(alloc, walk.into_iter())
+        let mut all = All {
+            found: Vec::new(alloc),
+        };
+        if lend(walk, &mut all) {
+            Ok(all.found)
+        } else {
+            Err(AllocError)
+        }
     }
 
     /// Returns whether the walk yields these lines when a crew of the given number of workers reads for it.

@@ -4,6 +4,8 @@
 #[cfg(test)]
 mod by_crew;
 #[cfg(test)]
+mod gated;
+#[cfg(test)]
 mod refused;
 #[cfg(test)]
 mod rows;

@@ -1,5 +1,5 @@
 //! The steps of a board.
-use crate::refused::memory::{Memory, Play, Player, all_are_right};
+use crate::refused::memory::{Memory, Play, Player, all_are_right, is};
 use jwalk_board::board::{Board, FinishFault, FinishRefusal, HandOutRefusal, TakeRefusal};
 use jwalk_order::index_path::IndexPath;
 use jwalk_order::ordered::Ordered;
@@ -76,7 +76,7 @@ enum Step {
 }
 
 fn is_at(item: &Item<'_>, indices: &[usize]) -> bool {
-    item.index_path.indices.as_slice() == indices
+    is(&item.index_path, indices)
 }
 
 fn finishes<'m>(

@@ -7,6 +7,11 @@ use test_fixtures::refusing_alloc::Refusing;
 /// An allocator that refuses requests, lent.
 pub type Memory<'m> = &'m Refusing<Global>;
 
+/// Returns whether an address has these indices.
+pub fn is(address: &IndexPath<Memory<'_>>, indices: &[usize]) -> bool {
+    address.indices.as_slice() == indices
+}
+
 /// The player of steps.
 #[derive(Drop)]
 pub struct Player<'m> {

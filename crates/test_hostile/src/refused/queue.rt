@@ -1,5 +1,5 @@
 //! The steps of a queue by address and of its matcher.
-use crate::refused::memory::{Memory, Play, Player, all_are_right};
+use crate::refused::memory::{Memory, Play, Player, all_are_right, is};
 use jwalk_order::ordered::Ordered;
 use jwalk_order::ordered_queue::{OrderedMatcher, OrderedQueue, Ordering, Step};
 
@@ -35,7 +35,7 @@ fn gives(player: &Player<'_>, queue: &mut Queue<'_>, wanted: Option<&[usize]>) -
         },
     };
     match step {
-        Step::Item(item) => wanted == Some(item.index_path.indices.as_slice()),
+        Step::Item(item) => matches!(wanted, Some(indices) if is(&item.index_path, indices)),
         Step::Empty => wanted.is_none(),
         Step::Done => false,
     }

@@ -1,5 +1,5 @@
 //! A rehearsal of a small family.
-use crate::refused::memory::{Memory, Play, Player, all_are_right};
+use crate::refused::memory::{Memory, Play, Player, all_are_right, is};
 use jwalk_board::board::{Rehearsal, rehearse};
 use test_fixtures::family::{Family, MOVES};
 
@@ -16,7 +16,7 @@ const HANDED_OUT: &[(&[usize], u8, usize)] = &[
 
 fn are_taken(made: &Rehearsal<u8, u8, Memory<'_>>) -> bool {
     for (path, indices) in made.taken.iter().zip(TAKEN) {
-        if path.indices.as_slice() != *indices {
+        if !is(path, indices) {
             return false;
         }
     }
@@ -25,7 +25,7 @@ fn are_taken(made: &Rehearsal<u8, u8, Memory<'_>>) -> bool {
 
 fn are_handed_out(made: &Rehearsal<u8, u8, Memory<'_>>) -> bool {
     for (item, (indices, value, children)) in made.handed_out.iter().zip(HANDED_OUT) {
-        let is_there = item.index_path.indices.as_slice() == *indices;
+        let is_there = is(&item.index_path, indices);
         if !is_there || item.value != *value || item.child_count() != *children {
             return false;
         }

@@ -1,8 +1,7 @@
 //! A tree for whose listings no descriptor is left for a while, or for good.
-ghost use Rattle.jwalk.specs.jwalk_model.Tree.{functions_of, only_root};
-
-use jwalk::file_system::{Fault, FileSystem, Listed, MemoryFs, Metadata, Patient};
-use std::alloc::{AllocError, Allocator, Global};
+use crate::gated::{Gate, Gated};
+use jwalk::file_system::{Fault, FileSystem, Patient};
+use std::alloc::{AllocError, Global};
 use std::io;
 use std::io::ErrorKind;
 use std::sync::atomic::{AtomicU64, AtomicUsize, Ordering};
@@ -41,25 +40,15 @@ impl Clock for Slept {
     }
 }
 
-/// A tree whose listings fail with an error of the system's number until a number of them were asked for.
+/// A gate that no listing passes, with an error of the system's number, until a number of them were asked for.
 #[derive(Drop)]
-struct Failing {
-    fs: MemoryFs,
+struct Shut {
     number: i32,
     until: AtomicUsize,
     lists: AtomicUsize,
 }
 
-impl Failing {
-    fn new(alloc: Global, number: i32) -> Option<Self> {
-        Some(Failing {
-            fs: tree(alloc, SMALL).ok()?,
-            number,
-            until: AtomicUsize::new(0),
-            lists: AtomicUsize::new(0),
-        })
-    }
-
+impl Shut {
     fn lists(&self) -> usize {
         self.lists.load(Ordering::SeqCst)
     }
@@ -71,34 +60,33 @@ impl Failing {
     }
 }
 
-impl FileSystem for Failing {
-    ghost IsFixed = { λ _. ⊥ };
-
-    ghost functions = { λ _. functions_of only_root };
-
-    fn read_dir<A: Allocator + Copy>(
-        &self,
-        alloc: A,
-        path: &str,
-    ) -> Result<Vec<io::Result<Listed<A>>, A>, Fault> {
+impl Gate for Shut {
+    fn before_list(&self, _path: &str) -> Result<(), Fault> {
         let before = self.lists.fetch_add(1, Ordering::SeqCst);
         if before < self.until.load(Ordering::SeqCst) {
             return Err(Fault::Io(io::Error::from_raw_os_error(self.number)));
         }
-        self.fs.read_dir(alloc, path)
+        Ok(())
     }
 
-    fn metadata(&self, path: &str) -> Result<Metadata, Fault> {
-        self.fs.metadata(path)
+    fn before_look(&self) -> Result<(), Fault> {
+        Ok(())
     }
+}
 
-    fn symlink_metadata(&self, path: &str) -> Result<Metadata, Fault> {
-        self.fs.symlink_metadata(path)
-    }
+/// The tree behind such a gate.
+type Failing = Gated<Shut>;
 
-    fn read_link<A: Allocator + Copy>(&self, alloc: A, path: &str) -> Result<String<A>, Fault> {
-        self.fs.read_link(alloc, path)
-    }
+/// Returns a tree whose listings fail with an error of this number, once they are told to.
+fn failing_with(alloc: Global, number: i32) -> Option<Failing> {
+    Some(Gated {
+        fs: tree(alloc, SMALL).ok()?,
+        gate: Shut {
+            number,
+            until: AtomicUsize::new(0),
+            lists: AtomicUsize::new(0),
+        },
+    })
 }
 
 /// The process has as many descriptors as it may have.
@@ -119,8 +107,8 @@ fn shows_all<S: FileSystem>(alloc: Global, fs: S) -> Result<bool, AllocError> {
 /// The first five listings fail with this number. The walk must sleep meanwhile.
 fn is_whole(alloc: Global, number: i32) -> Option<bool> {
     let slept = Slept::not_yet();
-    let failing = Failing::new(alloc, number)?;
-    failing.fail(5);
+    let failing = failing_with(alloc, number)?;
+    failing.gate.fail(5);
     let is_shown = shows_all(alloc, Patient::new(&failing, &slept)) == Ok(true);
     Some(is_shown && slept.micros() > 0)
 }
@@ -133,25 +121,25 @@ fn no_descriptor_for_a_while(rt: HostRuntime) {
 
 /// Returns also how often the listing was tried.
 fn tries(alloc: Global, fs: &impl FileSystem, failing: &Failing) -> (bool, usize) {
-    let before = failing.lists();
+    let before = failing.gate.lists();
     let is_listed = fs.read_dir(alloc, "/r").is_ok();
-    (is_listed, failing.lists().wrapping_sub(before))
+    (is_listed, failing.gate.lists().wrapping_sub(before))
 }
 
 /// Returns whether one directory is tried for at most 100 milliseconds, the next ones once each, and more often again
 /// after one was listed.
 fn is_tried_once(alloc: Global, number: i32) -> Option<bool> {
     let slept = Slept::not_yet();
-    let failing = Failing::new(alloc, number)?;
+    let failing = failing_with(alloc, number)?;
     let fs = Patient::new(&failing, &slept);
-    failing.fail(1_000_000);
+    failing.gate.fail(1_000_000);
     let (is_listed, often) = tries(alloc, &fs, &failing);
     let micros = slept.micros();
     let is_over_soon = !is_listed && often > 1 && micros <= 100_000;
     let is_once = tries(alloc, &fs, &failing) == (false, 1) && slept.micros() == micros;
-    failing.fail(0);
+    failing.gate.fail(0);
     let is_listed_again = tries(alloc, &fs, &failing) == (true, 1);
-    failing.fail(2);
+    failing.gate.fail(2);
     let is_tried_again = tries(alloc, &fs, &failing) == (true, 3);
     Some(is_over_soon && is_once && is_listed_again && is_tried_again)
 }
@@ -164,8 +152,8 @@ fn no_descriptor_for_good(rt: HostRuntime) {
 
 fn is_not_tried_again(alloc: Global, number: i32) -> Option<bool> {
     let slept = Slept::not_yet();
-    let failing = Failing::new(alloc, number)?;
-    failing.fail(1);
+    let failing = failing_with(alloc, number)?;
+    failing.gate.fail(1);
     let fs = Patient::new(&failing, &slept);
     Some(tries(alloc, &fs, &failing) == (false, 1) && slept.micros() == 0)
 }

@@ -1,7 +1,7 @@
 //! Directories without end: each has one directory.
 ghost use Rattle.jwalk.specs.jwalk_model.Tree.{functions_of, only_root};
 
-use crate::by_crew::ByCrew;
+use crate::by_crew::{ByCrew, First};
 use jwalk::Crew;
 use jwalk::file_system::{Fault, FileSystem, FileType, Listed, Metadata};
 use jwalk::read_dir::NoProcess;
@@ -136,10 +136,15 @@ fn first_of_crew<R: Host>(
 ) -> Result<Vec<Answer>, AllocError> {
     let alloc = rt.alloc();
     let pool = Arc::new(alloc, Crew::new(rt.clone()?, 1, 2))?;
-    let mut walk = asked.builder(alloc, pool)?.into_iter();
-    let mut found = Vec::new(alloc);
-    walk.fill(count, &mut found)?;
-    Ok(found)
+    let mut first = First {
+        count,
+        found: Vec::new(alloc),
+    };
+    if asked.lend(alloc, pool, &mut first)? {
+        Ok(first.found)
+    } else {
+        Err(AllocError)
+    }
 }
 
 fn gives_a_hundred_and_rests<R: Host>(rt: &R) -> Result<bool, AllocError> {

@@ -1,8 +1,7 @@
 //! A tree where the call of one number fails.
-ghost use Rattle.jwalk.specs.jwalk_model.Tree.{functions_of, only_root};
-
-use jwalk::file_system::{Fault, FileSystem, Listed, MemoryFs, Metadata};
-use std::alloc::{Allocator, Global};
+use crate::gated::{Gate, Gated};
+use jwalk::file_system::{Fault, FileSystem};
+use std::alloc::Global;
 use std::io;
 use std::io::ErrorKind;
 use std::sync::atomic::{AtomicUsize, Ordering};
@@ -11,9 +10,9 @@ use test_fixtures::texts::texts;
 use test_fixtures::trees::{SMALL, Step, tree};
 use walk_run::run::run;
 
+/// A gate that the call of one number can't pass.
 #[derive(Drop)]
 struct FailsOnce {
-    fs: MemoryFs,
     calls: AtomicUsize,
     failing: usize,
 }
@@ -30,33 +29,13 @@ impl FailsOnce {
     }
 }
 
-impl FileSystem for FailsOnce {
-    ghost IsFixed = { λ _. ⊥ };
-
-    ghost functions = { λ _. functions_of only_root };
-
-    fn read_dir<A: Allocator + Copy>(
-        &self,
-        alloc: A,
-        path: &str,
-    ) -> Result<Vec<io::Result<Listed<A>>, A>, Fault> {
-        self.call()?;
-        self.fs.read_dir(alloc, path)
+impl Gate for FailsOnce {
+    fn before_list(&self, _path: &str) -> Result<(), Fault> {
+        self.call()
     }
 
-    fn metadata(&self, path: &str) -> Result<Metadata, Fault> {
-        self.call()?;
-        self.fs.metadata(path)
-    }
-
-    fn symlink_metadata(&self, path: &str) -> Result<Metadata, Fault> {
-        self.call()?;
-        self.fs.symlink_metadata(path)
-    }
-
-    fn read_link<A: Allocator + Copy>(&self, alloc: A, path: &str) -> Result<String<A>, Fault> {
-        self.call()?;
-        self.fs.read_link(alloc, path)
+    fn before_look(&self) -> Result<(), Fault> {
+        self.call()
     }
 }
 
@@ -75,11 +54,13 @@ type Rows = (
     &'static [(usize, &'static str, u8)],
 );
 
-fn failing(alloc: Global, steps: &[Step], number: usize) -> Option<FailsOnce> {
-    Some(FailsOnce {
+fn failing(alloc: Global, steps: &[Step], number: usize) -> Option<Gated<FailsOnce>> {
+    Some(Gated {
         fs: tree(alloc, steps).ok()?,
-        calls: AtomicUsize::new(0),
-        failing: number,
+        gate: FailsOnce {
+            calls: AtomicUsize::new(0),
+            failing: number,
+        },
     })
 }
 

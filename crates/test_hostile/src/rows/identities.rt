@@ -1,14 +1,15 @@
 //! Links that are followed on disks that tell directories apart by numbers, or that don't.
 use crate::rows::numbered::Told::{Gone, Nothing, Numbers};
-use crate::rows::numbered::{At, Row, holds};
+use crate::rows::numbered::{At, Row, first_wrong};
 use test_fixtures::ways::Setting;
 
 /// A loop that isn't found ends at the greatest depth.
 const FOLLOW: &[Setting] = &[Setting::Follow, Setting::Max(6)];
 
-#[test]
-fn links_in_two_directories_to_one_another_are_loops(rt: HostRuntime) {
-    const ROW: Row = Row {
+/// Links, on disks whose directories have numbers or none.
+const ROWS: &[Row] = &[
+    Row {
+        name: "links in two directories to one another are loops",
         places: &[
             At::Dir("/r", Numbers(1, 1)),
             At::Dir("/r/a", Numbers(1, 2)),
@@ -24,13 +25,9 @@ fn links_in_two_directories_to_one_another_are_loops(rt: HostRuntime) {
                   1 d /r/b; 2 D /r/b/m; ! 3 /r/b/m/l loop /r/b",
         // Four links, two with two directories above them and two with three.
         asked: 14,
-    };
-    assert!(rt; holds(&rt, &ROW));
-}
-
-#[test]
-fn a_directory_above_that_is_gone_is_told_by_text(rt: HostRuntime) {
-    const ROW: Row = Row {
+    },
+    Row {
+        name: "a directory above that is gone is told by text",
         places: &[
             At::Dir("/r", Numbers(1, 1)),
             At::Dir("/r/a", Gone),
@@ -43,13 +40,9 @@ fn a_directory_above_that_is_gone_is_told_by_text(rt: HostRuntime) {
         settings: FOLLOW,
         answers: "0 d /r; 1 d /r/a; ! 2 /r/a/k loop /r/a; 2 D /r/a/l; ! 2 /r/a/m loop /r; 2 D /r/a/n",
         asked: 6,
-    };
-    assert!(rt; holds(&rt, &ROW));
-}
-
-#[test]
-fn two_numbers_of_zero_say_nothing(rt: HostRuntime) {
-    const ROW: Row = Row {
+    },
+    Row {
+        name: "two numbers of zero say nothing",
         places: &[
             At::Dir("/r", Numbers(0, 0)),
             At::Link("/r/l", "/s", Numbers(0, 0)),
@@ -60,13 +53,9 @@ fn two_numbers_of_zero_say_nothing(rt: HostRuntime) {
         answers: "0 d /r; 1 D /r/l; ! 1 /r/m loop /r",
         // Each link, and the directory above for the one whose numbers say something.
         asked: 3,
-    };
-    assert!(rt; holds(&rt, &ROW));
-}
-
-#[test]
-fn an_inode_of_zero_tells_a_loop_on_its_device_alone(rt: HostRuntime) {
-    const ROW: Row = Row {
+    },
+    Row {
+        name: "an inode of zero tells a loop on its device alone",
         places: &[
             At::Dir("/r", Numbers(5, 0)),
             At::Link("/r/l", "/s", Numbers(5, 0)),
@@ -76,13 +65,9 @@ fn an_inode_of_zero_tells_a_loop_on_its_device_alone(rt: HostRuntime) {
         settings: FOLLOW,
         answers: "0 d /r; ! 1 /r/l loop /r; 1 D /r/m",
         asked: 3,
-    };
-    assert!(rt; holds(&rt, &ROW));
-}
-
-#[test]
-fn a_root_without_numbers_is_told_by_text(rt: HostRuntime) {
-    const ROW: Row = Row {
+    },
+    Row {
+        name: "a root without numbers is told by text",
         places: &[
             At::Dir("/r", Nothing),
             At::Link("/r/l", "/s", Numbers(1, 2)),
@@ -92,13 +77,9 @@ fn a_root_without_numbers_is_told_by_text(rt: HostRuntime) {
         settings: FOLLOW,
         answers: "0 d /r; 1 D /r/l; ! 1 /r/m loop /r",
         asked: 3,
-    };
-    assert!(rt; holds(&rt, &ROW));
-}
-
-#[test]
-fn links_to_directories_without_numbers_ask_for_none_above(rt: HostRuntime) {
-    const ROW: Row = Row {
+    },
+    Row {
+        name: "links to directories without numbers ask for none above",
         places: &[
             At::Dir("/r", Numbers(1, 1)),
             At::Dir("/r/a", Numbers(1, 2)),
@@ -110,13 +91,9 @@ fn links_to_directories_without_numbers_ask_for_none_above(rt: HostRuntime) {
         settings: FOLLOW,
         answers: "0 d /r; 1 d /r/a; 2 D /r/a/k; ! 2 /r/a/l loop /r; ! 2 /r/a/m loop /r/a",
         asked: 3,
-    };
-    assert!(rt; holds(&rt, &ROW));
-}
-
-#[test]
-fn a_link_to_a_file_asks_for_none_above(rt: HostRuntime) {
-    const ROW: Row = Row {
+    },
+    Row {
+        name: "a link to a file asks for none above",
         places: &[
             At::Dir("/r", Numbers(1, 1)),
             At::FileLink("/r/l", "/f", Numbers(1, 1)),
@@ -125,13 +102,9 @@ fn a_link_to_a_file_asks_for_none_above(rt: HostRuntime) {
         settings: FOLLOW,
         answers: "0 d /r; 1 F /r/l",
         asked: 1,
-    };
-    assert!(rt; holds(&rt, &ROW));
-}
-
-#[test]
-fn directories_above_are_asked_for_once_for_four_links(rt: HostRuntime) {
-    const ROW: Row = Row {
+    },
+    Row {
+        name: "directories above are asked for once for four links",
         places: &[
             At::Dir("/r", Numbers(1, 1)),
             At::Dir("/r/a", Numbers(1, 2)),
@@ -144,13 +117,9 @@ fn directories_above_are_asked_for_once_for_four_links(rt: HostRuntime) {
         settings: FOLLOW,
         answers: "0 d /r; 1 d /r/a; 2 D /r/a/k; 2 D /r/a/l; 2 D /r/a/m; ! 2 /r/a/n loop /r",
         asked: 6,
-    };
-    assert!(rt; holds(&rt, &ROW));
-}
-
-#[test]
-fn a_link_whose_text_alone_leads_above_is_followed(rt: HostRuntime) {
-    const ROW: Row = Row {
+    },
+    Row {
+        name: "a link whose text alone leads above is followed",
         places: &[
             At::Dir("/r", Numbers(1, 1)),
             At::Link("/r/k", "/s/t", Numbers(1, 3)),
@@ -163,6 +132,10 @@ fn a_link_whose_text_alone_leads_above_is_followed(rt: HostRuntime) {
         answers: "0 d /r; 1 D /r/k; 2 D /r/k/l; 3 d /r/k/l/t; ! 4 /r/k/l/t/l loop /r/k/l",
         // Three links, with one, two and four directories above them.
         asked: 10,
-    };
-    assert!(rt; holds(&rt, &ROW));
+    },
+];
+
+#[test]
+fn which_followed_links_are_loops(rt: HostRuntime) {
+    assert_eq!(rt; first_wrong(&rt, ROWS), None);
 }

@@ -201,6 +201,8 @@ impl FileSystem for Numbered {
 
 /// A walk over such a disk, with its answers.
 pub struct Row {
+    /// What the row shows.
+    pub name: &'static str,
     pub places: &'static [At],
     pub root: &'static str,
     pub settings: &'static [Setting],
@@ -228,11 +230,22 @@ fn holds_in<R: Host>(rt: &R, row: &Row, way: Way) -> bool {
     walk.shows(rt, NoProcess, way, row.answers) && fs.asked() == row.asked
 }
 
-/// Returns whether the walk has these answers and asks that often, read in each way and by a crew of two.
-pub fn holds<R: Host>(rt: &R, row: &Row) -> bool {
+/// Reads in each way and by a crew of two.
+fn holds<R: Host>(rt: &R, row: &Row) -> bool {
     let mut is_so = holds_by_crew(rt, row) == Ok(true);
     for way in WAYS {
         is_so &= holds_in(rt, row, *way);
     }
     is_so
+}
+
+/// Returns the name of the first row whose walk has other answers or asks more or less often, read in each way and by a
+/// crew of two.
+pub fn first_wrong<R: Host>(rt: &R, rows: &[Row]) -> Option<&'static str> {
+    for row in rows {
+        if !holds(rt, row) {
+            return Some(row.name);
+        }
+    }
+    None
 }

@@ -1,11 +1,10 @@
 //! A directory that is gone from some moment on.
-ghost use Rattle.jwalk.specs.jwalk_model.Tree.{functions_of, only_root};
-
 use crate::by_crew::{ByCrew, Visit, WalkBy};
-use jwalk::file_system::{BuildError, Fault, FileSystem, Listed, MemoryFs, Metadata};
+use crate::gated::{Gate, Gated};
+use jwalk::file_system::{BuildError, Fault, FileSystem};
 use jwalk::read_dir::NoProcess;
 use jwalk::{Crew, Readers};
-use std::alloc::{AllocError, Allocator, Global};
+use std::alloc::{AllocError, Global};
 use std::io;
 use std::io::ErrorKind;
 use std::sync::Arc;
@@ -17,53 +16,42 @@ use test_fixtures::trees::{GROUPED, tree};
 use test_fixtures::ways::Setting;
 use test_fixtures::width::Width;
 
-/// The tree of groups, whose second group may be gone.
+/// A gate that the second group can't pass once it is gone.
 #[derive(Drop)]
-struct Vanishing {
-    fs: MemoryFs,
+struct MayVanish {
     is_gone: AtomicBool,
 }
 
-impl Vanishing {
-    fn new(alloc: Global) -> Result<Self, BuildError> {
-        Ok(Vanishing {
-            fs: tree(alloc, GROUPED)?,
-            is_gone: AtomicBool::new(false),
-        })
-    }
-
+impl MayVanish {
     fn vanish(&self) {
         self.is_gone.store(true, Ordering::SeqCst);
     }
 }
 
-impl FileSystem for Vanishing {
-    ghost IsFixed = { λ _. ⊥ };
-
-    ghost functions = { λ _. functions_of only_root };
-
-    fn read_dir<A: Allocator + Copy>(
-        &self,
-        alloc: A,
-        path: &str,
-    ) -> Result<Vec<io::Result<Listed<A>>, A>, Fault> {
+impl Gate for MayVanish {
+    fn before_list(&self, path: &str) -> Result<(), Fault> {
         if path == "/t/group 2" && self.is_gone.load(Ordering::SeqCst) {
             return Err(Fault::Io(io::Error::from(ErrorKind::NotFound)));
         }
-        self.fs.read_dir(alloc, path)
+        Ok(())
     }
 
-    fn metadata(&self, path: &str) -> Result<Metadata, Fault> {
-        self.fs.metadata(path)
+    fn before_look(&self) -> Result<(), Fault> {
+        Ok(())
     }
+}
 
-    fn symlink_metadata(&self, path: &str) -> Result<Metadata, Fault> {
-        self.fs.symlink_metadata(path)
-    }
+/// The tree of groups behind such a gate.
+type Vanishing = Gated<MayVanish>;
 
-    fn read_link<A: Allocator + Copy>(&self, alloc: A, path: &str) -> Result<String<A>, Fault> {
-        self.fs.read_link(alloc, path)
-    }
+fn groups(alloc: Global) -> Result<Arc<Vanishing>, BuildError> {
+    let groups = Gated {
+        fs: tree(alloc, GROUPED)?,
+        gate: MayVanish {
+            is_gone: AtomicBool::new(false),
+        },
+    };
+    Ok(Arc::new(alloc, groups).map_err(AllocError::from)?)
 }
 
 const WHOLE: &str = "0 d /t; 1 f /t/a.txt; 1 f /t/b.txt; 1 f /t/c.txt; 1 d /t/group 1; \
@@ -90,15 +78,15 @@ impl Vanishes<'_> {
     ) -> Result<Vec<Answer>, AllocError> {
         let mut found = Vec::new(self.alloc);
         walk.fill(self.count, &mut found)?;
-        self.fs.vanish();
+        self.fs.gate.vanish();
         walk.fill(usize::MAX, &mut found)?;
         Ok(found)
     }
 }
 
-impl<S: FileSystem> Visit<S> for Vanishes<'_> {
+impl<S: FileSystem> Visit<S, NoProcess> for Vanishes<'_> {
     fn visit<L: Readers<((), ()), Arc<S>, NoProcess, Global>>(
-        &self,
+        &mut self,
         walk: &mut WalkBy<S, L>,
     ) -> bool {
         let Ok(found) = self.found(walk) else {
@@ -113,9 +101,9 @@ impl<S: FileSystem> Visit<S> for Vanishes<'_> {
 }
 
 fn shows(alloc: Global, width: Width, count: usize, wanted: &str) -> Result<bool, BuildError> {
-    let fs = Arc::new(alloc, Vanishing::new(alloc)?).map_err(AllocError::from)?;
+    let fs = groups(alloc)?;
     let walk = builder(alloc, fs.clone()?, "/t")?.sort(true);
-    let vanishes = Vanishes {
+    let mut vanishes = Vanishes {
         alloc,
         fs: &*fs,
         count,
@@ -145,13 +133,13 @@ fn a_group_that_is_gone_before_or_after_it_was_read(rt: HostRuntime) {
 /// A crew of two may have read the group ahead. Nothing else may differ.
 fn is_gone_or_not<R: Host>(rt: &R, count: usize) -> Result<bool, BuildError> {
     let alloc = rt.alloc();
-    let fs = Arc::new(alloc, Vanishing::new(alloc)?).map_err(AllocError::from)?;
+    let fs = groups(alloc)?;
     let asked = ByCrew {
         fs,
         root: "/t",
         settings: &[Setting::Sort],
     };
-    let vanishes = Vanishes {
+    let mut vanishes = Vanishes {
         alloc,
         fs: &*asked.fs,
         count,
@@ -159,7 +147,7 @@ fn is_gone_or_not<R: Host>(rt: &R, count: usize) -> Result<bool, BuildError> {
     };
     let crew = Crew::new(rt.clone()?, 1, 2);
     let pool = Arc::new(alloc, crew).map_err(AllocError::from)?;
-    Ok(asked.lend(alloc, pool, &vanishes)?)
+    Ok(asked.lend(alloc, pool, &mut vanishes)?)
 }
 
 #[test]

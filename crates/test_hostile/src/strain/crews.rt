@@ -1,5 +1,5 @@
 //! A thousand walks on one crew, and two crews at once.
-use crate::by_crew::{ByCrew, Visit, WalkBy};
+use crate::by_crew::{ByCrew, CrewWalk, Visit, WalkBy};
 use jwalk::file_system::{FileSystem, MemoryFs, RealFs};
 use jwalk::read_dir::NoProcess;
 use jwalk::{Crew, Readers};
@@ -31,9 +31,9 @@ fn threads<R: Files + Drop>(alloc: Global, disk: &RealFs<R>) -> Option<usize> {
 #[derive(Drop)]
 struct Takes(usize);
 
-impl<S: FileSystem> Visit<S> for Takes {
+impl<S: FileSystem> Visit<S, NoProcess> for Takes {
     fn visit<L: Readers<((), ()), Arc<S>, NoProcess, Global>>(
-        &self,
+        &mut self,
         walk: &mut WalkBy<S, L>,
     ) -> bool {
         for _ in 0..self.0 {
@@ -50,8 +50,8 @@ fn begin_and_drop<R: Host>(rt: &R, walks: usize) -> Option<bool> {
     let asked = forked(rt.alloc())?;
     let pool = Arc::new(rt.alloc(), Crew::new(rt.clone().ok()?, 1, 2)).ok()?;
     for number in 0..walks {
-        let takes = Takes(number % 8);
-        if !asked.lend(rt.alloc(), pool.clone().ok()?, &takes).ok()? {
+        let mut takes = Takes(number % 8);
+        if !asked.lend(rt.alloc(), pool.clone().ok()?, &mut takes).ok()? {
             return Some(false);
         }
     }
@@ -81,26 +81,57 @@ fn a_thousand_walks_on_one_crew_leave_no_thread(rt: HostRuntime) {
     assert!(rt; leave_no_thread(&rt) == Some(true));
 }
 
+/// Takes the answers of two walks in turn. Returns whether there was memory for them.
+fn take_in_turn<
+    S: FileSystem,
+    L: Readers<((), ()), Arc<S>, NoProcess, Global>,
+    M: Readers<((), ()), Arc<S>, NoProcess, Global>,
+>(
+    first: &mut WalkBy<S, L>,
+    second: &mut WalkBy<S, M>,
+    found: &mut (Vec<Answer>, Vec<Answer>),
+) -> bool {
+    for _ in 0..8 {
+        let are_taken = first.fill(1, &mut found.0).is_ok();
+        if !are_taken || second.fill(1, &mut found.1).is_err() {
+            return false;
+        }
+    }
+    true
+}
+
+/// Takes the answers of a walk under way and of a second one in turn.
+fn beside<R: Host, L: Readers<((), ()), Arc<MemoryFs>, NoProcess, Global>>(
+    first: &mut WalkBy<MemoryFs, L>,
+    second: CrewWalk<R, MemoryFs>,
+    found: &mut (Vec<Answer>, Vec<Answer>),
+) -> bool {
+    let mut second = second.into_iter();
+    take_in_turn(first, &mut second, found)
+}
+
 /// Takes the answers of two walks in turn, each on a crew of its own.
-fn of_two<R: Host>(rt: &R) -> Option<(Vec<Answer>, Vec<Answer>)> {
+fn of_two<R: Host>(
+    first: CrewWalk<R, MemoryFs>,
+    second: CrewWalk<R, MemoryFs>,
+    found: &mut (Vec<Answer>, Vec<Answer>),
+) -> bool {
+    let mut first = first.into_iter();
+    beside(&mut first, second, found)
+}
+
+fn both_show<R: Host>(rt: &R) -> Option<bool> {
     let alloc = rt.alloc();
     let asked = forked(alloc)?;
     let one = Arc::new(alloc, Crew::new(rt.clone().ok()?, 1, 2)).ok()?;
     let other = Arc::new(alloc, Crew::new(rt.clone().ok()?, 1, 3)).ok()?;
-    let mut first = asked.builder(alloc, one).ok()?.into_iter();
-    let mut second = asked.builder(alloc, other).ok()?.into_iter();
+    let first = asked.builder(alloc, one).ok()?;
+    let second = asked.builder(alloc, other).ok()?;
     let mut found = (Vec::new(alloc), Vec::new(alloc));
-    for _ in 0..8 {
-        first.fill(1, &mut found.0).ok()?;
-        second.fill(1, &mut found.1).ok()?;
-    }
-    Some(found)
-}
-
-fn both_show<R: Host>(rt: &R) -> Option<bool> {
-    let (first, second) = of_two(rt)?;
-    let alloc = rt.alloc();
-    Some(are_lines(alloc, first.as_slice(), LINES) && are_lines(alloc, second.as_slice(), LINES))
+    let are_taken = of_two(first, second, &mut found);
+    let (first, second) = found;
+    let are_shown = are_lines(alloc, first.as_slice(), LINES);
+    Some(are_taken && are_shown && are_lines(alloc, second.as_slice(), LINES))
 }
 
 #[test]

@@ -1,21 +1,18 @@
 //! A tree whose calls take their time.
-ghost use Rattle.jwalk.specs.jwalk_model.Tree.{functions_of, only_root};
-
 use crate::by_crew::ByCrew;
-use jwalk::file_system::{Fault, FileSystem, Listed, MemoryFs, Metadata};
-use std::alloc::Allocator;
+use crate::gated::{Gate, Gated};
+use jwalk::file_system::Fault;
 use std::sync::Arc;
 use std::sync::atomic::{AtomicUsize, Ordering};
+use std::thread;
 use std::time::{Clock, Duration};
-use std::{io, thread};
 use test_fixtures::dice::Dice;
 use test_fixtures::host::Host;
 use test_fixtures::trees::{FORKED, tree};
 
-/// A tree whose calls wait first.
+/// A gate at which each call waits.
 #[derive(Drop)]
 struct Slow<R> {
-    fs: MemoryFs,
     clock: R,
     calls: AtomicUsize,
 }
@@ -35,42 +32,26 @@ impl<R: Clock> Slow<R> {
     }
 }
 
-impl<R: Clock + Drop> FileSystem for Slow<R> {
-    ghost IsFixed = { λ _. ⊥ };
-
-    ghost functions = { λ _. functions_of only_root };
-
-    fn read_dir<A: Allocator + Copy>(
-        &self,
-        alloc: A,
-        path: &str,
-    ) -> Result<Vec<io::Result<Listed<A>>, A>, Fault> {
+impl<R: Clock> Gate for Slow<R> {
+    fn before_list(&self, _path: &str) -> Result<(), Fault> {
         self.wait();
-        self.fs.read_dir(alloc, path)
+        Ok(())
     }
 
-    fn metadata(&self, path: &str) -> Result<Metadata, Fault> {
+    fn before_look(&self) -> Result<(), Fault> {
         self.wait();
-        self.fs.metadata(path)
-    }
-
-    fn symlink_metadata(&self, path: &str) -> Result<Metadata, Fault> {
-        self.wait();
-        self.fs.symlink_metadata(path)
-    }
-
-    fn read_link<A: Allocator + Copy>(&self, alloc: A, path: &str) -> Result<String<A>, Fault> {
-        self.wait();
-        self.fs.read_link(alloc, path)
+        Ok(())
     }
 }
 
 fn shows<R: Host>(rt: &R, workers: usize, wanted: &str) -> Option<bool> {
     let alloc = rt.alloc();
-    let fs = Slow {
+    let fs = Gated {
         fs: tree(alloc, FORKED).ok()?,
-        clock: rt.clone().ok()?,
-        calls: AtomicUsize::new(workers),
+        gate: Slow {
+            clock: rt.clone().ok()?,
+            calls: AtomicUsize::new(workers),
+        },
     };
     let asked = ByCrew {
         fs: Arc::new(alloc, fs).ok()?,

@@ -1,22 +1,20 @@
 //! A call of a worker that doesn't return while its walk is dropped.
-ghost use Rattle.jwalk.specs.jwalk_model.Tree.{functions_of, only_root};
-
 use crate::by_crew::{ByCrew, Visit, WalkBy};
-use jwalk::file_system::{Fault, FileSystem, Listed, MemoryFs, Metadata};
+use crate::gated::{Gate, Gated};
+use jwalk::file_system::{Fault, FileSystem};
 use jwalk::read_dir::NoProcess;
 use jwalk::{Crew, Readers};
-use std::alloc::{Allocator, Global};
+use std::alloc::Global;
 use std::sync::Arc;
 use std::sync::atomic::{AtomicBool, Ordering};
+use std::thread;
 use std::time::{Clock, Duration};
-use std::{io, thread};
 use test_fixtures::host::Host;
 use test_fixtures::trees::{FORKED, tree};
 
-/// A tree where the call for one directory blocks until it is let go.
+/// A gate at which the call for one directory blocks until it is let go.
 #[derive(Drop)]
 struct Stuck<R> {
-    fs: MemoryFs,
     clock: R,
     is_stuck: AtomicBool,
     is_let_go: AtomicBool,
@@ -33,58 +31,44 @@ fn is_set(clock: &impl Clock, flag: &AtomicBool) -> bool {
     false
 }
 
-impl<R: Clock + Drop> FileSystem for Stuck<R> {
-    ghost IsFixed = { λ _. ⊥ };
-
-    ghost functions = { λ _. functions_of only_root };
-
-    fn read_dir<A: Allocator + Copy>(
-        &self,
-        alloc: A,
-        path: &str,
-    ) -> Result<Vec<io::Result<Listed<A>>, A>, Fault> {
+impl<R: Clock> Gate for Stuck<R> {
+    fn before_list(&self, path: &str) -> Result<(), Fault> {
         if path == "/r/c" {
             self.is_stuck.store(true, Ordering::SeqCst);
             is_set(&self.clock, &self.is_let_go);
         }
-        self.fs.read_dir(alloc, path)
+        Ok(())
     }
 
-    fn metadata(&self, path: &str) -> Result<Metadata, Fault> {
-        self.fs.metadata(path)
-    }
-
-    fn symlink_metadata(&self, path: &str) -> Result<Metadata, Fault> {
-        self.fs.symlink_metadata(path)
-    }
-
-    fn read_link<A: Allocator + Copy>(&self, alloc: A, path: &str) -> Result<String<A>, Fault> {
-        self.fs.read_link(alloc, path)
+    fn before_look(&self) -> Result<(), Fault> {
+        Ok(())
     }
 }
 
 /// A visit that takes an answer, and then waits until the call that reads ahead blocks.
 #[derive(Drop)]
 struct Sticks<'a, R: Drop> {
-    disk: &'a Stuck<R>,
+    gate: &'a Stuck<R>,
 }
 
-impl<R: Clock + Drop, S: FileSystem> Visit<S> for Sticks<'_, R> {
+impl<R: Clock + Drop, S: FileSystem> Visit<S, NoProcess> for Sticks<'_, R> {
     fn visit<L: Readers<((), ()), Arc<S>, NoProcess, Global>>(
-        &self,
+        &mut self,
         walk: &mut WalkBy<S, L>,
     ) -> bool {
         let is_begun = matches!(walk.next(), Some(Ok(_)));
-        is_begun && is_set(&self.disk.clock, &self.disk.is_stuck)
+        is_begun && is_set(&self.gate.clock, &self.gate.is_stuck)
     }
 }
 
-fn stuck_tree<R: Host>(rt: &R) -> Option<Stuck<R>> {
-    Some(Stuck {
+fn stuck_tree<R: Host>(rt: &R) -> Option<Gated<Stuck<R>>> {
+    Some(Gated {
         fs: tree(rt.alloc(), FORKED).ok()?,
-        clock: rt.clone().ok()?,
-        is_stuck: AtomicBool::new(false),
-        is_let_go: AtomicBool::new(false),
+        gate: Stuck {
+            clock: rt.clone().ok()?,
+            is_stuck: AtomicBool::new(false),
+            is_let_go: AtomicBool::new(false),
+        },
     })
 }
 
@@ -97,10 +81,11 @@ fn is_dropped<R: Host>(rt: &R) -> Option<bool> {
         settings: &[],
     };
     let pool = Arc::new(alloc, Crew::new(rt.clone().ok()?, 1, 3)).ok()?;
-    let sticks = Sticks { disk: &*asked.fs };
-    let was_stuck = asked.lend(alloc, pool.clone().ok()?, &sticks).ok()?;
-    let is_free = pool.in_use() == 0 && !asked.fs.is_let_go.load(Ordering::SeqCst);
-    asked.fs.is_let_go.store(true, Ordering::SeqCst);
+    let gate = &asked.fs.gate;
+    let mut sticks = Sticks { gate };
+    let was_stuck = asked.lend(alloc, pool.clone().ok()?, &mut sticks).ok()?;
+    let is_free = pool.in_use() == 0 && !asked.fs.gate.is_let_go.load(Ordering::SeqCst);
+    asked.fs.gate.is_let_go.store(true, Ordering::SeqCst);
     Some(was_stuck && is_free)
 }
 
