@@ -312,19 +312,3 @@ where
         Err(AllocError)
     }
 }
-
-/// Returns all answers of a walk under way, in a `for` loop over it.
-pub fn all_looped<
-    C: ClientState,
-    S: FileSystem,
-    P: ProcessReadDir<C, Global>,
-    L: Readers<C, S, P, Global>,
->(alloc: Global, walk: DirEntryIter<C, S, P, Global, L>) -> Result<Vec<Answer<C>>, AllocError>
-    requires { P.IsLawful (callback (job_of walk)) }
-{
-    let mut found = Vec::new(alloc);
-    for answer in walk {
-        found.push(answer)?;
-    }
-    Ok(found)
-}

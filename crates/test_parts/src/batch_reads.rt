@@ -1,5 +1,5 @@
 //! Readings over a board, one after another and on threads.
-use crate::given::{self, Refusing, States, push_names, roots_of};
+use crate::given::{self, States, push_names, refusing, roots_of};
 use jwalk_core::batch_reads::BatchReads;
 use jwalk_fs::file_system::FileSystem;
 use jwalk_job::client_state::ClientState;
@@ -9,6 +9,7 @@ use jwalk_job::process_read_dir::NoProcess;
 use jwalk_job::read_dir::Outcome;
 use std::alloc::{AllocError, Global};
 use std::thread::Threads;
+use test_fixtures::watched::Watched;
 
 /// Three directories with one in each.
 const TWINS: [&str; 7] = ["/r", "/r/a", "/r/a/x", "/r/b", "/r/b/x", "/r/c", "/r/c/x"];
@@ -25,9 +26,8 @@ const MANY: [&str; 67] = [
 ];
 
 /// Memory runs out for the directory at this path.
-fn tree(alloc: Global, dirs: &[&str], at: &'static str) -> Option<Refusing> {
-    let fs = given::tree(alloc, dirs)?;
-    Some(Refusing { fs, at })
+fn tree(alloc: Global, dirs: &[&str], at: &'static str) -> Option<Watched> {
+    Some(refusing(given::tree(alloc, dirs)?, at))
 }
 
 /// Reads everything below the root, `width` directories together. Returns `None` for a width of 0.
@@ -112,7 +112,7 @@ where
 fn gives(
     rt: &(impl Threads + Sync),
     alloc: Global,
-    fs: &Refusing,
+    fs: &Watched,
     width: usize,
     by: By,
     wanted: &str,

@@ -1,5 +1,5 @@
 //! Boards: items that are taken, finished and handed out.
-use crate::given::{address, counts, is_at};
+use crate::given::{address, counts, is, is_at};
 use jwalk_board::board::{Board, FinishFault, FinishRefusal, HandOutRefusal, TakeRefusal};
 use std::alloc::Global;
 use std::process::Abort;
@@ -73,7 +73,7 @@ fn finishes_root(board: &mut Names, alloc: Global, child_count: usize) -> bool {
 
 fn gives_back(fault: &Fault, indices: &[usize]) -> bool {
     fault.cause == FinishRefusal::NotInHand
-        && fault.address.indices.as_slice() == indices
+        && is(&fault.address, indices)
         && fault.reading == "x"
         && fault.children.as_slice() == ["y"].as_slice()
 }

@@ -1,39 +1,31 @@
 //! The data of the tests: addresses, items at them, rehearsals, trees in memory and readings. No function promises
 //! anything.
-ghost use Rattle.jwalk_model.specs.Tree.{functions_of, only_root};
 ghost use Rattle.jwalk_job.specs.Job.{callback};
 
 use jwalk_board::board::{Board, Move, Plan, Refused, Rehearsal, rehearse};
-use jwalk_fs::fault::Fault;
 use jwalk_fs::file_system::FileSystem;
-use jwalk_fs::listed::Listed;
 use jwalk_job::client_state::ClientState;
 use jwalk_job::job::Job;
 use jwalk_job::process_read_dir::ProcessReadDir;
 use jwalk_job::read_dir::ReadDir;
 use jwalk_job::read_dir_spec::ReadDirSpec;
 use jwalk_memory_fs::memory_fs::MemoryFs;
-use jwalk_model::metadata::Metadata;
 use jwalk_order::index_path::IndexPath;
 use jwalk_order::ordered::Ordered;
-use std::alloc::{Allocator, Global};
-use std::io;
+use std::alloc::Global;
+use test_fixtures::watched::{Failing, Watched};
 
 pub(crate) fn address(alloc: Global, indices: &[usize]) -> Option<IndexPath> {
     Some(IndexPath::new(Vec::from_slice(alloc, indices).ok()?))
 }
 
-pub(crate) fn is_at<T>(item: &Ordered<T>, indices: &[usize], child_count: usize) -> bool {
-    item.index_path.indices.as_slice() == indices && item.child_count() == child_count
+/// Returns whether an address has these indices.
+pub(crate) fn is(address: &IndexPath, indices: &[usize]) -> bool {
+    address.indices.as_slice() == indices
 }
 
-pub(crate) fn are_at<T>(items: &[Ordered<T>], wanted: &[(&[usize], usize)]) -> bool {
-    for (item, (indices, child_count)) in items.iter().zip(wanted) {
-        if !is_at(item, indices, *child_count) {
-            return false;
-        }
-    }
-    items.len() == wanted.len()
+pub(crate) fn is_at<T>(item: &Ordered<T>, indices: &[usize], child_count: usize) -> bool {
+    is(&item.index_path, indices) && item.child_count() == child_count
 }
 
 /// Counts the queued, in hand, ready and pending.
@@ -67,41 +59,9 @@ pub(crate) fn tree(alloc: Global, dirs: &[&str]) -> Option<MemoryFs> {
     Some(fs)
 }
 
-/// A tree in memory. Memory runs out when the directory at a path is listed.
-#[derive(Drop)]
-pub(crate) struct Refusing {
-    pub(crate) fs: MemoryFs,
-    pub(crate) at: &'static str,
-}
-
-impl FileSystem for Refusing {
-    ghost IsFixed = { λ _. ⊥ };
-
-    ghost functions = { λ _. functions_of only_root };
-
-    fn read_dir<A: Allocator + Copy>(
-        &self,
-        alloc: A,
-        path: &str,
-    ) -> Result<Vec<io::Result<Listed<A>>, A>, Fault> {
-        if path == self.at {
-            Err(Fault::Memory)
-        } else {
-            self.fs.read_dir(alloc, path)
-        }
-    }
-
-    fn metadata(&self, path: &str) -> Result<Metadata, Fault> {
-        self.fs.metadata(path)
-    }
-
-    fn symlink_metadata(&self, path: &str) -> Result<Metadata, Fault> {
-        self.fs.symlink_metadata(path)
-    }
-
-    fn read_link<A: Allocator + Copy>(&self, alloc: A, path: &str) -> Result<String<A>, Fault> {
-        self.fs.read_link(alloc, path)
-    }
+/// Returns a tree in memory. Memory runs out when the directory at the path is listed.
+pub(crate) fn refusing(fs: MemoryFs, at: &'static str) -> Watched {
+    Watched::new(fs, Failing::ListForMemory(at))
 }
 
 pub(crate) type States = ((), ());

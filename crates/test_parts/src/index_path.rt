@@ -1,12 +1,8 @@
 //! Addresses in a heap, in a set and side by side.
-use crate::given::address;
+use crate::given::{address, is};
 use jwalk_order::index_path::IndexPath;
 use std::alloc::Global;
 use std::collections::BinaryHeap;
-
-fn is(address: &IndexPath, indices: &[usize]) -> bool {
-    address.indices.as_slice() == indices
-}
 
 fn gives(heap: &mut BinaryHeap<IndexPath>, indices: &[usize]) -> bool {
     match heap.pop() {

@@ -1,5 +1,5 @@
 //! The parts that a walk is built on, by worked examples: path texts, the slot, file systems, the tree in memory, the
-//! texts of the program, the order and the board, readings over a board, and the messages of a crew.
+//! texts of the program, the order and the board, and readings over a board and by a crew.
 #![tactic(auto)]
 
 #[cfg(test)]
@@ -9,7 +9,7 @@ mod board;
 #[cfg(test)]
 mod board_walk;
 #[cfg(test)]
-mod crew;
+mod child_addresses;
 #[cfg(test)]
 mod crew_walk;
 #[cfg(test)]
@@ -18,8 +18,6 @@ mod file_system;
 mod given;
 #[cfg(test)]
 mod index_path;
-#[cfg(test)]
-mod job_rehearsal;
 #[cfg(test)]
 mod levels;
 #[cfg(test)]

@@ -1,5 +1,5 @@
 //! Queues by address.
-use crate::given::address;
+use crate::given::{address, is};
 use jwalk_order::ordered::Ordered;
 use jwalk_order::ordered_queue::{OrderedQueue, Ordering, Step};
 use std::alloc::Global;
@@ -56,7 +56,7 @@ fn lets_in(
 fn gives(queue: &mut OrderedQueue<()>, wanted: Next<'_>) -> bool {
     match queue.iter().step() {
         Ok(Step::Item(item)) => {
-            matches!(wanted, Next::Item(indices) if item.index_path.indices.as_slice() == indices)
+            matches!(wanted, Next::Item(indices) if is(&item.index_path, indices))
         }
         Ok(Step::Empty) => matches!(wanted, Next::Nothing),
         Ok(Step::Done) => matches!(wanted, Next::End),

@@ -1,57 +1,7 @@
-//! Path texts: their names and parents, the same paths and places, and their joins.
-use jwalk_fs::path_text::{file_name, join, join_parts, parent, same_path, same_place};
+//! Path texts that name the same place, and the parts of joined ones. Names, parents, same paths and joins are proved
+//! to be those of the definitions, whose rows are in `PathRows.antt` of `jwalk_model`.
+use jwalk_fs::path_text::{join_parts, same_place};
 use std::alloc::Global;
-
-// A path, its name and its parent.
-const NAMES: &[(&str, Option<&str>, Option<&str>)] = &[
-    ("", None, None),
-    ("/", None, None),
-    ("/.", None, None),
-    (".", None, Some("")),
-    ("..", None, Some("")),
-    ("../..", None, Some("..")),
-    ("a", Some("a"), Some("")),
-    ("a/.", Some("a"), Some("")),
-    ("/a", Some("a"), Some("/")),
-    ("//a", Some("a"), Some("/")),
-    ("//x/y", Some("y"), Some("//x")),
-    ("a/b/", Some("b"), Some("a")),
-    ("a//b", Some("b"), Some("a")),
-    ("a/./b", Some("b"), Some("a")),
-    ("./a", Some("a"), Some(".")),
-    ("a/..", None, Some("a")),
-];
-
-#[test]
-fn names_and_parents_of_texts(rt: HostRuntime) {
-    for (text, name, above) in NAMES {
-        assert!(rt;
-            file_name(text) == *name && parent(text) == *above,
-            "{:?}",
-            text
-        );
-    }
-}
-
-const PAIRS: &[(&str, &str, bool)] = &[
-    ("a//b/", "a/b", true),
-    ("/a/./b", "/a/b", true),
-    ("./a", "a", false),
-    ("a/../b", "b", false),
-    ("", ".", false),
-];
-
-#[test]
-fn texts_of_the_same_path(rt: HostRuntime) {
-    for (a, b, same) in PAIRS {
-        assert!(rt;
-            same_path(a, b) == *same && same_path(b, a) == *same,
-            "{:?}, {:?}",
-            a,
-            b
-        );
-    }
-}
 
 const PLACES: &[(&str, &str, bool)] = &[
     ("/r/a/b/c/../..", "/r/a", true),
@@ -83,33 +33,19 @@ fn texts_of_the_same_place(rt: HostRuntime) {
     }
 }
 
-// Two paths, the parts of their join, and the join.
-const JOINS: &[(&str, &str, (&str, &str, &str), &str)] = &[
-    ("a", "b", ("a", "/", "b"), "a/b"),
-    ("a/", "b", ("a/", "", "b"), "a/b"),
-    ("", "b", ("", "", "b"), "b"),
-    ("/", "b", ("/", "", "b"), "/b"),
-    ("a", "/b", ("", "", "/b"), "/b"),
-    ("a", "", ("a", "/", ""), "a/"),
+// Two paths, and the parts of their join.
+const JOINS: &[(&str, &str, (&str, &str, &str))] = &[
+    ("a", "b", ("a", "/", "b")),
+    ("a/", "b", ("a/", "", "b")),
+    ("", "b", ("", "", "b")),
+    ("/", "b", ("/", "", "b")),
+    ("a", "/b", ("", "", "/b")),
+    ("a", "", ("a", "/", "")),
 ];
 
 #[test]
 fn parts_of_joined_texts(rt: HostRuntime) {
-    for (a, b, parts, _) in JOINS {
+    for (a, b, parts) in JOINS {
         assert!(rt; join_parts(a, b) == *parts, "{:?}, {:?}", a, b);
-    }
-}
-
-fn are_joined(alloc: Global, a: &str, b: &str, whole: &str) -> bool {
-    match join(alloc, a, b) {
-        Ok(path) => path.as_str() == whole,
-        Err(_) => false,
-    }
-}
-
-#[test]
-fn joins_with_one_slash(rt: HostRuntime) {
-    for (a, b, _, whole) in JOINS {
-        assert!(rt; are_joined(rt.alloc(), a, b, whole), "{:?}, {:?}", a, b);
     }
 }

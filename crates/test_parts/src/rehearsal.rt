@@ -1,5 +1,5 @@
 //! Rehearsals of a small family.
-use crate::given::{counts, is_at, played};
+use crate::given::{counts, is, is_at, played};
 use crate::levels::Levels;
 use jwalk_board::board::{Move, Plan};
 use jwalk_order::index_path::IndexPath;
@@ -20,7 +20,7 @@ struct Outcome {
 
 fn are_taken(taken: &[IndexPath], wanted: &[&[usize]]) -> bool {
     for (path, indices) in taken.iter().zip(wanted) {
-        if path.indices.as_slice() != *indices {
+        if !is(path, indices) {
             return false;
         }
     }

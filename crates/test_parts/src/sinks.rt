@@ -1,32 +1,39 @@
 //! Listings that are given to a sink.
-ghost use Rattle.jwalk_model.specs.Tree.{functions_of, only_root};
-
 use jwalk_fs::fault::Fault;
 use jwalk_fs::file_system::FileSystem;
-use jwalk_fs::listed::Listed;
 use jwalk_fs::sink::Sink;
-use jwalk_memory_fs::memory_fs::MemoryFs;
 use jwalk_model::file_type::FileType;
 use jwalk_model::metadata::Metadata;
 use jwalk_model::seen::Seen;
-use std::alloc::{AllocError, Allocator, Global};
+use std::alloc::{AllocError, Global};
 use std::io;
 use std::io::ErrorKind;
+use test_fixtures::listed_directory::{Item, ListedDirectory};
+use test_fixtures::trees::{Step, tree};
 
-// A sink that notes each item as its name and its type, with the length if it is given metadata. It fails once it has
-// as many items as it may have.
+/// A sink that notes each item as its name and its type, with the length if it is given metadata. It fails once it has
+/// as many items as it may have.
 #[derive(Drop)]
 struct Noted {
-    words: Vec<String>,
+    text: String,
+    /// The number of items that it still takes.
     most: usize,
 }
 
 impl Noted {
-    fn push(&mut self, word: String) -> Result<(), AllocError> {
-        if self.words.len() >= self.most {
+    fn new(alloc: Global, most: usize) -> Self {
+        Noted {
+            text: String::new(alloc),
+            most,
+        }
+    }
+
+    /// Counts an item.
+    fn count(&mut self) -> Result<(), AllocError> {
+        if self.most == 0 {
             return Err(AllocError);
         }
-        self.words.push(word)?;
+        self.most -= 1;
         Ok(())
     }
 }
@@ -35,114 +42,82 @@ impl Sink for Noted {
     ghost Took = { λ _ _ _. Unit {0} };
 
     fn take_seen(&mut self, name: &str, seen: io::Result<Seen>) -> Result<(), AllocError> {
-        let alloc = *self.words.allocator();
-        let word = match seen {
-            Ok(Seen::TypeAlone(file_type)) => format!(in alloc; "{name} {file_type:?}")?,
+        self.count()?;
+        let text = &mut self.text;
+        match seen {
+            Ok(Seen::TypeAlone(file_type)) => write!(text, "{name} {file_type:?}; "),
             Ok(Seen::Whole(metadata)) => {
                 let file_type = metadata.file_type();
                 let len = metadata.len();
-                format!(in alloc; "{name} {file_type:?} {len}")?
+                write!(text, "{name} {file_type:?} {len}; ")
             }
             Err(error) => {
                 let kind = error.kind();
-                format!(in alloc; "{name} {kind:?}")?
+                write!(text, "{name} {kind:?}; ")
             }
-        };
-        self.push(word)
+        }
     }
 
     fn take_error(&mut self, error: io::Error) -> Result<(), AllocError> {
+        self.count()?;
         let kind = error.kind();
-        let word = format!(in *self.words.allocator(); "{kind:?}")?;
-        self.push(word)
+        write!(self.text, "{kind:?}; ")
     }
 }
 
-// A directory, whose listing has an error and a name without a type. It is listed by `read_dir` alone.
-#[derive(Drop)]
-struct OneDirectory;
+/// A directory, whose listing has an error and a name without a type. It is listed by `read_dir` alone.
+const LISTED: ListedDirectory<'static> = ListedDirectory {
+    path: "/d",
+    file_type: FileType::Dir,
+    target: Some(FileType::Dir),
+    items: &[
+        Item::Typed("b", FileType::File),
+        Item::Unread(ErrorKind::InvalidFilename),
+        Item::Untyped("a", ErrorKind::PermissionDenied),
+    ],
+};
 
-impl FileSystem for OneDirectory {
-    ghost IsFixed = { λ _. ⊥ };
-
-    ghost functions = { λ _. functions_of only_root };
-
-    fn read_dir<A: Allocator + Copy>(
-        &self,
-        alloc: A,
-        path: &str,
-    ) -> Result<Vec<io::Result<Listed<A>>, A>, Fault> {
-        if path != "/d" {
-            return Err(Fault::Io(io::Error::from(ErrorKind::NotFound)));
-        }
-        let mut items = Vec::new(alloc);
-        let name = String::from_str(alloc, "b")?;
-        items.push(Ok(Listed::of_type(name, Ok(FileType::File))))?;
-        items.push(Err(io::Error::from(ErrorKind::InvalidFilename)))?;
-        let denied = io::Error::from(ErrorKind::PermissionDenied);
-        items.push(Ok(Listed::of_type(String::from_str(alloc, "a")?, Err(denied))))?;
-        Ok(items)
-    }
-
-    fn metadata(&self, path: &str) -> Result<Metadata, Fault> {
-        self.symlink_metadata(path)
-    }
-
-    fn symlink_metadata(&self, _path: &str) -> Result<Metadata, Fault> {
-        Ok(Metadata::new(FileType::Dir, 0))
-    }
-
-    fn read_link<A: Allocator + Copy>(&self, _alloc: A, _path: &str) -> Result<String<A>, Fault> {
-        Err(Fault::Io(io::Error::from(ErrorKind::InvalidInput)))
-    }
-}
-
-fn noting(alloc: Global, most: usize) -> Noted {
-    Noted {
-        words: Vec::new(alloc),
-        most,
-    }
-}
-
-fn has(sink: &Noted, words: &[&str]) -> bool {
-    sink.words.len() == words.len() && sink.words.iter().zip(words).all(|(a, b)| a.as_str() == *b)
+/// Returns what a sink that takes `most` items notes of a directory, and the outcome of the listing.
+fn listing_of<S: FileSystem>(
+    alloc: Global,
+    fs: &S,
+    path: &str,
+    most: usize,
+) -> (String, Result<(), Fault>) {
+    let mut sink = Noted::new(alloc, most);
+    let listed = fs.read_dir_into(alloc, path, &mut sink);
+    (sink.text, listed)
 }
 
 #[test]
 fn items_come_one_after_another_with_errors_in_their_places(rt: HostRuntime) {
-    let mut sink = noting(rt.alloc(), 3);
-    assert!(rt;
-        OneDirectory
-            .read_dir_into(rt.alloc(), "/d", &mut sink)
-            .is_ok()
-    );
-    assert!(rt; has(&sink, &["b File", "InvalidFilename", "a PermissionDenied"]));
+    let (text, listed) = listing_of(rt.alloc(), &LISTED, "/d", 3);
+    assert!(rt; listed.is_ok());
+    assert!(rt; text.as_str() == "b File; InvalidFilename; a PermissionDenied; ");
 }
 
 #[test]
 fn a_sink_that_fails_ends_the_listing_as_memory_does(rt: HostRuntime) {
-    let mut sink = noting(rt.alloc(), 2);
-    let listed = OneDirectory.read_dir_into(rt.alloc(), "/d", &mut sink);
+    let (text, listed) = listing_of(rt.alloc(), &LISTED, "/d", 2);
     assert!(rt; matches!(listed, Err(Fault::Memory)));
-    assert!(rt; has(&sink, &["b File", "InvalidFilename"]));
+    assert!(rt; text.as_str() == "b File; InvalidFilename; ");
 }
 
 #[test]
 fn nothing_is_given_of_a_directory_that_cannot_be_listed(rt: HostRuntime) {
-    let mut sink = noting(rt.alloc(), 3);
-    let listed = OneDirectory.read_dir_into(rt.alloc(), "/e", &mut sink);
+    let (text, listed) = listing_of(rt.alloc(), &LISTED, "/e", 3);
     assert!(rt; matches!(listed, Err(Fault::Io(error)) if error.kind() == ErrorKind::NotFound));
-    assert!(rt; has(&sink, &[]));
+    assert!(rt; text.is_empty());
 }
 
-// An error may be in place of a type.
+/// An error may be in place of a type.
 fn takes_types_alone(alloc: Global) -> Result<bool, AllocError> {
-    let mut sink = noting(alloc, 3);
+    let mut sink = Noted::new(alloc, 3);
     sink.take("b", Ok(FileType::File))?;
     sink.take("a", Err(io::Error::from(ErrorKind::PermissionDenied)))?;
     let whole = Metadata::new(FileType::File, 7);
     sink.take_seen("c", Ok(Seen::Whole(whole)))?;
-    Ok(has(&sink, &["b File", "a PermissionDenied", "c File 7"]))
+    Ok(sink.text.as_str() == "b File; a PermissionDenied; c File 7; ")
 }
 
 #[test]
@@ -150,14 +125,20 @@ fn a_type_alone_is_seen_as_such(rt: HostRuntime) {
     assert!(rt; takes_types_alone(rt.alloc()) == Ok(true));
 }
 
+fn noted_of_a_tree(alloc: Global) -> Option<String> {
+    const STEPS: &[Step] = &[
+        Step::Dir("/d"),
+        Step::File(7, "/d/b"),
+        Step::Link("b", "/d/c"),
+        Step::Dir("/d/a"),
+    ];
+    let (text, listed) = listing_of(alloc, &tree(alloc, STEPS).ok()?, "/d", 3);
+    listed.ok()?;
+    Some(text)
+}
+
 #[test]
 fn a_tree_in_memory_gives_children_in_order_of_creation(rt: HostRuntime) {
-    let mut fs = MemoryFs::new(rt.alloc());
-    assert!(rt; fs.add_dir("/d").is_ok());
-    assert!(rt; fs.add_file("/d/b", 7).is_ok());
-    assert!(rt; fs.add_link("/d/c", "b").is_ok());
-    assert!(rt; fs.add_dir("/d/a").is_ok());
-    let mut sink = noting(rt.alloc(), 3);
-    assert!(rt; (&fs).read_dir_into(rt.alloc(), "/d", &mut sink).is_ok());
-    assert!(rt; has(&sink, &["b File 7", "c Symlink 1", "a Dir 0"]));
+    let wanted = "b File 7; c Symlink 1; a Dir 0; ";
+    assert!(rt; noted_of_a_tree(rt.alloc()).as_deref() == Some(wanted));
 }

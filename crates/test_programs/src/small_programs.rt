@@ -48,11 +48,16 @@ const PATHS: &str =
     "photos\nphotos/2025\nphotos/2025/mountain.jpg\nphotos/2026\nphotos/2026/sea, north.jpg\n\
                      photos/2026/sea.jpg\nphotos/index.txt\n";
 
+/// Returns whether the program wrote this text.
+fn is(out: &Vec<u8>, wanted: &str) -> bool {
+    out.as_slice() == wanted.as_bytes()
+}
+
 #[test]
 fn paths_in_batches(rt: HostRuntime) -> anyhow::Result<()> {
     let mut out = Vec::new(rt.alloc());
     batch_walk::run(&rt, walk(rt.alloc())?, &mut out)?;
-    assert!(rt; out.as_slice() == PATHS.as_bytes());
+    assert!(rt; is(&out, PATHS));
     Ok(())
 }
 
@@ -60,7 +65,7 @@ fn paths_in_batches(rt: HostRuntime) -> anyhow::Result<()> {
 fn paths_by_a_crew(rt: HostRuntime) -> anyhow::Result<()> {
     let mut out = Vec::new(rt.alloc());
     crew_walk::run(&rt, photos(rt.alloc())?, root(rt.alloc())?, &mut out)?;
-    assert!(rt; out.as_slice() == PATHS.as_bytes());
+    assert!(rt; is(&out, PATHS));
     Ok(())
 }
 
@@ -68,7 +73,7 @@ fn paths_by_a_crew(rt: HostRuntime) -> anyhow::Result<()> {
 fn files_and_bytes(rt: HostRuntime) -> anyhow::Result<()> {
     let mut out = Vec::new(rt.alloc());
     totals::run(&rt, walk(rt.alloc())?, photos(rt.alloc())?, &mut out)?;
-    assert!(rt; out.as_slice() == "6 files, 24 bytes, 0 errors\n".as_bytes());
+    assert!(rt; is(&out, "6 files, 24 bytes, 0 errors\n"));
     Ok(())
 }
 
@@ -82,7 +87,7 @@ fn files_by_their_ending(rt: HostRuntime) -> anyhow::Result<()> {
         "n.jpg",
         &mut out,
     )?;
-    assert!(rt; out.as_slice() == "photos/2025/mountain.jpg\n".as_bytes());
+    assert!(rt; is(&out, "photos/2025/mountain.jpg\n"));
     Ok(())
 }
 
@@ -92,7 +97,7 @@ fn directories_that_are_not_marked(rt: HostRuntime) -> anyhow::Result<()> {
     unmarked::run(&rt, walk(rt.alloc())?, &mut out)?;
     let wanted = "photos\nphotos/2025\nphotos/2026\nphotos/2026/.draft.jpg\n\
                   photos/2026/sea, north.jpg\nphotos/2026/sea.jpg\nphotos/index.txt\n";
-    assert!(rt; out.as_slice() == wanted.as_bytes());
+    assert!(rt; is(&out, wanted));
     Ok(())
 }
 
@@ -104,7 +109,7 @@ fn what_is_on_one_disk(rt: HostRuntime) -> anyhow::Result<()> {
     let wanted =
         "photos\nphotos/2025\nphotos/2025/.nobackup\nphotos/2025/mountain.jpg\nphotos/2026\n\
                   photos/index.txt\n";
-    assert!(rt; out.as_slice() == wanted.as_bytes());
+    assert!(rt; is(&out, wanted));
     Ok(())
 }
 
@@ -114,7 +119,7 @@ fn lines_of_csv(rt: HostRuntime) -> anyhow::Result<()> {
     to_csv::run(&rt, walk(rt.alloc())?, &photos(rt.alloc())?, &mut out)?;
     let wanted = "bytes,path\n4,photos/2025/mountain.jpg\n4,\"photos/2026/sea, north.jpg\"\n\
                   4,photos/2026/sea.jpg\n4,photos/index.txt\n";
-    assert!(rt; out.as_slice() == wanted.as_bytes());
+    assert!(rt; is(&out, wanted));
     Ok(())
 }
 
@@ -124,7 +129,7 @@ fn the_lines_of_an_archive(rt: HostRuntime) -> anyhow::Result<()> {
     let mut out = Vec::new(rt.alloc());
     archive::run(rt.alloc(), INPUT, root(rt.alloc())?, &mut out)?;
     let wanted = "photos\nphotos/2026\nphotos/2026/sea.jpg\nphotos/index.txt\n";
-    assert!(rt; out.as_slice() == wanted.as_bytes());
+    assert!(rt; is(&out, wanted));
     Ok(())
 }
 
@@ -137,7 +142,7 @@ fn what_errors_are(rt: HostRuntime) -> anyhow::Result<()> {
                   ancestor /photos\n\
                   not there: IO error for operation on /photos/broken: entity not found\n\
                   not there: IO error for operation on /drawings: entity not found\n";
-    assert!(rt; out.as_slice() == wanted.as_bytes());
+    assert!(rt; is(&out, wanted));
     Ok(())
 }
 
@@ -168,7 +173,7 @@ fn totals_of_the_disk(rt: HostRuntime) -> anyhow::Result<()> {
     let mut out = Vec::new(rt.alloc());
     usage_walk::run(WalkDir::at(&rt, &folder)?, &mut out)?;
     fs::remove_dir_all(&rt, folder.as_str())?;
-    assert!(rt; out.as_slice() == "files 3 dirs 3 links 0 others 0 errors 0 bytes 19\n".as_bytes());
+    assert!(rt; is(&out, "files 3 dirs 3 links 0 others 0 errors 0 bytes 19\n"));
     Ok(())
 }
 
