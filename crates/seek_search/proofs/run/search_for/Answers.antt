@@ -5,7 +5,7 @@ use Rattle.seek_search.proofs.run.search_for.Goals as goal
 
 pub returns-then-asked-clause-done : goal.returns-then-asked-clause-done
 returns-then-asked-clause-done g c = λ zero.
-    let found = ok_twice c.search_asked-ended.result _ _ (c.status_of.ensures.done zero) c.search_asked-ended.ensures.found in (
+    let found = ok_twice c.search_read-ended.result _ _ (c.status_of.ensures.done zero) c.search_read-ended.ensures.found in (
       _,
       _,
       record {
@@ -20,9 +20,9 @@ returns-then-asked-clause-done g c = λ zero.
 
 pub returns-clause-done : goal.returns-clause-done
 returns-clause-done g c = λ zero.
-    let ended = c.search_asked-ended-2.ensures in
-    let prints = ok_twice c.search_asked-ended-2.result _ _ (c.status_of-2.ensures.done zero) ended.yielded in
-    let whole = ok_twice c.search_asked-ended-2.result _ _ (c.status_of-2.ensures.done zero) ended.whole in (
+    let ended = c.search_read-ended-2.ensures in
+    let prints = ok_twice c.search_read-ended-2.result _ _ (c.status_of-2.ensures.done zero) ended.yielded in
+    let whole = ok_twice c.search_read-ended-2.result _ _ (c.status_of-2.ensures.done zero) ended.whole in (
       _,
       _,
       record {
@@ -30,7 +30,7 @@ returns-clause-done g c = λ zero.
         times = λ both.
             let known = c.in-Ok.ensures both.0 in record { now = known.now; after = known.after; before = known.before; after_file = known.after_file };
         quiet = λ quiet. absurd (true≢false (sym quiet ∙ c.if-asked.false));
-        yielded = λ loud. rw prints.1 at prints.2;
+        yielded = λ loud. prints.2 prints.1;
         prints = λ both none. whole.2 none whole.1 both.0 both.1;
       },
     )
