@@ -1,5 +1,5 @@
 use Rattle.std.proofs.Common.{◌∙◌, ◌-◌, ap, arith}
-use Rattle.std.specs.Prelude.{option_map}
+use Rattle.std.specs.Prelude.{false, option_map}
 use Rattle.jwalk.specs.jwalk_job.Entry.{item}
 use Rattle.example_proofs.proofs.AheadFacts.{none_ahead, grows_each, grows_unless, fewer_ahead}
 use Rattle.example_proofs.proofs.ahead.next_and_ahead.Goals as goal
@@ -23,7 +23,7 @@ pub returns-clause-stopped : goal.returns-clause-stopped
 returns-clause-stopped g c = λ stops.
     let call = c.next-answer.ensures.steps in
     let after = c.ahead.ensures.alone (ap (λ b. b.by_crew) call.base ∙ c.requires.alone) in
-    after ∙ none_ahead g.S.FileSystem g.P.ProcessReadDir g.C.ReadDirState.Clone g.C.DirEntryState.Default g.L.Readers c.args.walk.now c.next-answer.new.self c.next-answer.result _ (option_map item c.next-answer.result) stops
+    after ∙ none_ahead g.S.FileSystem g.P.ProcessReadDir g.C.ReadDirState.Clone g.C.DirEntryState.Default g.L.Readers c.args.walk.now c.next-answer.new.self c.next-answer.result false (option_map item c.next-answer.result) stops
 
 pub returns-clause-crew : goal.returns-clause-crew
 returns-clause-crew g c = ap (λ b. b.by_crew) c.next-answer.ensures.steps.base
