@@ -35,11 +35,12 @@ use Rattle.tally_run.specs.Counting.{TakesAll, is_clean}
 use Rattle.tally_words.specs.declared.asked.Asked.{Asked}
 use Rattle.tally_run.specs.Results.{Row, Takes, row_of, rows_of}
 use Rattle.tally_run.specs.Shown.{shown_asked}
-use Rattle.tally_run.specs.Walks.{CountsBelow, CountsWalk, all_below, counted_below, kept_below, subtotals_asked}
+use Rattle.tally_run.specs.Walks.{CountsBelow, CountsWalk, all_below, counted_below, kept_below, subtotals_asked, subtotals_taken}
 use Rattle.tally_run.specs.declared.counting.Counted.{Counted}
 use Rattle.tally_run.specs.declared.results.Results.{Results}
 use Rattle.tally_run.specs.declared.shown.Shown.{Shown}
 use Rattle.tally_run.proofs.CountingFacts.{answers_ok}
+use Rattle.tally_run.proofs.TakenFacts.{clean_taken, files_taken, rows_taken}
 
 module _ {R E V W : Type 0} (view : R → V) (mark : E → W) (shown : Shown) where
   row_same : (y : Yielded R E) → row_of shown (yielded_by view mark y) ≡ row_of shown y
@@ -100,12 +101,12 @@ module _ {C S P A W L R E : Type 0} (files : FileSystem.Ghosts S) (process : Pro
   -- what is taken of the subtotals of a walk, from its beginning until its end, is counted of it
   pub walk_counted : (asked : Asked) (known : List Identity) (old new : Results) (before after : Option (List ℕ)) (counted : Counted) (start end : Subtotals C A (DirEntryIter C S P A L R E) R E) (shown : Shown) (why_not : Option NotStarted)
       → Starts walk it → HoldsUnless files process clone defaults why_not walk it → StartsSteady files process clone defaults readers it
-      → IsFreshBeside known start → answers_of start ≡ it → options_of start ≡ subtotals_asked asked → shown ≡ shown_asked asked
+      → IsFreshBeside known start → answers_of start ≡ it → options_of start ≡ subtotals_taken asked → shown ≡ shown_asked asked
       → TakesAll (Gives (Answers files process clone defaults readers)) shown start end old before new after counted.clean → HaveSame (files_of counted.files) (held end).files
       → CountsWalk files process clone defaults readers walk asked known old before new after counted
   walk_counted asked known old new before after counted start end shown why_not starts holds steadily fresh same options shown_is took remembered =
       let next = Answers files process clone defaults readers in
-      let o = subtotals_asked asked in
+      let o = subtotals_taken asked in
       let all = all_yielded_beside next known start end took.yielded fresh took.calls took.goes_on in
       let xs = all.0 in
       let drains = subst (λ i. Drains next i xs) same all.1 in
@@ -116,7 +117,7 @@ module _ {C S P A W L R E : Type 0} (files : FileSystem.Ghosts S) (process : Pro
         whole = λ is given steady.
             clean_whole files process clone defaults readers given walk it xs why_not holds (steady_begun files process clone defaults readers given walk it steadily starts steady) starts steady drains
             (answers_ok o known xs (flat_map value took.yielded) told (sym took.tells ∙ is));
-        taken = subst (λ (rows : List Row). Takes rows old before new after) (ap₂ (λ s l. rows_of s l) shown_is (sym told)) took.taken;
-        tells = took.tells ∙ ap (list_all is_clean) (sym told);
-        remembered = λ i. remembered i ∙ all.3 i ∙ ap (λ s. is_among (files_after s known (map item xs)) i) options;
+        taken = subst (λ (rows : List Row). Takes rows old before new after) (ap₂ (λ s l. rows_of s l) shown_is (sym told) ∙ rows_taken asked known (map item xs)) took.taken;
+        tells = took.tells ∙ ap (list_all is_clean) (sym told) ∙ clean_taken asked known (map item xs);
+        remembered = λ i. remembered i ∙ all.3 i ∙ ap (λ s. is_among (files_after s known (map item xs)) i) options ∙ ap (λ files. is_among files i) (files_taken asked known (map item xs));
       }

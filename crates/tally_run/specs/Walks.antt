@@ -45,6 +45,10 @@ use Rattle.tally_run.specs.declared.results.Results.{Results}
 abbrev pub subtotals_asked : Asked → SubtotalOptions
 subtotals_asked asked = record { apparent = asked.apparent; each_name = asked.each_name; all = true; max_depth = 2 ^ 64 - 1 }
 
+-- those that are taken: of directories and of what could not be read, and of all entries only where they are written
+abbrev pub subtotals_taken : Asked → SubtotalOptions
+subtotals_taken asked = record (subtotals_asked asked) { all = asked.all }
+
 -- the options of the walks, by what is asked for
 abbrev pub walk_options : Asked → WalkOptions
 walk_options asked = record {

@@ -1,14 +1,13 @@
 //! The subtotals of a walk, taken one after another.
 ghost use Rattle.std.specs.Prelude.{◌≡◌, false, IfOk, OnOk};
 ghost use Rattle.std.specs.List.{list_all};
-ghost use Rattle.std.specs.Iterator.{IsFinite};
 ghost use Rattle.jwalk.specs.WalkDir.{callback_of};
-ghost use Rattle.jwalk_subtotals.specs.Coming.{ends_with, value};
+ghost use Rattle.jwalk_subtotals.specs.Coming.{ends_with, value, CanGoOn, Gives};
 ghost use Rattle.jwalk_subtotals.specs.Error.{is_last};
 ghost use Rattle.jwalk_subtotals.specs.Files.{files_of};
 ghost use Rattle.tally_run.specs.Results.{rows_of, Takes};
 ghost use Rattle.tally_run.specs.Counting.{is_clean, TakesAll};
-ghost use Rattle.tally_run.specs.Walks.{subtotals_asked, CountsWalk};
+ghost use Rattle.tally_run.specs.Walks.{subtotals_taken, CountsWalk};
 
 use crate::failure::Failure;
 use crate::progress::Report;
@@ -17,9 +16,11 @@ use crate::results::Results;
 use crate::screen::Screen;
 use crate::shown::Shown;
 use jwalk::crew::{Readers, Session};
+use jwalk::error::Result as Answer;
 use jwalk::file_system::FileSystem;
 use jwalk::read_dir::ProcessReadDir;
-use jwalk::{ClientState, Crew, Host, WalkDirGeneric};
+use jwalk::{ClientState, Crew, DirEntry, Host, WalkDirGeneric};
+use jwalk_subtotals::iter::Subtotals;
 use jwalk_subtotals::{Files, SubtotalError, SubtotalOptions, WithSubtotal, subtotals_beside};
 use program_parts::halt::Halt;
 use std::alloc::{Allocator, Global};
@@ -76,7 +77,9 @@ fn take_one<C: ClientState, A: Allocator + Copy, W: Write, E: Report>(
 {
     match yielded {
         Ok(found) => {
-            err.note();
+            if found.entry.depth() == 0 {
+                err.finish(&found.subtotal);
+            }
             if shown.has(&found.entry) {
                 results.take(alloc, &found, out)?;
             }
@@ -89,42 +92,56 @@ fn take_one<C: ClientState, A: Allocator + Copy, W: Write, E: Report>(
     }
 }
 
+/// Tells how many entries were read, if that is due.
+fn tell<
+    C: ClientState,
+    A: Allocator + Copy,
+    I: Iterator<Item = Answer<DirEntry<C, A>, A>>,
+    E: Report,
+>(subtotals: &Subtotals<C, A, I>, err: &mut E) {
+    if err.is_due() {
+        if let Ok(so_far) = subtotals.so_far() {
+            err.tell(&so_far);
+        }
+    }
+}
+
 /// Returns whether none of it is an error.
 fn take_all<
     C: ClientState,
     A: Allocator + Copy,
-    I: Iterator<Item = Result<WithSubtotal<C, A>, SubtotalError<A>>>,
+    I: Iterator<Item = Answer<DirEntry<C, A>, A>>,
     W: Write,
     E: Report,
 >(
     alloc: Global,
     screen: Screen,
-    subtotals: &mut I,
+    subtotals: &mut Subtotals<C, A, I>,
     shown: Shown,
     results: &mut Results,
     out: &mut W,
     err: &mut E,
 ) -> Result<bool, Failure>
-    requires can { I.can_next subtotals.old }
-    requires ends { IsFinite (I.remaining subtotals.old) }
-    ensures { IfOk result (TakesAll I.next_gives shown subtotals.old subtotals.new results.old (W.contents out.old)
+    requires { CanGoOn I.can_next I.remaining subtotals.old }
+    ensures { IfOk result (TakesAll (Gives I.next_gives) shown subtotals.old subtotals.new results.old (W.contents out.old)
         results.new (W.contents out.new)) }
 {
     let mut clean = true;
     while let Some(yielded) = subtotals.next() {
         clean &= take_one(alloc, screen, yielded, shown, results, out, err)?;
+        tell(subtotals, err);
     }
     Ok(clean)
 }
 
-/// All subtotals are taken, since the error of a directory comes with its own.
+/// Directories of all depths are yielded, since errors come with them.
 fn options_of(asked: &Asked<'_>) -> SubtotalOptions
-    ensures { result ≡ subtotals_asked asked.now }
+    ensures { result ≡ subtotals_taken asked.now }
 {
     SubtotalOptions {
         apparent: asked.apparent,
         each_name: asked.each_name,
-        all: true,
+        all: asked.all,
         max_depth: usize::MAX,
     }
 }

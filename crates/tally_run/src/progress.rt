@@ -1,12 +1,19 @@
 //! How far a call is, on standard error.
+use jwalk_subtotals::Subtotal;
 use std::io;
 use std::io::Write;
 use std::time::{Clock, Duration};
 
 /// What errors are reported to, and how far a call is.
 pub(crate) trait Report: Write {
-    /// Takes note of an entry that was read.
-    fn note(&mut self);
+    /// Takes note of the subtotal of a root.
+    fn finish(&mut self, root: &Subtotal);
+
+    /// Returns whether it is time to tell how far the call is.
+    fn is_due(&self) -> bool;
+
+    /// Tells how far the call is: this was counted below the root at hand.
+    fn tell(&mut self, so_far: &Subtotal);
 
     /// Wipes what tells how far the call is.
     fn wipe(&mut self);
@@ -18,10 +25,19 @@ pub(crate) trait Report: Write {
 pub(crate) struct Progress<'a, K, E> {
     clock: &'a K,
     err: &'a mut E,
-    read: u64,
+    /// How many entries were read below the roots before.
+    before: u128,
     /// When the line is written next, if it is.
     due: Option<Duration>,
     is_shown: bool,
+}
+
+fn entries_in(subtotal: &Subtotal) -> u128 {
+    subtotal
+        .files
+        .saturating_add(subtotal.dirs)
+        .saturating_add(subtotal.links)
+        .saturating_add(subtotal.others)
 }
 
 /// Returns the time in a second, if a clock tells it.
@@ -36,17 +52,9 @@ impl<'a, K: Clock, E: Write> Progress<'a, K, E> {
         Progress {
             clock,
             err,
-            read: 0,
+            before: 0,
             due: if tells { in_a_second(clock) } else { None },
             is_shown: false,
-        }
-    }
-
-    /// Returns whether the line is to be written now.
-    fn is_due(&self) -> bool {
-        match (self.due, self.clock.monotonic()) {
-            (Some(due), Ok(now)) => now > due,
-            _ => false,
         }
     }
 }
@@ -63,14 +71,23 @@ impl<'a, K: Clock, E: Write> Write for Progress<'a, K, E> {
 }
 
 impl<'a, K: Clock, E: Write> Report for Progress<'a, K, E> {
-    fn note(&mut self) {
-        self.read = self.read.saturating_add(1);
-        if self.due.is_some() && self.is_due() {
-            let _ = write!(self.err, "\rentries read: {}", self.read);
-            let _ = self.err.flush();
-            self.is_shown = true;
-            self.due = in_a_second(self.clock);
+    fn finish(&mut self, root: &Subtotal) {
+        self.before = self.before.saturating_add(entries_in(root));
+    }
+
+    fn is_due(&self) -> bool {
+        match self.due {
+            Some(due) => self.clock.monotonic().is_ok_and(|now| now > due),
+            None => false,
         }
+    }
+
+    fn tell(&mut self, so_far: &Subtotal) {
+        let read = self.before.saturating_add(entries_in(so_far));
+        let _ = write!(self.err, "\rentries read: {read}");
+        let _ = self.err.flush();
+        self.is_shown = true;
+        self.due = in_a_second(self.clock);
     }
 
     fn wipe(&mut self) {

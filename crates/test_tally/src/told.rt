@@ -80,20 +80,24 @@ const BOTH: Screen = Screen {
     ..ERRORS
 };
 
-/// What is written where every second entry comes more than a second later.
-const EVERY_SECOND: &str =
-    "\rentries read: 2\rentries read: 4\rentries read: 6\rentries read: 8\r\u{1b}[K";
+/// What is written where more than a second passes up to every second directory, and then up to every second entry.
+const DIRECTORIES: &str = "\rentries read: 8\r\u{1b}[K";
+
+const ENTRIES: &str =
+    "\rentries read: 3\rentries read: 6\rentries read: 8\rentries read: 9\r\u{1b}[K";
 
 #[test]
 fn a_line_tells_how_many_entries_were_read_and_is_wiped(rt: HostRuntime) {
     const ROWS: &[(Screen, u64, &[&str], &str)] = &[
-        (ERRORS, 600, &["/t"], EVERY_SECOND),
-        (BOTH, 600, &["/t"], EVERY_SECOND),
-        (BOTH, 600, &["--json", "/t"], EVERY_SECOND),
-        (ERRORS, 600, &["--plain", "/t"], EVERY_SECOND),
-        (BOTH, 600, &["--plain", "/t"], ""),
-        (FILE, 600, &["/t"], ""),
-        (ERRORS, 50, &["/t"], ""),
+        (ERRORS, 600, &["/t"], DIRECTORIES),
+        (ERRORS, 600, &["-a", "/t"], ENTRIES),
+        (BOTH, 600, &["-a", "/t"], ENTRIES),
+        (BOTH, 600, &["-s", "/t"], DIRECTORIES),
+        (BOTH, 600, &["--json", "-a", "/t"], ENTRIES),
+        (ERRORS, 600, &["--plain", "-a", "/t"], ENTRIES),
+        (BOTH, 600, &["--plain", "-a", "/t"], ""),
+        (FILE, 600, &["-a", "/t"], ""),
+        (ERRORS, 50, &["-a", "/t"], ""),
     ];
     for (screen, millis, words, want) in ROWS {
         let is_so = match errors_of(&rt, *screen, *millis, words) {
@@ -108,7 +112,7 @@ fn a_line_tells_how_many_entries_were_read_and_is_wiped(rt: HostRuntime) {
 fn the_line_is_wiped_before_an_error_is_reported(rt: HostRuntime) {
     let is_so = match errors_of(&rt, ERRORS, 1500, &["/t/group 1", "/n"]) {
         Ok(errors) => errors.as_slice()
-            == "\rentries read: 1\rentries read: 2\r\u{1b}[Ktally: /n: entity not found\n".as_bytes(),
+            == "\rentries read: 2\r\u{1b}[Ktally: /n: entity not found\n\rentries read: 2\r\u{1b}[K".as_bytes(),
         Err(AllocError) => false,
     };
     assert!(&rt; is_so);

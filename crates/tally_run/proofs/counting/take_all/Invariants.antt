@@ -1,16 +1,15 @@
-use Rattle.std.specs.Iterator.{IsFinite, size}
+use Rattle.jwalk_subtotals.specs.Coming.{weight, CanGoOn, Gives}
 use Rattle.tally_run.proofs.CountingFacts.{TakenSoFar}
 use Rattle.tally_run.proofs.counting.take_all.Given as goal
 
 abbrev pub invariant-loop-yielded : goal.invariant-loop-yielded
 invariant-loop-yielded g l =
     record {
-      can : g.I.Iterator.can_next l.subtotals;
-      ends : IsFinite (g.I.Iterator.remaining l.subtotals);
-      so_far : TakenSoFar g.I.Iterator.next_gives l.fn.shown l.fn.subtotals l.fn.results (g.W.Write.contents l.fn.out)
+      can : CanGoOn g.I.Iterator.can_next g.I.Iterator.remaining l.subtotals;
+      so_far : TakenSoFar (Gives g.I.Iterator.next_gives) l.fn.shown l.fn.subtotals l.fn.results (g.W.Write.contents l.fn.out)
           l.subtotals l.results (g.W.Write.contents l.out) l.clean;
     }
 
 -- at most how many subtotals are to come
 abbrev pub decreases-loop-yielded : goal.decreases-loop-yielded
-decreases-loop-yielded g l = size (g.I.Iterator.remaining l.subtotals)
+decreases-loop-yielded g l = weight g.I.Iterator.remaining l.subtotals
