@@ -1,6 +1,6 @@
 //! Walks with rules, where each request for memory is refused, or all from each on.
 use crate::planted::{Planted, tree_of};
-use jwalk::file_system::{BuildError, FileSystem};
+use jwalk::file_system::{BuildError, FileSystem, MemoryFs};
 use jwalk::read_dir::ProcessReadDir;
 use jwalk::{ClientState, WalkDirGeneric};
 use jwalk_ignore::chain::Chain;
@@ -11,7 +11,6 @@ use std::io::ErrorKind;
 use std::sync::atomic::{AtomicUsize, Ordering};
 use test_fixtures::refused::came::{Came, Taken, WAYS, comes};
 use test_fixtures::refused::counting::Counting;
-use test_fixtures::refused::lines::Shown;
 use test_fixtures::refused::turns::{MOST, Repeated, first_wrong};
 use test_fixtures::refusing_alloc::Refusing;
 use test_fixtures::width::Width;
@@ -73,6 +72,14 @@ fn planted_for(alloc: Global, row: &Row) -> Result<Planted, BuildError> {
     Ok(planted)
 }
 
+/// A walk that has not begun and has rules.
+type Walk<'f, A> = WalkDirGeneric<
+    ((Chain<A>, ()), ()),
+    &'f MemoryFs,
+    Counting<'f, IgnoreFiles<&'f MemoryTexts>>,
+    A,
+>;
+
 /// The walk of a row over its tree, with how many directories are read together and how its answers are taken.
 #[derive(Clone, Copy)]
 struct Play<'f> {
@@ -84,46 +91,36 @@ struct Play<'f> {
     within: &'f AtomicUsize,
 }
 
-/// The states of a walk without states of its own.
-type States<A> = ((Chain<A>, ()), ());
-
-/// The walk is by name, is shown hidden names, and must yield these lines.
-fn comes_by_name<C: ClientState, S: FileSystem, P: ProcessReadDir<C, A>, A: Allocator + Copy>(
-    alloc: Global,
-    memory: A,
-    (fs, root): (S, String<A>),
+/// The walk is shown hidden names.
+fn by_name<C: ClientState, S: FileSystem, P: ProcessReadDir<C, A>, A: Allocator + Copy>(
+    fs: S,
+    root: String<A>,
+    width: Width,
     process: P,
-    (width, taken): (Width, Taken),
-    lines: &[&str],
-) -> Came
-where
-    C::DirEntryState: Shown,
-    requires { P.IsLawful process }
-{
-    let walk = WalkDirGeneric::<C, S, _, _>::new(fs, root)
+) -> WalkDirGeneric<C, S, P, A> {
+    WalkDirGeneric::new(fs, root)
         .sort(true)
         .skip_hidden(false)
         .parallelism(width.parallelism())
-        .process_read_dir(process);
-    comes(alloc, memory, walk, taken, lines)
+        .process_read_dir(process)
+}
+
+impl<'f> Play<'f> {
+    /// Returns `None` if there is no memory for the root.
+    fn builder<A: Allocator + Copy>(&self, memory: A) -> Option<Walk<'f, A>> {
+        let root = String::from_str(memory, self.row.root).ok()?;
+        let rules = Counting::new(IgnoreFiles::new(&self.planted.texts), self.within);
+        Some(by_name(&self.planted.fs, root, self.width, rules))
+    }
 }
 
 /// A walk whose answers are all asked for at once may come whole after a refusal, as more is asked for then.
 impl Repeated for Play<'_> {
     fn comes(&self, alloc: Global, memory: &Refusing<Global>) -> Came {
-        let Ok(root) = String::from_str(memory, self.row.root) else {
-            return Came::Refused(0);
-        };
-        let rules = Counting::new(IgnoreFiles::new(&self.planted.texts), self.within);
-        let ways = (self.width, self.taken);
-        comes_by_name::<States<&Refusing<Global>>, _, _, _>(
-            alloc,
-            memory,
-            (&self.planted.fs, root),
-            rules,
-            ways,
-            self.row.lines,
-        )
+        match self.builder(memory) {
+            Some(walk) => comes(alloc, memory, walk, self.taken, self.row.lines),
+            None => Came::Refused(0),
+        }
     }
 
     fn may_be_whole(&self) -> bool {
