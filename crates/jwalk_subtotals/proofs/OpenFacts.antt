@@ -33,8 +33,8 @@ module _ {C A R E : Type 0} where
       ∙ sym (total_seam (map frame (reverse ws)) (frame w))
       ∙ ap open_total (sym (map-append frame (reverse ws) (frames_one w)))
       ∙ ap (λ l. open_total (map frame l)) (sym (reverse-append (frames_one w) ws)) where
-    frames_one : WithSubtotal C A R E → List (WithSubtotal C A R E)
-    frames_one w = w ∷ []
+        frames_one : WithSubtotal C A R E → List (WithSubtotal C A R E)
+        frames_one w = w ∷ []
 
   -- one more is added
   pub one_more : (ws : List (WithSubtotal C A R E)) (i : ℕ) (w : WithSubtotal C A R E) (t all : Subtotal) → i < length ws → w ≡ get_or ws i w → plus t (sum_open (drop i ws)) ≡ all → plus (plus t w.subtotal) (sum_open (drop (i + 1) ws)) ≡ all

@@ -1,10 +1,10 @@
 -- Roots that are searched one after another.
-use Rattle.std.proofs.Common.{◌≡◌, ◌≤◌, ◌<◌, ◌+◌, ◌∙◌, ℕ, nat_eq, take, Bool, true, false, ◌&&◌, List, [], ◌∷◌, ◌++◌, length, slice_index_or, Option, Some, None, Result, Ok, Err, append-nil, ap, ap₂, arith, refl, subst, sym}
+use Rattle.std.proofs.Common.{◌≡◌, ◌≤◌, ◌<◌, ◌+◌, ◌∙◌, ℕ, nat_eq, take, Bool, true, false, ◌&&◌, List, [], ◌∷◌, ◌++◌, length, slice_index_or, Option, Some, None, Result, Ok, Err, append-nil, ap, ap₂, arith, eqb-true, refl, subst, sym}
 use Rattle.std.specs.Prelude.{flat_map, IfOk, IsOkAnd}
 use Rattle.std.specs.Borrow.{Bor}
 use Rattle.std.specs.Io.KnownBytes.{Appends, append_known}
 use Rattle.std.proofs.lemmas.Grind.{flat_map-append}
-use Rattle.std.proofs.lemmas.List.{map-append, take_more}
+use Rattle.std.proofs.lemmas.List.{map-append, take_more, nil_from_length}
 use Rattle.std.proofs.Math.ListN.{get_or}
 use Rattle.jwalk.specs.jwalk_model.Entry.{Item}
 use Rattle.seek_words.specs.Sought.{Sought}
@@ -113,8 +113,7 @@ one_not_none {n} one none = let no : ◌≡◌ {A = Option ℕ} (Some 1) None = 
 
 -- a list of no length
 pub no_items : {X : Type 0} (xs : List X) → nat_eq (length xs) 0 ≡ true → xs ≡ []
-no_items [] is = refl
-no_items (x ∷ xs) is = absurd (cc)
+no_items xs is = nil_from_length xs (eqb-true (length xs) 0 is)
 
 -- the lines of one file more
 pub one_more : (f : List ℕ → List ℕ) (before after : List ℕ) (paths : List (Bor (List ℕ))) (i : ℕ) (path : Bor (List ℕ))

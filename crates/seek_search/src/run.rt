@@ -336,7 +336,7 @@ fn search_read<
         err,
     )?;
     Ok(Ended {
-        clean: ended.clean && clean,
+        clean: ended.clean & clean,
         full: ended.full,
     })
 }

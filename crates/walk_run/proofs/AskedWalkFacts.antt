@@ -1,6 +1,6 @@
 -- What is written of answers and whether they are entries, whatever their states count as.
 use Rattle.std.proofs.Common.{◌≡◌, ℕ, ◌++◌, ◌∙◌, List, [], ◌∷◌, map, Bool, true, false, Option, Some, None, Result, Ok, Err, is_ok, if◌then◌else◌, ap, ap₂, sym, subst, refl}
-use Rattle.std.specs.Prelude.{option_map}
+use Rattle.std.specs.Prelude.{option_map, IfOk}
 use Rattle.std.specs.List.{list_all}
 use Rattle.std.specs.Io.KnownBytes.{Appends}
 use Rattle.jwalk_model.specs.Entry.{Item}
@@ -17,6 +17,10 @@ use Rattle.jwalk_job.specs.declared.error.Error.{Error}
 use Rattle.jwalk_job.specs.Entry.{item}
 use Rattle.jwalk_job.specs.Given.{Given, counted_item}
 use Rattle.jwalk_usage.proofs.StateFacts.{same_kept}
+
+-- what is said of a result that is known
+pub of_known : {X Y : Type 0} (r : Result X Y) (v : X) (P : X → Type 0) → r ≡ Ok v → IfOk r P → P v
+of_known r v P is said = subst (λ r. IfOk r P) is said
 
 module _ {R E : Type 0} (given : Given R E) where
   -- a line doesn't depend on states

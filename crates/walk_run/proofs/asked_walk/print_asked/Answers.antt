@@ -8,7 +8,7 @@ use Rattle.jwalk.proofs.CleanFacts.{clean_whole}
 use Rattle.jwalk.proofs.WholeFacts.{steady_begun, stateless_of}
 use Rattle.walk_text.specs.Asked.{options_for}
 use Rattle.walk_run.specs.AskedWalk.{written}
-use Rattle.walk_run.proofs.AskedWalkFacts.{all_entries, same_written}
+use Rattle.walk_run.proofs.AskedWalkFacts.{all_entries, of_known, same_written}
 use Rattle.walk_run.proofs.asked_walk.print_asked.Goals as goal
 
 pub returns-clause-walked : goal.returns-clause-walked
@@ -22,7 +22,7 @@ returns-clause-walked g c = λ clean.
       it = c.into_iter-answers.result;
       starts = c.into_iter-answers.ensures.starts;
       one = c.into_iter-answers.ensures.one stateless (λ depth path state list. refl) (λ depth path state list. refl);
-      prints = rw (c.status_once.ensures.clean clean) at c.print_answers.ensures.printed;
+      prints = of_known c.print_answers.result _ _ (c.status_once.ensures.clean clean) c.print_answers.ensures.printed;
     }
 
 pub returns-clause-printed : goal.returns-clause-printed
@@ -31,7 +31,7 @@ returns-clause-printed g c = λ clean fixed.
     let walk = c.in_ok-walk.walk in
     let built = c.in_ok-walk.ensures in
     let none_failed = c.status_once.ensures.clean clean in
-    let all = rw none_failed at c.print_answers.ensures.printed in
+    let all = of_known c.print_answers.result _ _ none_failed c.print_answers.ensures.printed in
     let begun = c.into_iter-answers.ensures in
     let steady : IsSteady g.S.FileSystem _ _ _ (file_system_of walk) (callback_of walk) stateless
     = record { file_system = subst (g.S.FileSystem.IsFixed) (sym built.file_system) fixed; callback = λ depth path state list. refl; clones = λ x y is. refl; default = λ x is. refl } in

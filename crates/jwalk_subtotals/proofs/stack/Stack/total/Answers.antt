@@ -15,7 +15,7 @@ loop-open-init g c =
 pub returns-in_err-add-clause-too_many : goal.returns-in_err-add-clause-too_many
 returns-in_err-add-clause-too_many g c =
     let great : IsTooGreat (open_total (frames_of c.args.self.now)) =
-        too_much c.as_slice-open-items.result.now c.loop-open.open-index c.open-item.result c.loop-open.total _ c.loop-open-test.true c.open-item.is (c.loop-open.invariant ∙ all_open c.args.self.now.«open».items) c.in_err-add.ensures.too_many.1 in
+    too_much c.as_slice-open-items.result.now c.loop-open.open-index c.open-item.result c.loop-open.total _ c.loop-open-test.true c.open-item.is (c.loop-open.invariant ∙ all_open c.args.self.now.«open».items) c.in_err-add.ensures.too_many.1 in
     let p = err_from_is_err_and c.from_residual.result c.from_residual.ensures.1 in
     subst (λ r. IfErr r (λ fault. (fault ≡ TooMany) × IsTooGreat (open_total (frames_of c.args.self.now)))) (sym p.1) (search rules, great)
 
