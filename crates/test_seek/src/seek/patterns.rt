@@ -72,6 +72,16 @@ $ seek -g -F .t /t
 $ seek -F *.txt /t -g
   /t/a.txt
   /t/B.TXT
+$ seek -g --regex ^a /t
+  /t/a.txt
+  /t/sub/deep/a.rs
+$ seek -F --regex a. /t
+  /t/a.txt
+  /t/sub/notes.tar.gz
+  /t/sub/deep/a.rs
+$ seek --regex -F a. /t
+  /t/a.txt
+  /t/sub/deep/a.rs
 # a pattern for hidden names without hidden
 $ seek ^\\.h /t
 ! seek: the pattern '^\\.h' finds hidden names alone: add -H to have these
