@@ -1,5 +1,5 @@
 -- Roots that are searched one after another.
-use Rattle.std.proofs.Common.{◌≡◌, ◌≤◌, ◌<◌, ◌+◌, ◌∙◌, ℕ, nat_eq, take, Bool, true, false, ◌&&◌, List, [], ◌∷◌, ◌++◌, length, slice_index_or, Option, Some, None, Result, Ok, Err, append-nil, ap, ap₂, arith, eqb-true, refl, subst, sym}
+use Rattle.std.proofs.Common.{◌≡◌, ◌≤◌, ◌<◌, ◌+◌, ◌∙◌, ◌⊎◌, ℕ, nat_eq, take, Bool, true, false, ◌&&◌, List, [], ◌∷◌, ◌++◌, length, slice_index_or, Option, Some, None, Result, Ok, Err, append-nil, ap, ap₂, arith, eqb-true, refl, subst, sym}
 use Rattle.std.specs.Prelude.{flat_map, IfOk, IsOkAnd}
 use Rattle.std.specs.Borrow.{Bor}
 use Rattle.std.specs.Io.KnownBytes.{Appends, append_known}
@@ -24,12 +24,14 @@ use Rattle.jwalk_ignore.specs.declared.callback.excluding.Excluding.{Excluding}
 use Rattle.jwalk_ignore.specs.declared.callback.kept_rules.KeptRules.{KeptRules}
 use Rattle.jwalk_ignore.specs.jwalk_ignore_rules.declared.rules.chain.Chain.{Chain}
 use Rattle.seek_found.specs.declared.sought.Sought.{Sought as Looked}
+use Rattle.seek_words.specs.AsksFor.{AskForText}
 use Rattle.seek_words.specs.declared.screen.Screen.{Screen}
 use Rattle.user_excludes.specs.declared.home.Home.{Home}
 use Rattle.jwalk_ignore.specs.jwalk_ignore_rules.declared.rules.with_excludes.WithExcludes.{WithExcludes}
 use Rattle.seek_search.specs.Goes.{CallsOf}
-use Rattle.seek_search.specs.Run.{SearchesFor}
+use Rattle.seek_search.specs.Run.{Searches, SearchesFor}
 use Rattle.seek_search.specs.Search.{yielded_by}
+use Rattle.seek_search.specs.declared.based.Based.{Based}
 use Rattle.seek_search.specs.declared.kept_links.KeptLinks.{KeptLinks}
 
 -- what is looked for, by its parts
@@ -140,3 +142,8 @@ module _ {T C Z B X A D Q E G H F : Type 0} (plain : CallsOf T G (Arc (KeptLinks
         yielded = s.yielded;
         prints = λ both. s.prints (fixes both);
       })))
+
+module _ {T C Z B X A D Q E G H F : Type 0} (plain : CallsOf T G (Arc (KeptLinks (Based Z)) B) Excluding A H F) (honouring : CallsOf T C (Arc (KeptLinks (Based Z)) B) (KeptRules (WithExcludes (Based X))) A (Chain D × Q) E) {disk : Z} {reads : X} {fixed : Type 0} {fs : Functions} {texts : Texts} {home : Home} {screen : Screen} {old new : Option (List ℕ)} where
+  -- the same call, by other names of its words
+  pub searches_with : {words words' : List (List ℕ)} → words ≡ words' → AskForText words ⊎ Searches plain honouring disk reads fixed fs texts home screen words old new → AskForText words' ⊎ Searches plain honouring disk reads fixed fs texts home screen words' old new
+  searches_with is = subst (λ (w : List (List ℕ)). AskForText w ⊎ Searches plain honouring disk reads fixed fs texts home screen w old new) is

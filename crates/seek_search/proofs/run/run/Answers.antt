@@ -1,4 +1,5 @@
 use Rattle.std.proofs.Common.{ap, map, string_bytes, ◌∙◌}
+use Rattle.seek_search.proofs.RunFacts.{searches_with}
 use Rattle.seek_search.proofs.run.run.Goals as goal
 
 pub returns-in-Ok-clause-ends : goal.returns-in-Ok-clause-ends
@@ -8,4 +9,4 @@ pub returns-in-Ok-clause-bad_words : goal.returns-in-Ok-clause-bad_words
 returns-in-Ok-clause-bad_words g c = rw (ap (map string_bytes) c.as_slice.ensures.value ∙ c.in-Ok.ensures) at c.run_words.ensures.bad_words
 
 pub returns-in-Ok-clause-done : goal.returns-in-Ok-clause-done
-returns-in-Ok-clause-done g c = rw (ap (map string_bytes) c.as_slice.ensures.value ∙ c.in-Ok.ensures) at c.run_words.ensures.done
+returns-in-Ok-clause-done g c = λ zero. searches_with _ _ (ap (map string_bytes) c.as_slice.ensures.value ∙ c.in-Ok.ensures) (c.run_words.ensures.done zero)

@@ -1,5 +1,6 @@
-use Rattle.std.proofs.Common.{◌≡◌, ◌∙◌, List, ℕ, ap, ap₂, subst, sym}
+use Rattle.std.proofs.Common.{◌≡◌, ◌∙◌, List, ℕ, true, ap, ap₂, subst, sym}
 use Rattle.jwalk_ignore.specs.Rules.WithExcludes.{excludes_of, texts_behind, with_excludes}
+use Rattle.seek_search.specs.Goes.{PrintsYielded}
 use Rattle.seek_search.specs.Run.{PrintsRead}
 use Rattle.seek_search.specs.RulesRead.{excludes_asked, lines_asked}
 use Rattle.seek_search.proofs.RunFacts.{first_true, second_true}
@@ -7,7 +8,8 @@ use Rattle.seek_search.proofs.run.search_read.Goals as goal
 
 pub returns-clause-yielded : goal.returns-clause-yielded
 returns-clause-yielded g c = λ clean.
-    (c.new-texts.result, c.new-texts.ensures.texts, (_, rw (first_true c.in_ok-ended.ended.clean c.in_ok-excludes.field-0.clean clean) at c.in_ok-ended.ensures.yielded))
+    let all : PrintsYielded _ _ _ _ _ _ _ _ _ _ true = subst (PrintsYielded _ _ _ _ _ _ _ _ _ _) (first_true c.in_ok-ended.ended.clean c.in_ok-excludes.field-0.clean clean) c.in_ok-ended.ensures.yielded in
+    (c.new-texts.result, c.new-texts.ensures.texts, (_, all))
 
 pub returns-clause-found : goal.returns-clause-found
 returns-clause-found g c = λ quiet full. (c.new-texts.result, c.new-texts.ensures.texts, (_, c.in_ok-ended.ensures.found quiet full))
