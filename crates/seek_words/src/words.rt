@@ -87,14 +87,19 @@ fn last_named(found: &ArgMatches<'_>, one: &str, other: &str) -> (bool, bool)
     }
 }
 
+/// Returns whether an option is named by a word behind this place. An option that isn't named has a place, too.
+fn is_named_behind(found: &ArgMatches<'_>, id: &str, place: usize) -> bool {
+    is_named(found, id) && last_place(found, id) > place
+}
+
 /// Returns whether the word for regular expressions is behind all that name another reading.
 fn is_regex_last(found: &ArgMatches<'_>) -> bool
     ensures { result ≡ true → is_named (rows_of (found_of found.now)) (codes "regex") ≡ true }
 {
-    let regex = last_place(found, "regex");
+    let place = last_place(found, "regex");
     is_named(found, "regex")
-        && last_place(found, "glob") < regex
-        && last_place(found, "fixed-strings") < regex
+        && !is_named_behind(found, "glob", place)
+        && !is_named_behind(found, "fixed-strings", place)
 }
 
 fn readings_of(found: &ArgMatches<'_>) -> (bool, bool)
