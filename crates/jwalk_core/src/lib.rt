@@ -4,7 +4,7 @@
 //!   which others make ahead and `readers` give. Those of a crew are its `session`: its workers hand in each reading as
 //!   a `message`, `wanted` says which one a walk waits for, and `arrival` asks a board for it. `parallelism` says which
 //!   of them reads.
-//! - Entries in order: `dir_entry_iter`.
+//! - Entries in order: `entries`, over any `readings`. `dir_entry_iter` names those over a `ReadDirIter`.
 #![tactic(auto)]
 
 pub mod arrival;

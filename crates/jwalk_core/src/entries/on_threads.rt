@@ -1,5 +1,5 @@
 //! A walk's answers, where threads read the directories that are read together.
-ghost use Rattle.std.specs.Prelude.{◌≡◌, ◌≢◌, true, false, []};
+ghost use Rattle.std.specs.Prelude.{◌≡◌, ◌≢◌, ◌⊎◌, true, false, [], OnOk};
 ghost use Rattle.jwalk_job.specs.Job.{callback};
 
 use crate::dir_entry_iter::DirEntryIter;
@@ -26,7 +26,9 @@ where
     C::ReadDirState: Send,
     C::DirEntryState: Send,
 {
-    ghost use Rattle.jwalk_core.specs.DirEntryIter.{job_of, unread_of};
+    ghost use Rattle.jwalk_order.specs.Addresses.{IsAmong};
+    ghost use Rattle.jwalk_core.specs.ReadDirIter.{next_address};
+    ghost use Rattle.jwalk_core.specs.DirEntryIter.{reads_of, by_crew, job_of, unread_of, early_of};
     ghost use Rattle.jwalk_core.specs.Entries.{items_of, Prepares, Passes, GoesOn, Answers, Fills};
     ghost use Rattle.jwalk_core.specs.Step.{IsAtDirectory};
 
@@ -47,8 +49,10 @@ where
     /// directory.
     fn prepare_on<R: Threads + Sync>(&mut self, rt: &R) -> Result<(), AllocError>
         requires { P.IsLawful (callback (job_of self.old)) }
-        ensures { Prepares ⟦<ReadDirIter<C, S, P, A, L> as Readings<C, A>>⟧
+        ensures steps { Prepares ⟦<ReadDirIter<C, S, P, A, L> as Readings<C, A>>⟧
             self.old result self.new }
+        ensures ready { IsAtDirectory (items_of self.old) (unread_of self.old) → OnOk result (by_crew self.old ≡ false
+            → (unread_of self.new ≡ []) ⊎ IsAmong (next_address (reads_of self.new)) (early_of self.new)) }
     {
         if !self.is_at_directory() {
             return Ok(());

@@ -2,6 +2,8 @@ use Rattle.std.proofs.Common.{◌∙◌, sym, ap, subst}
 use Rattle.jwalk_job.specs.ReadDir.{reading}
 use Rattle.jwalk_core.specs.ReadDirIter as readings
 use Rattle.jwalk_core.specs.CrewReads as reads_by
+use Rattle.jwalk_core.specs.Sources.{base_of}
+use Rattle.jwalk_core.specs.DirEntryIter.{reads_of}
 use Rattle.jwalk.specs.CrewStart.{IsToRead}
 use Rattle.jwalk.proofs.CrewStartFacts.{left_placed, left_to_read, left_most, left_steady}
 use Rattle.jwalk.proofs.walk_dir.crew_start.WalkDirGeneric+C+S+P+A+Crew+R.with_reads.Goals as goal
@@ -25,6 +27,6 @@ returns g c =
       steady = λ given steady. record {
         reads = subst (readings.StartsSteady g.S.FileSystem g.P.ProcessReadDir g.C.ReadDirState.Clone g.C.DirEntryState.Default _) (sym is.reads)
             (left_steady old new g.S.FileSystem g.P.ProcessReadDir g.C.ReadDirState.Clone g.C.DirEntryState.Default _ c.start_reads.result started.begins started.unchanged c.requires.steady) given steady;
-        placed = left_placed g.S.FileSystem g.P.ProcessReadDir g.C.ReadDirState.Clone g.C.DirEntryState.Default _ read c.err-why_not.result _ _ is.items left;
+        placed = left_placed g.S.FileSystem g.P.ProcessReadDir g.C.ReadDirState.Clone g.C.DirEntryState.Default (base_of (reads_of c.after_start.result)) read c.err-why_not.result _ _ is.items left;
       };
     }

@@ -2,9 +2,9 @@ use Rattle.jwalk_core.proofs.PreparedPassFacts.{prepared_passes, unprepared_pass
 use Rattle.jwalk_core.proofs.entries.on_threads.DirEntryIter+C+S+P+A+L.pass_on.Goals as goal
 
 pub returns : goal.returns
-returns g c = prepared_passes _ c.args.self.now c.prepare_on.new.self c.pass.new.self tt c.pass.result c.in_ok-prepare_on.ensures c.pass.ensures
+returns g c = prepared_passes _ c.args.self.now c.prepare_on.new.self c.pass.new.self tt c.pass.result c.in_ok-prepare_on.ensures.steps c.pass.ensures
 
 pub returns-in_err-prepare_on : goal.returns-in_err-prepare_on
 returns-in_err-prepare_on g c =
     let told = c.from_residual in
-    unprepared_passes _ c.args.self.now c.prepare_on.new.self _ told.result told.ensures.0 told.ensures.1 c.in_err-prepare_on.ensures
+    unprepared_passes _ c.args.self.now c.prepare_on.new.self _ told.result told.ensures.0 told.ensures.1 c.in_err-prepare_on.ensures.steps

@@ -3,14 +3,20 @@ use Rattle.jwalk_core.proofs.PreparedByFacts.{readies, prepared_as, fails_at, sa
 use Rattle.jwalk_core.proofs.entries.on_threads.DirEntryIter+C+S+P+A+L.prepare_on.Goals as goal
 
 pub returns-then-not-is_at_directory : goal.returns-then-not-is_at_directory
-returns-then-not-is_at_directory g c = record { stays = record { base = refl; refused = refl; most = omega arith; steady = λ given steady. steady }; prepared = inl refl; stopped = tt }
+returns-then-not-is_at_directory g c = record {
+  steps = record { stays = record { base = refl; refused = refl; most = omega arith; steady = λ given steady. steady }; prepared = inl refl; stopped = tt };
+  ready = λ at. absurd (c.if-not-is_at_directory.ensures.no refl at);
+}
 
 pub returns : goal.returns
 returns g c =
     let p = c.prepare_on.ensures in
     let at = c.if-not-is_at_directory.ensures.yes refl in
     record {
-      stays = record { base = same_base c.args.self.now.reads c.prepare_on.new.self p.crew p.job p.width; refused = refl; most = p.most; steady = p.steady };
-      prepared = prepared_as c.prepare_on.result (ap (λ r. record c.args.self.now { reads = r })) (λ r. record { at = at r.some; items = refl; same = r.same; frontier = r.frontier; ready = readies g.S.FileSystem g.P.ProcessReadDir g.C.ReadDirState.Clone g.C.DirEntryState.Default g.L.Readers c.args.self.now.reads c.prepare_on.new.self r }) p.prepared;
-      stopped = fails_at c.prepare_on.result at p.some;
+      steps = record {
+        stays = record { base = same_base c.args.self.now.reads c.prepare_on.new.self p.crew p.job p.width; refused = refl; most = p.most; steady = p.steady };
+        prepared = prepared_as c.prepare_on.result (ap (λ r. record c.args.self.now { reads = r })) (λ r. record { at = at r.some; items = refl; same = r.same; frontier = r.frontier; ready = readies g.S.FileSystem g.P.ProcessReadDir g.C.ReadDirState.Clone g.C.DirEntryState.Default g.L.Readers c.args.self.now.reads c.prepare_on.new.self r }) p.prepared;
+        stopped = fails_at c.prepare_on.result at p.some;
+      };
+      ready = λ here. p.ready;
     }
