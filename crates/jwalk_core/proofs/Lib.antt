@@ -12,6 +12,7 @@ pub mod AlikeFacts
 mod KnownFacts
 mod CrewFacts
 pub mod CrewSteadyFacts
+mod RestFacts
 mod GivesFacts
 mod PreparedReadFacts
 mod SourceInFacts

@@ -15,7 +15,7 @@ use Rattle.jwalk_core.specs.declared.readers.Missed.{Missed}
 use Rattle.jwalk_core.specs.declared.readers.Missed.TheVariants.{Memory}
 use Rattle.jwalk_core.specs.CrewReads.{failure_of}
 use Rattle.jwalk_core.specs.BatchReads.{PassesAddress}
-use Rattle.jwalk_core.specs.ReadsIn.{ReadsFirstIn, ReadsNextIn}
+use Rattle.jwalk_core.specs.Reads.{ReadsFirstBy, ReadsNextBy}
 use Rattle.jwalk_core.specs.Source.{Source, IsSource, IsKnown, IsNextIn, EntersNextIn}
 use Rattle.jwalk_core.specs.Step.{IsAtDirectory, Receives, PassesNext, passed_plainly, passed_entering, LeavesOut, none_left_out, one_left_out, ReadsUpTo}
 use Rattle.jwalk_core.specs.declared.readings.Readings as Readings
@@ -33,21 +33,10 @@ plain_if E true [] none = refl
 plain_if E true (s ∷ specs) none = absurd (none (refl, λ is. cc))
 
 -- and so it was where a reading was handed on
-pub at_read : {X T F R E : Type 0} (copies : R → R → Type 0) (known : Spec R → Outcome R E → Type 0) (max_depth : ℕ) (view : X → Outcome R E) (read : Option X) (told : Result T F) (items rest : List (Item R E)) (x : Item R E) (specs left : List (Spec R)) → items ≡ x ∷ rest → has_directory x ≡ true → IsSome read → ReadsNextIn copies known max_depth specs (option_map view read) left → OnErr told (IsAtDirectory items specs)
+pub at_read : {X T F R E : Type 0} (copies : R → R → Type 0) (known : Spec R → Outcome R E → Type 0) (max_depth : ℕ) (view : X → Outcome R E) (read : Option X) (told : Result T F) (items rest : List (Item R E)) (x : Item R E) (specs left : List (Spec R)) → items ≡ x ∷ rest → has_directory x ≡ true → IsSome read → ReadsNextBy copies known max_depth specs (option_map view read) left → OnErr told (IsAtDirectory items specs)
 at_read copies known max_depth view read (Ok done) items rest x specs left is dir some reads = tt
 at_read copies known max_depth view None (Err refused) items rest x specs left is dir some reads = let no : false ≡ true = some in cc
 at_read copies known max_depth view (Some o) (Err refused) items rest x specs left is dir some reads = at_first items rest x specs reads.rest reads.first is dir reads.took
-
--- the next directory alone, as the first of those that are to be read
-first_in : {R E : Type 0} (source : Source R E) (x : Item R E) (s : Spec R) (rest specs : List (Spec R)) → specs ≡ s ∷ rest → IsNextIn source x specs → source.below x s
-first_in source x s rest specs took next = rw took at next
-
--- what is known of the next reading is known of it as the reading of an item's directory
-pub known_in : {R E : Type 0} (source : Source R E) (counts : Given R E → Type 0) (at : List ℕ) (x : Item R E) (old : List (Spec R)) (read : Option (Outcome R E)) (new : List (Spec R)) → IsNextIn source x old → ReadsNextIn source.copies (IsKnown source counts at) source.options.max_depth old read new → ReadsNextIn source.copies (λ s o. IsKnown source counts at s o × source.below x s) source.options.max_depth old read new
-known_in source counts at x old None new next reads = reads
-known_in source counts at x old (Some o) new next reads =
-    let reading = reads.reading in
-    record { first = reads.first; rest = reads.rest; took = reads.took; reading = record { lawful = reading.lawful; few = reading.few; value = (reading.value, first_in source x reads.first reads.rest old reads.took next) }; stacks = reads.stacks }
 
 -- where memory ran out, that is told
 pub tells_refused : {T R E : Type 0} (source : Source R E) → IsSource source → (r : Result T Missed) → IsErrAnd r (λ m. m ≡ Memory) → IfErr r (λ m. source.tells (failure_of m))
@@ -123,7 +112,7 @@ module _ {C A B R E : Type 0} (readings : Readings.Ghosts B C A R E) where
 
   -- a directory's entry is passed, where this came of its reading
   pub passed_by_reading : (old new : Entries C A B R E) (x : Item R E) (rest : List (Item R E)) (read : Option (Outcome R E)) (answer : Item R E) (mid : B) → items_of old ≡ x ∷ rest → has_directory x ≡ true → new.reads ≡ mid
-      → ReadsNextIn (source_of readings old).copies (KnownAt readings old (next_address (readings.frontier old.reads)) x) (max_depth_of readings old) (unread_of readings old) read (readings.to_read mid)
+      → ReadsNextBy (source_of readings old).copies (KnownAt readings old (next_address (readings.frontier old.reads)) x) (max_depth_of readings old) (unread_of readings old) read (readings.to_read mid)
       → EntersNextIn (source_of readings old) (next_address (readings.frontier old.reads)) (readings.read_ahead old.reads) read (readings.read_ahead mid)
       → PassesAddress (readings.frontier old.reads) read (readings.frontier mid)
       → Receives read x rest answer (items_of new)
@@ -140,7 +129,7 @@ module _ {C A B R E : Type 0} (readings : Readings.Ghosts B C A R E) where
     first = items;
     has = dir;
     outcome = outcome;
-    reads = subst (λ (r : B). ReadsFirstIn (source_of readings old).copies (KnownAt readings old (next_address (readings.frontier old.reads)) x) (max_depth_of readings old) (unread_of readings old) outcome (readings.to_read r)) (sym same) reads;
+    reads = subst (λ (r : B). ReadsFirstBy (source_of readings old).copies (KnownAt readings old (next_address (readings.frontier old.reads)) x) (max_depth_of readings old) (unread_of readings old) outcome (readings.to_read r)) (sym same) reads;
     told = received.0;
     items = received.1;
     frontier = ap readings.frontier same ∙ passes;

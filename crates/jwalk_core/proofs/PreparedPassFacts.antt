@@ -9,7 +9,7 @@ use Rattle.jwalk_job.specs.declared.dir_entry.DirEntry.{DirEntry}
 use Rattle.jwalk_job.specs.Entry.{item}
 use Rattle.jwalk_job.specs.Given.{Given}
 use Rattle.jwalk_core.specs.ReadAhead.{ReadAhead}
-use Rattle.jwalk_core.specs.ReadsIn.{ReadsFirstIn}
+use Rattle.jwalk_core.specs.Reads.{ReadsFirstBy}
 use Rattle.jwalk_core.specs.declared.readers.Missed.{Missed}
 use Rattle.jwalk_core.specs.declared.readers.Missed.TheVariants.{Memory}
 use Rattle.jwalk_core.specs.CrewReads.{failure_of}
@@ -28,12 +28,12 @@ module _ {C A B R E : Type 0} (readings : Readings.Ghosts B C A R E) where
       same_items = ap (λ l. map item (reverse l.items)) r.items
 
       same_at : IsAtDirectory (items_of mid) (unread_of readings mid)
-      same_at = rw (same_items, r.same) r.at
+      same_at = rw (same_items, r.reads.same) r.at
 
       steady_before : (given : Given R E) → IsSteadyWalk readings old given → IsSteadyWalk readings mid given
       steady_before given counted = record {
         reads = stays.steady given counted.reads;
-        placed = subst (λ b. ArePlaced (readings.source b) (items_of mid) (unread_of readings mid)) (sym stays.base) (rw (same_items, r.same) counted.placed);
+        placed = subst (λ b. ArePlaced (readings.source b) (items_of mid) (unread_of readings mid)) (sym stays.base) (rw (same_items, r.reads.same) counted.placed);
       }
 
       -- what is passed after some were read for it is passed by what was read
@@ -41,20 +41,20 @@ module _ {C A B R E : Type 0} (readings : Readings.Ghosts B C A R E) where
       one_prepared x one = elim (passed_before readings old mid stays one) [
         | inl plain ↦ absurd (plain.none_below same_at)
         | inr enters ↦
-            let Reads : List (List ℕ) → List (Spec R) → Type 0 = λ addresses specs. ReadsFirstIn (source_of readings old).copies (KnownAt readings old (next_address addresses) enters.entry) (max_depth_of readings old) specs enters.outcome (unread_of readings new) in
+            let Reads : List (List ℕ) → List (Spec R) → Type 0 = λ addresses specs. ReadsFirstBy (source_of readings old).copies (KnownAt readings old (next_address addresses) enters.entry) (max_depth_of readings old) specs enters.outcome (unread_of readings new) in
             let here : (source_of readings old).enters (next_address (readings.frontier old.reads)) (readings.read_ahead mid.reads) (readings.read_ahead new.reads)
-            = subst (λ f. (source_of readings old).enters (next_address f) (readings.read_ahead mid.reads) (readings.read_ahead new.reads)) r.frontier enters.ahead in
+            = subst (λ f. (source_of readings old).enters (next_address f) (readings.read_ahead mid.reads) (readings.read_ahead new.reads)) r.reads.frontier enters.ahead in
             inr (record {
               entry = enters.entry;
               rest = enters.rest;
               first = sym same_items ∙ enters.first;
               has = enters.has;
               outcome = enters.outcome;
-              reads = subst (Reads (readings.frontier old.reads)) r.same (subst (λ f. Reads f (unread_of readings mid)) r.frontier enters.reads);
+              reads = subst (Reads (readings.frontier old.reads)) r.reads.same (subst (λ f. Reads f (unread_of readings mid)) r.reads.frontier enters.reads);
               told = enters.told;
               items = enters.items;
-              frontier = enters.frontier ∙ ap (λ f. order.passed f (length (children_of enters.outcome))) r.frontier;
-              ahead = r.ready (readings.read_ahead new.reads) here;
+              frontier = enters.frontier ∙ ap (λ f. order.passed f (length (children_of enters.outcome))) r.reads.frontier;
+              ahead = r.reads.ready (readings.read_ahead new.reads) here;
             })
       ]
 

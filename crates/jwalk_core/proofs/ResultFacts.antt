@@ -11,7 +11,7 @@ use Rattle.jwalk_core.specs.ReadAhead.{nothing_ahead}
 use Rattle.jwalk_core.specs.declared.readers.Missed.{Missed}
 use Rattle.jwalk_core.specs.declared.readers.Missed.TheVariants.{Memory, Lost}
 use Rattle.jwalk_core.specs.CrewReads.{failure_of, NotLost}
-use Rattle.jwalk_core.specs.ReadDirIter.{Tells, EntersNextBy}
+use Rattle.jwalk_core.specs.ReadBy.{Tells}
 
 -- an error is no `Ok`
 pub none_ok : {T F : Type 0} (P : T → Type 0) (r : Result T F) → IsErr r → IfOk r P
@@ -67,10 +67,3 @@ fewer_not_lost counts fewer Lost within never = λ given f. never given (within 
 pub passed_not_lost : {T R E : Type 0} (counts : Given R E → Type 0) (missed : Missed) (r : Result T Missed) → IsErrAnd r (λ m. m ≡ missed) → NotLost counts missed → IfErr r (NotLost counts)
 passed_not_lost counts missed (Ok x) same never = tt
 passed_not_lost counts missed (Err m) same never = rw same never
-
--- what was read ahead by a crew's readings stays nothing
-pub enters_by_crew : {C S P A R E X Y F : Type 0} (files : FileSystem.Ghosts S) (process : ProcessReadDir.Ghosts P C A R E) (clone : Clone.Ghosts R) (defaults : Default.Ghosts E) (job : Job C S P A R E) (at : List ℕ) (view : X → Y) (r : Result (Option X) F)
-    → IfOk r (λ o. EntersNextBy files process clone defaults true job 1 at nothing_ahead (option_map view o) nothing_ahead)
-enters_by_crew files process clone defaults job at view (Ok None) = refl
-enters_by_crew files process clone defaults job at view (Ok (Some x)) = (refl, omega arith)
-enters_by_crew files process clone defaults job at view (Err e) = tt

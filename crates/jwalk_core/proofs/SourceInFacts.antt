@@ -4,7 +4,6 @@ use Rattle.std.specs.Prelude.{option_map}
 use Rattle.std.specs.declared.clone.Clone as Clone
 use Rattle.jwalk_model.specs.ReadDir.{Spec, Outcome}
 use Rattle.jwalk_core.specs.Reads.{ReadsNextBy}
-use Rattle.jwalk_core.specs.ReadsIn.{ReadsNextIn}
 use Rattle.std.specs.declared.default.Default as Default
 use Rattle.jwalk_fs.specs.declared.file_system.FileSystem as FileSystem
 use Rattle.jwalk_job.specs.declared.process_read_dir.ProcessReadDir as ProcessReadDir
@@ -13,13 +12,13 @@ use Rattle.jwalk_core.specs.ReadAhead.{nothing_ahead}
 use Rattle.jwalk_core.specs.Source.{EntersNextIn}
 use Rattle.jwalk_core.specs.Sources.{source_by}
 
-pub reads_in : {R E : Type 0} (clone : Clone.Ghosts R) (known more : Spec R → Outcome R E → Type 0) (max_depth : ℕ) → ((s : Spec R) (o : Outcome R E) → known s o → more s o) → (old : List (Spec R)) (read : Option (Outcome R E)) (new : List (Spec R)) → ReadsNextBy clone known max_depth old read new → ReadsNextIn clone.is_clone more max_depth old read new
+pub reads_in : {R E : Type 0} (clone : Clone.Ghosts R) (known more : Spec R → Outcome R E → Type 0) (max_depth : ℕ) → ((s : Spec R) (o : Outcome R E) → known s o → more s o) → (old : List (Spec R)) (read : Option (Outcome R E)) (new : List (Spec R)) → ReadsNextBy clone.is_clone known max_depth old read new → ReadsNextBy clone.is_clone more max_depth old read new
 reads_in clone known more max_depth within old None new reads = reads
 reads_in clone known more max_depth within old (Some o) new reads =
     let reading = reads.reading in
     record { first = reads.first; rest = reads.rest; took = reads.took; reading = record { lawful = reading.lawful; few = reading.few; value = within reads.first o reading.value }; stacks = record { front = reads.stacks.front; left = reads.stacks.left; clones = reads.stacks.clones } }
 
-pub ok_reads_in : {T F R E : Type 0} (clone : Clone.Ghosts R) (known more : Spec R → Outcome R E → Type 0) (max_depth : ℕ) → ((s : Spec R) (o : Outcome R E) → known s o → more s o) → (view : T → Outcome R E) (old new : List (Spec R)) (result : Result (Option T) F) → IfOk result (λ o. ReadsNextBy clone known max_depth old (option_map view o) new) → IfOk result (λ o. ReadsNextIn clone.is_clone more max_depth old (option_map view o) new)
+pub ok_reads_in : {T F R E : Type 0} (clone : Clone.Ghosts R) (known more : Spec R → Outcome R E → Type 0) (max_depth : ℕ) → ((s : Spec R) (o : Outcome R E) → known s o → more s o) → (view : T → Outcome R E) (old new : List (Spec R)) (result : Result (Option T) F) → IfOk result (λ o. ReadsNextBy clone.is_clone known max_depth old (option_map view o) new) → IfOk result (λ o. ReadsNextBy clone.is_clone more max_depth old (option_map view o) new)
 ok_reads_in clone known more max_depth within view old new (Ok o) reads = reads_in clone known more max_depth within old (option_map view o) new reads
 ok_reads_in clone known more max_depth within view old new (Err e) reads = tt
 

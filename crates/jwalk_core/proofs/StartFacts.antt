@@ -19,7 +19,7 @@ use Rattle.jwalk_core.specs.declared.readers.Readers as Readers
 use Rattle.jwalk_core.specs.CrewReads.{IsNextBelow}
 use Rattle.jwalk_core.specs.Sources.{base_of, source_by}
 use Rattle.jwalk_core.specs.DirEntryIter.{DirEntryIter, by_crew, job_of, items_of, unread_of, read_ahead, held, held_by, IsSourced, IsSteadyWalk}
-use Rattle.jwalk_core.proofs.GivesFacts.{steady_at_rest}
+use Rattle.jwalk_core.proofs.RestFacts.{steady_at_rest}
 use Rattle.jwalk_core.proofs.PlacedFacts.{all_placed}
 use Rattle.jwalk_core.proofs.AnswerFacts.{held_refused, held_by_with, with_sourced}
 

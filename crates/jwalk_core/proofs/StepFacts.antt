@@ -14,7 +14,7 @@ use Rattle.jwalk_model.proofs.CountedFacts.{counted-has_directory, counted-after
 use Rattle.jwalk_model.proofs.HeldFacts.{directories, directories-append, as_many_of, lighter, lighter_alone, listed, alone, unread_none}
 use Rattle.jwalk_model.proofs.WithinFacts.{NoDeeper-append, of_reading, after, first_of}
 use Rattle.jwalk_job.specs.Given.{Given, counted_entry, counted_item, counted_spec, counted_outcome}
-use Rattle.jwalk_core.specs.ReadsIn.{ReadsFirstIn}
+use Rattle.jwalk_core.specs.Reads.{ReadsFirstBy}
 use Rattle.jwalk_core.specs.Step.{PassesNext, passed_plainly, passed_entering, LeavesOut, none_left_out, one_left_out}
 
 -- a source that gives nothing takes no specification
@@ -97,7 +97,7 @@ module _ {R E : Type 0} (copies : R → R → Type 0) (known : Item R E → Spec
     listed_plainly x items (s ∷ specs) true h plain = let no : false ≡ true = rw h at plain in cc
 
     module _ (cloned : (x y : R) → copies x y → given.read_dir_state y ≡ given.read_dir_state x) (as_given : (x : Item R E) (s : Spec R) (o : Outcome R E) → known x s o → counted_outcome given o ≡ reading (counted_spec given s)) where
-      listed_entering : (e : Entry R E) (items : List (Item R E)) (specs left : List (Spec R)) (outcome : Outcome R E) → has_directory {R = R} (Ok e) ≡ true → ReadsFirstIn copies (known (Ok e)) options.max_depth specs outcome left → Listed (Ok e ∷ items) specs ≡ counted_item given (after_reading outcome (Ok e)) ∷ Listed (list_of outcome ++ items) left
+      listed_entering : (e : Entry R E) (items : List (Item R E)) (specs left : List (Spec R)) (outcome : Outcome R E) → has_directory {R = R} (Ok e) ≡ true → ReadsFirstBy copies (known (Ok e)) options.max_depth specs outcome left → Listed (Ok e ∷ items) specs ≡ counted_item given (after_reading outcome (Ok e)) ∷ Listed (list_of outcome ++ items) left
       listed_entering e items specs left outcome dir reads =
           let view = given.read_dir_state in
           let mark = given.dir_entry_state in
@@ -116,7 +116,7 @@ module _ {R E : Type 0} (copies : R → R → Type 0) (known : Item R E → Spec
       pub next_listed : {items : List (Item R E)} {specs : List (Spec R)} {answer : Item R E} {items' : List (Item R E)} {specs' : List (Spec R)} → Next items specs answer items' specs' → Listed items specs ≡ counted_item given answer ∷ Listed items' specs'
       next_listed (passed_plainly {x} {items} {specs} plain) = listed_plainly x items specs (has_directory x) refl plain
       next_listed (passed_entering {x} {items} {specs} {left} {outcome} dir reads) =
-          entry_alone x dir (λ y. ReadsFirstIn copies (known y) options.max_depth specs outcome left → Listed (y ∷ items) specs ≡ counted_item given (after_reading outcome y) ∷ Listed (list_of outcome ++ items) left)
+          entry_alone x dir (λ y. ReadsFirstBy copies (known y) options.max_depth specs outcome left → Listed (y ∷ items) specs ≡ counted_item given (after_reading outcome y) ∷ Listed (list_of outcome ++ items) left)
           (λ e has reads. listed_entering e items specs left outcome has reads) reads
 
   -- ---- items that are left out

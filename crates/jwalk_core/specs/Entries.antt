@@ -15,11 +15,12 @@ use Rattle.jwalk_job.specs.Entry.{item}
 use Rattle.jwalk_job.specs.Given.{Given, counted_item, counted_spec}
 use Rattle.jwalk_order.specs.Frontier as frontier
 use Rattle.jwalk_order.specs.Frontier.{next_address}
-use Rattle.jwalk_core.specs.ReadsIn.{ReadsFirstIn}
+use Rattle.jwalk_core.specs.Reads.{ReadsFirstBy}
 use Rattle.jwalk_core.specs.ReadAhead.{ReadAhead}
 use Rattle.jwalk_core.specs.ReadAhead as left
 use Rattle.jwalk_core.specs.declared.readers.Missed.{Missed}
 use Rattle.jwalk_core.specs.CrewReads.{NotLost, failure_of}
+use Rattle.jwalk_core.specs.Gives.{Readies}
 use Rattle.jwalk_core.specs.Source.{Source, IsKnown}
 use Rattle.jwalk_core.specs.Step.{IsAtDirectory, ReadsUpTo, StopsAtDirectory}
 use Rattle.jwalk_core.specs.declared.readings.Readings as Readings
@@ -208,7 +209,7 @@ module _ {C A B R E : Type 0} (readings : Readings.Ghosts B C A R E) where
     pub first : from.items ≡ entry ∷ rest
     pub has : has_directory entry ≡ true
     pub outcome : Outcome R E
-    pub reads : ReadsFirstIn (source_of it).copies (KnownAt it (next_address from.frontier) entry) (max_depth_of it) from.unread outcome to.unread
+    pub reads : ReadsFirstBy (source_of it).copies (KnownAt it (next_address from.frontier) entry) (max_depth_of it) from.unread outcome to.unread
     pub told : passed ≡ after_reading outcome entry
     pub items : to.items ≡ list_of outcome ++ rest
     pub frontier : to.frontier ≡ frontier.passed from.frontier (length (children_of outcome))
@@ -243,9 +244,7 @@ module _ {C A B R E : Type 0} (readings : Readings.Ghosts B C A R E) where
   pub record ReadiesNext (old new : Entries C A B R E) : Type 0 where
     pub at : IsAtDirectory (items_of old) (unread_of old)
     pub items : new.items ≡ old.items
-    pub same : unread_of new ≡ unread_of old
-    pub frontier : readings.frontier new.reads ≡ readings.frontier old.reads
-    pub ready : (after : ReadAhead R) → (source_of old).enters (next_address (readings.frontier old.reads)) (readings.read_ahead new.reads) after → (source_of old).enters (next_address (readings.frontier old.reads)) (readings.read_ahead old.reads) after
+    pub reads : Readies readings old.reads new.reads
 
   -- The next item is prepared: its reading is made ready, or all stays as it is. That fails only where a directory is to be read.
   pub record Prepares {F : Type 0} (old : Entries C A B R E) (result : Result (Unit {0}) F) (new : Entries C A B R E) : Type 0 where

@@ -9,12 +9,13 @@ pub mod ReadAhead
 pub mod BatchReads
 pub mod Parallelism
 pub mod CrewReads
-pub mod ReadDirIter
-pub mod ReadsIn
+pub mod ReadBy
 pub mod Step
 pub mod Source
 pub mod Sources
 pub mod SourceFacts
 pub mod Entries
 pub mod ReadingsBy
+pub mod Gives
+pub mod ReadDirIter
 pub mod DirEntryIter

@@ -6,7 +6,7 @@ use Rattle.jwalk_job.specs.declared.process_read_dir.ProcessReadDir as ProcessRe
 use Rattle.jwalk_job.specs.Job.{callback}
 use Rattle.jwalk_core.specs.declared.readers.Readers as Readers
 use Rattle.jwalk_core.specs.declared.read_dir_iter.ReadDirIter.{ReadDirIter}
-use Rattle.jwalk_core.specs.ReadDirIter as reads
+use Rattle.jwalk_core.specs.ReadBy as reads
 use Rattle.jwalk_core.specs.Sources.{Base, base_of, source_by, AreAhead}
 use Rattle.jwalk_core.specs.SourceFacts.{is_source_by, clones_by}
 use Rattle.jwalk_core.specs.declared.readings.Readings as Readings

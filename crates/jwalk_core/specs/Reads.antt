@@ -24,19 +24,19 @@ abbrev pub spec_of : {C A R E : Type 0} → Read C A R E → Spec R
 spec_of q = spec q.of
 
 -- The specifications of an outcome's directories, with clones of their states, are put in front of the old ones.
-pub record StacksChildren {R E : Type 0} (clone : Clone.Ghosts R) (old : List (Spec R)) (read : Outcome R E) (new : List (Spec R)) : Type 0 where
+pub record StacksChildren {R E : Type 0} (copies : R → R → Type 0) (old : List (Spec R)) (read : Outcome R E) (new : List (Spec R)) : Type 0 where
   pub front : List (Spec R)
   pub left : new ≡ front ++ old
-  pub clones : AreClones clone.is_clone (children_of read) front
+  pub clones : AreClones copies (children_of read) front
 
-module _ {R E : Type 0} (clone : Clone.Ghosts R) (known : Spec R → Outcome R E → Type 0) (max_depth : ℕ) where
+module _ {R E : Type 0} (copies : R → R → Type 0) (known : Spec R → Outcome R E → Type 0) (max_depth : ℕ) where
   -- The first specification is read and replaced by those of the directories in its outcome.
   pub record ReadsFirstBy (old : List (Spec R)) (read : Outcome R E) (new : List (Spec R)) : Type 0 where
     pub first : Spec R
     pub rest : List (Spec R)
     pub took : old ≡ first ∷ rest
     pub reading : IsReadingBy known max_depth first read
-    pub stacks : StacksChildren clone rest read new
+    pub stacks : StacksChildren copies rest read new
 
   -- The first is read, or nothing was left to be read.
   abbrev pub ReadsNextBy : List (Spec R) → Option (Outcome R E) → List (Spec R) → Type 0
@@ -46,10 +46,10 @@ module _ {R E : Type 0} (clone : Clone.Ghosts R) (known : Spec R → Outcome R E
 module _ {C S P A R E : Type 0} (files : FileSystem.Ghosts S) (clone : Clone.Ghosts R) (counts : Given R E → Type 0) where
   -- the same, for a job whose readings are known over all that counts as given
   abbrev pub ReadsFirst : Job C S P A R E → List (Spec R) → Outcome R E → List (Spec R) → Type 0
-  ReadsFirst job = ReadsFirstBy clone (IsGivenOver files counts job) (greatest_depth job)
+  ReadsFirst job = ReadsFirstBy clone.is_clone (IsGivenOver files counts job) (greatest_depth job)
 
   abbrev pub ReadsNext : Job C S P A R E → List (Spec R) → Option (Outcome R E) → List (Spec R) → Type 0
-  ReadsNext job = ReadsNextBy clone (IsGivenOver files counts job) (greatest_depth job)
+  ReadsNext job = ReadsNextBy clone.is_clone (IsGivenOver files counts job) (greatest_depth job)
 
   -- It is a reading of its directory, and comes with the directories of its list, with clones of their states.
   pub record IsSoundOver (job : Job C S P A R E) (made : Read C A R E × List (Spec R)) : Type 0 where

@@ -20,7 +20,7 @@ use Rattle.jwalk_core.specs.Source.{IsSource}
 use Rattle.jwalk_core.specs.declared.readers.Readers as Readers
 use Rattle.jwalk_core.specs.declared.read_dir_iter.ReadDirIter.{ReadDirIter}
 use Rattle.jwalk_core.specs.declared.read_dir_iter.ReadDirIter.TheVariants.{Walk, CrewWalk}
-use Rattle.jwalk_core.specs.ReadDirIter.{Tells, EntersBy, IsSteadyReads}
+use Rattle.jwalk_core.specs.ReadBy.{Tells, EntersBy, IsSteadyReads}
 use Rattle.jwalk_core.specs.Sources.{Base, source_by}
 
 -- any walk may end early because memory ran out

@@ -5,7 +5,7 @@ use Rattle.jwalk_model.specs.ReadDir.{Spec, Outcome, list_of}
 use Rattle.jwalk_model.specs.Listing.{after_reading, is_answered}
 use Rattle.jwalk_model.specs.Held.{first_source, is_plain}
 use Rattle.jwalk_model.specs.Options.{Options}
-use Rattle.jwalk_core.specs.ReadsIn.{ReadsFirstIn}
+use Rattle.jwalk_core.specs.Reads.{ReadsFirstBy}
 
 -- A directory is to be read below the first item.
 abbrev pub IsAtDirectory : {R E : Type 0} → List (Item R E) → List (Spec R) → Type 0
@@ -21,7 +21,7 @@ module _ {R E : Type 0} (copies : R → R → Type 0) (known : Item R E → Spec
   -- The next item is passed. A directory takes the first unread specification and reads it alone. Its children are put in front of the other specifications, as the items of its reading are of the other items. What is known of that reading may depend on the item. Any other item leaves them as they are.
   pub data PassesNext : List (Item R E) → List (Spec R) → Item R E → List (Item R E) → List (Spec R) → Type 0 where
     passed_plainly : {x : Item R E} {items : List (Item R E)} {specs : List (Spec R)} → is_plain (first_source {R = R} {E = E} (has_directory x) specs) ≡ true → PassesNext (x ∷ items) specs x items specs
-    passed_entering : {x : Item R E} {items : List (Item R E)} {specs left : List (Spec R)} {outcome : Outcome R E} → has_directory x ≡ true → ReadsFirstIn copies (known x) options.max_depth specs outcome left → PassesNext (x ∷ items) specs (after_reading outcome x) (list_of outcome ++ items) left
+    passed_entering : {x : Item R E} {items : List (Item R E)} {specs left : List (Spec R)} {outcome : Outcome R E} → has_directory x ≡ true → ReadsFirstBy copies (known x) options.max_depth specs outcome left → PassesNext (x ∷ items) specs (after_reading outcome x) (list_of outcome ++ items) left
 
   -- Items that the least depth leaves out are passed one after another.
   pub data LeavesOut (items : List (Item R E)) (specs : List (Spec R)) : List (Item R E) → List (Spec R) → Type 0 where

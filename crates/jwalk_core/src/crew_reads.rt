@@ -10,7 +10,7 @@ ghost use Rattle.jwalk_job.specs.ReadDir.{outcome};
 ghost use Rattle.jwalk_core.specs.Reads.{StacksChildren};
 ghost use Rattle.jwalk_core.specs.BatchReads.{PassesAddress};
 ghost use Rattle.jwalk_core.specs.CrewReads.{job_of, to_read, frontier_of, next_address, IsBelow, IsNextBelow, IsTold, BeginsBy, NotLost, most_ahead, CountsAhead, IsSteadyBefore, IsSteadyCrew, StartsSteady, StaysSteady, ReadsSteadily, IsReportedFor, IsGivenFor, StaysSteadyAfter, IsNotLostFirst, failure_of};
-ghost use Rattle.jwalk_core.specs.ReadDirIter.{CrewReadsNext};
+ghost use Rattle.jwalk_core.specs.Sources.{CrewReadsNext};
 
 pub mod started;
 
@@ -191,7 +191,7 @@ impl<
         ensures most { most_ahead L.Readers self.new ≡ most_ahead L.Readers self.old }
         ensures reading { IfOk result (λ read. IsReportedFor S.FileSystem P.ProcessReadDir C.ReadDirState.Clone
             C.DirEntryState.Default L.Readers self.old (spec of) (outcome read)) }
-        ensures stacks { IfOk result (λ read. StacksChildren C.ReadDirState.Clone (to_read self.old)
+        ensures stacks { IfOk result (λ read. StacksChildren C.ReadDirState.is_clone (to_read self.old)
             (outcome read) (to_read self.new)) }
         ensures passes { IfOk result (λ read. frontier_of self.new
             ≡ passed (frontier_of self.old) (length (children_of (outcome read)))) }

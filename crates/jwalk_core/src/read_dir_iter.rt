@@ -14,7 +14,8 @@ mod over_readers;
 use crate::batch_reads::BatchReads;
 use crate::crew_reads::{CrewReads, error_of};
 use crate::parallelism::Parallelism;
-use crate::readers::{Missed, NoCrew, Readers};
+use crate::readers::{NoCrew, Readers};
+use crate::readings::Readings;
 use jwalk_fs::file_system::FileSystem;
 use jwalk_job::client_state::ClientState;
 use jwalk_job::dir_entry::DirEntry;
@@ -69,12 +70,8 @@ impl<
 > ReadDirIter<C, S, P, A, L> {
     ghost use Rattle.jwalk_job.specs.Options as options;
     ghost use Rattle.jwalk_job.specs.Options.{mode_value};
-    ghost use Rattle.jwalk_job.specs.Job.{greatest_depth};
-    ghost use Rattle.jwalk_core.specs.Reads.{ReadsNextBy};
     ghost use Rattle.jwalk_core.specs.ReadAhead.{nothing_ahead, BeginsWith};
-    ghost use Rattle.jwalk_core.specs.BatchReads.{PassesAddress};
-    ghost use Rattle.jwalk_core.specs.CrewReads.{failure_of, IsNextBelow, NotLost};
-    ghost use Rattle.jwalk_core.specs.ReadDirIter.{by_crew, job_of, to_read, width_of, read_ahead, early_of, frontier_of, next_address, Tells, most_ahead, CountsAhead, IsSteadyReads, StaysSteady, Known, EntersNextBy, Gives, GivesOf};
+    ghost use Rattle.jwalk_core.specs.ReadDirIter.{by_crew, job_of, to_read, width_of, read_ahead, early_of, frontier_of, most_ahead, CountsAhead, StaysSteady, Gives, GivesOf};
 
     pub(crate) fn new(alloc: A, job: Job<C, S, P, A>, mode: Mode) -> Self
         ensures own { by_crew result ≡ false }
@@ -124,52 +121,10 @@ impl<
         }
     }
 
-    pub(crate) fn read_next(&mut self) -> Result<Option<Outcome<C, A>>, Missed>
-        requires { P.IsLawful (callback (job_of self.old)) }
-        ensures crew { by_crew self.new ≡ by_crew self.old }
-        ensures job { job_of self.new ≡ job_of self.old }
-        ensures width { width_of self.new ≡ width_of self.old }
-        ensures ahead { length (early_of self.new) + 1 ≤ length (early_of self.old) + width_of self.old }
-        ensures tells { IfErr result (λ missed. Tells (by_crew self.old) (failure_of missed)) }
-        ensures some { OnErr result (to_read self.old ≢ []) }
-        ensures stopped { OnErr result (to_read self.new ≡ []) }
-        ensures nothing_ahead { OnErr result (read_ahead self.new ≡ nothing_ahead) }
-        ensures most { most_ahead L.Readers self.new ≤ most_ahead L.Readers self.old }
-        ensures steady { StaysSteady S.FileSystem P.ProcessReadDir C.ReadDirState.Clone C.DirEntryState.Default L.Readers
-            self.old self.new }
-        ensures next { IfOk result (λ o. ReadsNextBy C.ReadDirState.Clone
-            (Known S.FileSystem P.ProcessReadDir C.ReadDirState.Clone C.DirEntryState.Default L.Readers self.old)
-            (greatest_depth (job_of self.old)) (to_read self.old) (option_map outcome o) (to_read self.new)) }
-        ensures enters { IfOk result (λ o. EntersNextBy S.FileSystem P.ProcessReadDir C.ReadDirState.Clone
-            C.DirEntryState.Default (by_crew self.old) (job_of self.old) (width_of self.old)
-            (next_address self.old) (read_ahead self.old) (option_map outcome o) (read_ahead self.new)) }
-        ensures passes { IfOk result (λ o. PassesAddress (frontier_of self.old) (option_map outcome o)
-            (frontier_of self.new)) }
-        ensures comes { IfErr result (NotLost (IsSteadyReads S.FileSystem P.ProcessReadDir C.ReadDirState.Clone
-            C.DirEntryState.Default L.Readers self.old)) }
-    {
-        match self {
-            ReadDirIter::Walk(walk) => Ok(walk.read_next()?),
-            ReadDirIter::CrewWalk(reads) => reads.read_next(),
-        }
-    }
-
-    pub(crate) fn is_next(&self, found: &DirEntry<C, A>) -> bool
-        ensures own { result ≡ false → by_crew self.now ≡ true }
-        ensures some { result ≡ false → to_read self.now ≢ [] }
-        ensures below { result ≡ true → IsNextBelow (by_crew self.now) (Ok (entry found.now)) (to_read self.now) }
-        ensures other { result ≡ false → ¬ IsNextBelow (by_crew self.now) (Ok (entry found.now)) (to_read self.now) }
-    {
-        match self {
-            ReadDirIter::Walk(_) => true,
-            ReadDirIter::CrewWalk(reads) => reads.is_next(found),
-        }
-    }
-
     /// Returns the next reading; or the error that reports why it won't come, and then nothing is left to be read.
     fn next_or_stop(&mut self) -> Option<Outcome<C, A>>
         requires { P.IsLawful (callback (job_of self.old)) }
-        ensures { Gives S.FileSystem P.ProcessReadDir C.ReadDirState.Clone C.DirEntryState.Default L.Readers false
+        ensures { Gives S.FileSystem P.ProcessReadDir C.ReadDirState.Clone C.DirEntryState.Default L.Readers
             self.old result self.new }
     {
         match self.read_next() {
@@ -191,7 +146,7 @@ impl<
     {
         prove!(found.read_children.is_some());
         if !self.is_next(found) {
-            self.stop();
+            Readings::stop(self);
             return Some(Err(Error::lost()));
         }
         self.next_or_stop()
@@ -287,8 +242,7 @@ impl<
 
     ghost can_next = { λ s. P.IsLawful (callback (job_of s)) };
 
-    ghost next_gives = { Gives S.FileSystem P.ProcessReadDir C.ReadDirState.Clone C.DirEntryState.Default L.Readers
-        false };
+    ghost next_gives = { Gives S.FileSystem P.ProcessReadDir C.ReadDirState.Clone C.DirEntryState.Default L.Readers };
 
     ghost remaining = { λ s. at_most (spec_weight (greatest_depth (job_of s)) (to_read s)) };
 

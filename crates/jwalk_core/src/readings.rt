@@ -1,5 +1,5 @@
 //! What a walk over readings asks of them.
-ghost use Rattle.std.specs.Prelude.{◌≡◌, ◌≢◌, ◌≤◌, ℕ, List, [], Ok, true, false, option_map, IfOk, IfErr, OnErr};
+ghost use Rattle.std.specs.Prelude.{◌≡◌, ◌≢◌, ◌≤◌, ◌+◌, ℕ, List, [], length, Ok, true, false, option_map, IfOk, IfErr, OnErr};
 ghost use Rattle.jwalk_model.specs.ReadDir.{Spec};
 ghost use Rattle.jwalk_order.specs.Frontier.{next_address};
 ghost use Rattle.jwalk_job.specs.Entry.{entry};
@@ -9,7 +9,7 @@ ghost use Rattle.jwalk_job.specs.Given.{Given};
 ghost use Rattle.jwalk_core.specs.ReadAhead.{ReadAhead, nothing_ahead};
 ghost use Rattle.jwalk_core.specs.BatchReads.{PassesAddress};
 ghost use Rattle.jwalk_core.specs.CrewReads.{failure_of, NotLost};
-ghost use Rattle.jwalk_core.specs.ReadsIn.{ReadsNextIn};
+ghost use Rattle.jwalk_core.specs.Reads.{ReadsNextBy};
 ghost use Rattle.jwalk_core.specs.Source.{Source, IsSource, IsKnown, IsNextIn, EntersNextIn};
 ghost use Rattle.jwalk_model.specs.Error.{lost};
 
@@ -69,9 +69,12 @@ pub trait Readings<C: ClientState, A: Allocator + Copy>: Drop {
         ensures tells { IfErr result (λ missed. (source (base self.old)).tells (failure_of missed)) }
         ensures some { OnErr result (to_read self.old ≢ []) }
         ensures stopped { OnErr result (to_read self.new ≡ []) }
+        ensures nothing_ahead { OnErr result (read_ahead self.new ≡ nothing_ahead) }
+        ensures ahead { length (read_ahead self.new).done + 1 ≤ length (read_ahead self.old).done
+            + (source (base self.old)).width }
         ensures most { most self.new ≤ most self.old }
         ensures steady { (g : _) → steady self.old g → steady self.new g }
-        ensures next { IfOk result (λ o. ReadsNextIn (source (base self.old)).copies (IsKnown (source (base self.old))
+        ensures next { IfOk result (λ o. ReadsNextBy (source (base self.old)).copies (IsKnown (source (base self.old))
             (steady self.old) (next_address (frontier self.old))) (source (base self.old)).options.max_depth
             (to_read self.old) (option_map outcome o) (to_read self.new)) }
         ensures enters { IfOk result (λ o. EntersNextIn (source (base self.old)) (next_address (frontier self.old))
@@ -83,6 +86,7 @@ pub trait Readings<C: ClientState, A: Allocator + Copy>: Drop {
     /// Returns whether the directory that comes next is the one below an entry, or none is left.
     fn is_next(&self, found: &DirEntry<C, A>) -> bool
         ensures tells { result ≡ false → (source (base self.now)).tells lost }
+        ensures wide { result ≡ false → 1 ≤ (source (base self.now)).width }
         ensures some { result ≡ false → to_read self.now ≢ [] }
         ensures below { result ≡ true → IsNextIn (source (base self.now)) (Ok (entry found.now)) (to_read self.now) }
         ensures other { result ≡ false

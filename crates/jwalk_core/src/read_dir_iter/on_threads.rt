@@ -1,10 +1,11 @@
 //! Readings in preorder, with threads for those that are made together.
-ghost use Rattle.std.specs.Prelude.{false, Ok, IsSome};
+ghost use Rattle.std.specs.Prelude.{◌≡◌, ◌⊎◌, false, Ok, [], OnOk, IsSome};
 ghost use Rattle.jwalk_job.specs.Entry.{entry};
 ghost use Rattle.jwalk_job.specs.Job.{callback};
 
 use crate::read_dir_iter::ReadDirIter;
 use crate::readers::Readers;
+use crate::readings::Readings;
 use jwalk_fs::file_system::FileSystem;
 use jwalk_job::client_state::ClientState;
 use jwalk_job::dir_entry::DirEntry;
@@ -25,15 +26,18 @@ where
     C::ReadDirState: Send,
     C::DirEntryState: Send,
 {
-    ghost use Rattle.jwalk_core.specs.ReadDirIter.{job_of, Gives, GivesOf, Prepares};
+    ghost use Rattle.jwalk_order.specs.Addresses.{IsAmong};
+    ghost use Rattle.jwalk_core.specs.Gives.{Prepares};
+    ghost use Rattle.jwalk_core.specs.ReadDirIter.{by_crew, job_of, to_read, early_of, next_address, Gives, GivesOf};
 
     /// Makes sure that the next reading is made, if any is left and no crew reads. If it isn't made yet, the
     /// directories that are read together with it are read, on several threads if there are enough of them to be worth
     /// it. The next call then reads nothing. If memory runs out, nothing is left to be read.
     pub(crate) fn prepare_on<R: Threads + Sync>(&mut self, rt: &R) -> Result<(), AllocError>
         requires { P.IsLawful (callback (job_of self.old)) }
-        ensures { Prepares S.FileSystem P.ProcessReadDir C.ReadDirState.Clone C.DirEntryState.Default L.Readers
-            self.old result self.new }
+        ensures steps { Prepares ⟦<ReadDirIter<C, S, P, A, L> as Readings<C, A>>⟧ self.old result self.new }
+        ensures ready { OnOk result (by_crew self.old ≡ false
+            → (to_read self.new ≡ []) ⊎ IsAmong (next_address self.new) (early_of self.new)) }
     {
         match self {
             ReadDirIter::Walk(walk) => walk.prepare_on(rt),
@@ -45,7 +49,7 @@ where
     /// together. `while let Some(read) = reads.next_on(&rt)` is the loop that uses several threads.
     pub fn next_on<R: Threads + Sync>(&mut self, rt: &R) -> Option<Outcome<C, A>>
         requires { P.IsLawful (callback (job_of self.old)) }
-        ensures { Gives S.FileSystem P.ProcessReadDir C.ReadDirState.Clone C.DirEntryState.Default L.Readers false
+        ensures { Gives S.FileSystem P.ProcessReadDir C.ReadDirState.Clone C.DirEntryState.Default L.Readers
             self.old result self.new }
     {
         match self.prepare_on(rt) {
@@ -68,7 +72,7 @@ where
     {
         prove!(found.read_children.is_some());
         if !self.is_next(found) {
-            self.stop();
+            Readings::stop(self);
             return Some(Err(Error::lost()));
         }
         self.next_on(rt)

@@ -4,7 +4,7 @@ ghost use Rattle.jwalk_job.specs.Job.{callback};
 ghost use Rattle.jwalk_core.specs.CrewReads as crew;
 ghost use Rattle.jwalk_core.specs.CrewReads.{IsSteadyCrew};
 ghost use Rattle.jwalk_core.specs.ReadAhead.{nothing_ahead};
-ghost use Rattle.jwalk_core.specs.Sources.{Base, source_by};
+ghost use Rattle.jwalk_core.specs.Sources.{Base, crew_base, source_by};
 ghost use Rattle.jwalk_core.specs.SourceFacts.{is_source_by};
 
 use crate::crew_reads::CrewReads;
@@ -27,7 +27,7 @@ impl<
 > Readings<C, A> for CrewReads<C, S, P, A, L> {
     ghost Base = { Base C S P A C.ReadDirState C.DirEntryState };
 
-    ghost base = { λ w. record { by_crew = true; job = crew.job_of w; width = 1 } };
+    ghost base = { crew_base };
 
     ghost source = { source_by S.FileSystem P.ProcessReadDir C.ReadDirState.Clone C.DirEntryState.Default };
 

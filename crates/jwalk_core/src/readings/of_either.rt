@@ -79,11 +79,6 @@ impl<
     }
 
     fn stop(&mut self) {
-        match self {
-            ReadDirIter::Walk(walk) => <BatchReads<C, S, P, A> as Readings<C, A>>::stop(walk),
-            ReadDirIter::CrewWalk(reads) => {
-                <CrewReads<C, S, P, A, L> as Readings<C, A>>::stop(reads)
-            }
-        }
+        ReadDirIter::stop(self);
     }
 }

@@ -18,7 +18,7 @@ returns-in-Ok-clause-next g c =
       reading = record {
         lawful = reading.lawful;
         few = reading.few;
-        value = (reading.value, λ given steady. c.in-Ok.ensures.value given (subst (λ l. IsSteadyOver g.S.FileSystem g.P.ProcessReadDir g.C.ReadDirState.Clone g.C.DirEntryState.Default g.L.Readers (job_of old) old.readers old.matcher l given) took steady));
+        value = record { told = reading.value; value = λ given steady. c.in-Ok.ensures.value given (subst (λ l. IsSteadyOver g.S.FileSystem g.P.ProcessReadDir g.C.ReadDirState.Clone g.C.DirEntryState.Default g.L.Readers (job_of old) old.readers old.matcher l given) took steady) };
       };
       stacks = c.in-Ok.ensures.stacks;
     }

@@ -5,10 +5,11 @@ use Rattle.jwalk_job.specs.Entry.{entry, item, children}
 use Rattle.jwalk_job.specs.ReadDir.{outcome}
 use Rattle.jwalk_core.specs.Entries.{items_of, source_of, unread_of, max_depth_of}
 use Rattle.jwalk_core.specs.Source.{IsKnown}
+use Rattle.jwalk_core.proofs.KnownFacts.{known_of}
 use Rattle.jwalk_core.proofs.StackFacts.{is_some-map}
 use Rattle.jwalk_core.proofs.ReceivedFacts.{popped}
 use Rattle.jwalk_core.proofs.ResultFacts.{none_ok, on_err, refused_not_lost, fewer_not_lost, passed_not_lost}
-use Rattle.jwalk_core.proofs.PassFacts.{passed_alone, passed_by_reading, known_in, at_read, tells_refused, tells_passed, stays_by}
+use Rattle.jwalk_core.proofs.PassFacts.{passed_alone, passed_by_reading, at_read, tells_refused, tells_passed, stays_by}
 use Rattle.jwalk_core.proofs.PlacedFacts.{placed_next}
 use Rattle.jwalk_core.proofs.entries.Entries.pass.Goals as goal
 
@@ -18,7 +19,7 @@ returns-in_ok-entered-in-Some-Ok g c =
     let read = c.read_next in
     let entered = c.in_ok-entered-in-Some-Ok.ensures in
     let items = popped old.items.items c.pop.new.self.items (Ok c.in-Some-Ok.found) (rw c.in-Some-Ok.field-0-is at c.in-Some-Ok.ensures.items) in
-    let next = known_in (source_of g.B.Readings old) (g.B.Readings.steady old.reads) (next_address (g.B.Readings.frontier old.reads)) (Ok (entry c.in-Some-Ok.found)) (unread_of g.B.Readings old) (option_map outcome c.in_ok-read-in-Some-Ok.read) (g.B.Readings.to_read read.new.self) (c.if-not-is_next.ensures.below refl) c.in_ok-read-in-Some-Ok.ensures.next in
+    let next = known_of (source_of g.B.Readings old) (IsKnown (source_of g.B.Readings old) (g.B.Readings.steady old.reads) (next_address (g.B.Readings.frontier old.reads))) (Ok (entry c.in-Some-Ok.found)) (unread_of g.B.Readings old) (option_map outcome c.in_ok-read-in-Some-Ok.read) (g.B.Readings.to_read read.new.self) (c.if-not-is_next.ensures.below refl) c.in_ok-read-in-Some-Ok.ensures.next in
     record {
       stays = stays_by g.B.Readings old c.entered.new.self read.new.self entered.reads entered.refused read.ensures.base read.ensures.most read.ensures.steady;
       end = tt;

@@ -1,5 +1,5 @@
 use Rattle.std.proofs.Common.{refl, ap, inl, arith}
-use Rattle.jwalk_core.proofs.PreparedByFacts.{readies, prepared_as, fails_at, same_base}
+use Rattle.jwalk_core.proofs.PreparedByFacts.{prepared_as, fails_at}
 use Rattle.jwalk_core.proofs.entries.on_threads.DirEntryIter+C+S+P+A+L.prepare_on.Goals as goal
 
 pub returns-then-not-is_at_directory : goal.returns-then-not-is_at_directory
@@ -10,13 +10,13 @@ returns-then-not-is_at_directory g c = record {
 
 pub returns : goal.returns
 returns g c =
-    let p = c.prepare_on.ensures in
+    let p = c.prepare_on.ensures.steps in
     let at = c.if-not-is_at_directory.ensures.yes refl in
     record {
       steps = record {
-        stays = record { base = same_base c.args.self.now.reads c.prepare_on.new.self p.crew p.job p.width; refused = refl; most = p.most; steady = p.steady };
-        prepared = prepared_as c.prepare_on.result (ap (λ r. record c.args.self.now { reads = r })) (λ r. record { at = at r.some; items = refl; same = r.same; frontier = r.frontier; ready = readies g.S.FileSystem g.P.ProcessReadDir g.C.ReadDirState.Clone g.C.DirEntryState.Default g.L.Readers c.args.self.now.reads c.prepare_on.new.self r }) p.prepared;
+        stays = record { base = p.base; refused = refl; most = p.most; steady = p.steady };
+        prepared = prepared_as c.prepare_on.result (ap (λ r. record c.args.self.now { reads = r })) (λ r. record { at = at r.some; items = refl; reads = r }) p.prepared;
         stopped = fails_at c.prepare_on.result at p.some;
       };
-      ready = λ here. p.ready;
+      ready = λ here. c.prepare_on.ensures.ready;
     }

@@ -1,7 +1,7 @@
 use Rattle.std.proofs.Common.{◌∙◌, map, sym}
 use Rattle.jwalk_job.specs.ReadDirSpec.{spec}
 use Rattle.jwalk_core.proofs.CrewSteadyFacts.{starts_steady}
-use Rattle.jwalk_core.proofs.GivesFacts.{alone_steady}
+use Rattle.jwalk_core.proofs.RestFacts.{alone_steady}
 use Rattle.jwalk_core.proofs.ResultFacts.{ok_none}
 use Rattle.jwalk_core.proofs.read_dir_iter.over_crew.ReadDirIter+C+S+P+A+Session+R+C+S+P+A.try_with_crew.Goals as goal
 
