@@ -10,7 +10,6 @@ use Rattle.std.proofs.lemmas.List.Elements.{All-nil, All-cons, All-head, All-tai
 use Rattle.std.proofs.lemmas.Option.{slice_get-map}
 use Rattle.jwalk.specs.jwalk_model.Counted.{Worth}
 use Rattle.jwalk.specs.jwalk_model.Error.{memory}
-use Rattle.jwalk.specs.jwalk_model.Job.{reading}
 use Rattle.jwalk.specs.jwalk_model.Preorder.{preorder}
 use Rattle.jwalk.specs.jwalk_model.ReadDir.{Spec, Outcome, children_of, IsClone, AreClones}
 use Rattle.jwalk.specs.jwalk_fs.declared.file_system.FileSystem as FileSystem
@@ -27,16 +26,15 @@ use Rattle.jwalk.specs.jwalk_job.ReadDirSpec.{spec}
 use Rattle.jwalk.specs.jwalk_job.Given.{Given, counted_spec, counted_outcome}
 use Rattle.jwalk.specs.jwalk_job.declared.job.Job.{Job}
 use Rattle.jwalk.specs.jwalk_job.declared.read_dir.ReadDir.{ReadDir}
-use Rattle.jwalk.specs.jwalk_job.Job.{IsReadingOf, greatest_depth, job_by}
+use Rattle.jwalk.specs.jwalk_job.Job.{IsReadingOf}
 use Rattle.jwalk.specs.jwalk_job.ReadDir.{outcome}
 use Rattle.jwalk.specs.jwalk_core.Message.{Message, IsLawfulMessage}
 use Rattle.jwalk.specs.jwalk_core.Wanted.{Fits}
 use Rattle.jwalk.specs.jwalk_core.declared.wanted.Wanted.{Wanted}
 use Rattle.jwalk.specs.jwalk_core.Due.{IsDue}
 use Rattle.jwalk.specs.jwalk_core.Origin.{Origin, CountAlike, IsAt, IsMessageOf}
-use Rattle.jwalk.specs.jwalk_core.declared.readers.Readers as Readers
-use Rattle.jwalk.specs.jwalk_core.declared.read_dir_iter.ReadDirIter.{ReadDirIter}
-use Rattle.jwalk.specs.ReadDirIter.{job_of, to_read, IsSteadyReads, Gives}
+use Rattle.jwalk.specs.jwalk_core.declared.readings.Readings as Readings
+use Rattle.jwalk.specs.jwalk_core.Gives.{Gives}
 use Rattle.jwalk.proofs.OriginFacts.{below_read, child_at}
 use Rattle.jwalk.proofs.DueFacts.{due_fits}
 use Rattle.jwalk.proofs.CopyFacts.{alike_copies}
@@ -172,15 +170,15 @@ refused_outcome : {R E : Type 0} (given : Given R E) (o : Outcome R E) → count
 refused_outcome given (Ok r) is = absurd cc
 refused_outcome given (Err f) is = let told : f ≡ memory = cc in ap Err told
 
-module _ {C S P A L R E : Type 0} (files : FileSystem.Ghosts S) (process : ProcessReadDir.Ghosts P C A R E) (clone : Clone.Ghosts R) (defaults : Default.Ghosts E) (readers : Readers.Ghosts L C S P A R E) (given : Given R E) where
-  -- the readings of what is to be read, by a job
-  abbrev Readings : Job C S P A R E → ReadDirIter C S P A L R E → List (Outcome Worth Worth)
-  Readings job it = preorder (reading (job_by files given job)) (greatest_depth job) (map (counted_spec given) (to_read it))
+module _ {C A B R E : Type 0} (readings : Readings.Ghosts B C A R E) (given : Given R E) where
+  -- the readings of what is to be read, from where they come
+  abbrev ToGive : readings.Base → B → List (Outcome Worth Worth)
+  ToGive base it = preorder ((readings.source base).reading given) (readings.source base).options.max_depth (map (counted_spec given) (readings.to_read it))
 
   -- calls give the readings in preorder, as long as memory doesn't run out
-  read_on : (xs : List (Result (ReadDir C A R E) (Error A))) (s t : ReadDirIter C S P A L R E) → IsSteadyReads files process clone defaults readers s given → Yields (Gives files process clone defaults readers false) s xs t → All (λ r. outcome r ≢ Err memory) xs
-      → (Readings (job_of s) s ≡ map (λ r. counted_outcome given (outcome r)) xs ++ Readings (job_of s) t) × (job_of t ≡ job_of s) × IsSteadyReads files process clone defaults readers t given
-  read_on [] s t steady same none = (ap (Readings (job_of s)) same, ap job_of (sym same), subst (λ k. IsSteadyReads files process clone defaults readers k given) same steady)
+  read_on : (xs : List (Result (ReadDir C A R E) (Error A))) (s t : B) → readings.steady s given → Yields (Gives readings (λ f. f ≡ memory)) s xs t → All (λ r. outcome r ≢ Err memory) xs
+      → (ToGive (readings.base s) s ≡ map (λ r. counted_outcome given (outcome r)) xs ++ ToGive (readings.base s) t) × (readings.base t ≡ readings.base s) × readings.steady t given
+  read_on [] s t steady same none = (ap (ToGive (readings.base s)) same, ap readings.base (sym same), subst (λ k. readings.steady k given) same steady)
   read_on (x ∷ xs) s t steady (j, step, rest) none =
       let plain : Result (ReadDir C A R E) (Error A) → Type 0 = λ r. outcome r ≢ Err memory in
       let more = read_on xs j t (step.steady given steady) rest (All-tail plain x xs none) in
@@ -188,16 +186,16 @@ module _ {C S P A L R E : Type 0} (files : FileSystem.Ghosts S) (process : Proce
       elim (step.preorder given steady) [
         | inl ends ↦ absurd (All-head plain x xs none (refused_outcome given (outcome x) (let told : counted_outcome given (outcome x) ≡ Err ends.0.error = cc in told ∙ ap Err ends.0.tells)))
         | inr first ↦ (
-          first ∙ ap (λ l. counted_outcome given (outcome x) ∷ l) (subst (λ k. Readings k j ≡ read ++ Readings k t) step.job more.0),
-          more.1 ∙ step.job,
+          first ∙ ap (λ l. counted_outcome given (outcome x) ∷ l) (subst (λ b. ToGive b j ≡ read ++ ToGive b t) step.base more.0),
+          more.1 ∙ step.base,
           more.2,
         )
       ]
 
   -- so calls up to `None` gave all of them
-  pub read_all : (xs : List (Result (ReadDir C A R E) (Error A))) (s t u : ReadDirIter C S P A L R E) → IsSteadyReads files process clone defaults readers s given → Yields (Gives files process clone defaults readers false) s xs t → Gives files process clone defaults readers false t None u → All (λ r. outcome r ≢ Err memory) xs
-      → map (λ r. counted_outcome given (outcome r)) xs ≡ Readings (job_of s) s
+  pub read_all : (xs : List (Result (ReadDir C A R E) (Error A))) (s t u : B) → readings.steady s given → Yields (Gives readings (λ f. f ≡ memory)) s xs t → Gives readings (λ f. f ≡ memory) t None u → All (λ r. outcome r ≢ Err memory) xs
+      → map (λ r. counted_outcome given (outcome r)) xs ≡ ToGive (readings.base s) s
   read_all xs s t u steady calls last none =
       let read = read_on xs s t steady calls none in
-      let over : Readings (job_of t) t ≡ [] = last.preorder given read.2 in
-      sym (read.0 ∙ ap (λ l. map (λ r. counted_outcome given (outcome r)) xs ++ l) (subst (λ k. Readings k t ≡ []) read.1 over) ∙ append-nil (map (λ r. counted_outcome given (outcome r)) xs))
+      let over : ToGive (readings.base t) t ≡ [] = last.preorder given read.2 in
+      sym (read.0 ∙ ap (λ l. map (λ r. counted_outcome given (outcome r)) xs ++ l) (subst (λ b. ToGive b t ≡ []) read.1 over) ∙ append-nil (map (λ r. counted_outcome given (outcome r)) xs))

@@ -1,5 +1,5 @@
 -- One call of an iterator over readings, case by case.
-use Rattle.std.proofs.Common.{◌≡◌, ◌≢◌, ◌∙◌, ◌<◌, ◌≤◌, ℕ, ◌+◌, List, [], ◌∷◌, ◌++◌, map, length, Option, Some, None, Result, Ok, Err, IfSome, inl, inr, refl, sym, ap, subst, arith}
+use Rattle.std.proofs.Common.{◌≡◌, ◌≢◌, ◌∙◌, ◌<◌, ◌≤◌, ℕ, ◌+◌, List, [], ◌∷◌, ◌++◌, map, length, Option, Some, None, Result, Err, IfSome, inl, inr, refl, sym, ap, arith}
 use Rattle.std.specs.Prelude.{option_map}
 use Rattle.std.proofs.lemmas.List.{map-append}
 use Rattle.jwalk_model.specs.Error.{Failure, memory, lost}
@@ -7,7 +7,6 @@ use Rattle.jwalk_model.specs.Entry.{Item}
 use Rattle.jwalk_model.specs.ReadDir.{Spec, Outcome, children_of}
 use Rattle.jwalk_model.specs.Preorder.{preorder}
 use Rattle.jwalk_model.specs.Held.{spec_weight}
-use Rattle.jwalk_model.specs.Counted.{Worth}
 use Rattle.jwalk_model.proofs.CloneFacts.{counted_clones}
 use Rattle.jwalk_model.proofs.CountedFacts.{counted-children_of, counted-IsLawfulReading}
 use Rattle.jwalk_model.proofs.PreorderFacts.{preorder-first, fewer_to_read, heavy_specs}
@@ -19,8 +18,8 @@ use Rattle.jwalk_job.specs.Given.{Given, counted_spec, counted_outcome}
 use Rattle.jwalk_core.specs.Reads.{ReadsFirstBy, ReadsNextBy}
 use Rattle.jwalk_core.specs.ReadAhead.{nothing_ahead}
 use Rattle.jwalk_core.specs.BatchReads.{PassesAddress}
-use Rattle.jwalk_core.specs.Source.{Source, IsSource, IsNextIn, EntersNextIn}
-use Rattle.jwalk_core.specs.Gives.{GivesError, GivesPreorder, GivesFirst, source_of, next_address, Known, KnownOf, Gives, GivesOf}
+use Rattle.jwalk_core.specs.Source.{Source, IsNextIn, EntersNextIn}
+use Rattle.jwalk_core.specs.Gives.{GivesError, GivesPreorder, GivesFirst, source_of, next_address, Known, Gives, GivesOf}
 use Rattle.jwalk_core.specs.declared.readings.Readings as Readings
 use Rattle.jwalk_core.proofs.KnownFacts.{gives_of}
 
@@ -90,9 +89,9 @@ module _ {C A B R E : Type 0} (readings : Readings.Ghosts B C A R E) (old new : 
         }
 
 -- where fewer errors may end readings, more may
-more_told : {R E : Type 0} (why more : Failure → Type 0) → ((f : Failure) → why f → more f) → (reading : Spec R → Outcome R E) (max_depth : ℕ) (old new : List (Spec R)) (given : Option (Outcome R E)) → GivesPreorder why reading max_depth old given new → GivesPreorder more reading max_depth old given new
-more_told why more within reading max_depth old new None gives = gives
-more_told why more within reading max_depth old new (Some given) gives = elim gives [
+more_told : {R E : Type 0} (why more : Failure → Type 0) → ((f : Failure) → why f → more f) → (reading : Spec R → Outcome R E) (deepest : ℕ) (old new : List (Spec R)) (given : Option (Outcome R E)) → GivesPreorder why reading deepest old given new → GivesPreorder more reading deepest old given new
+more_told why more within reading deepest old new None gives = gives
+more_told why more within reading deepest old new (Some given) gives = elim gives [
   | inl ends ↦ inl (record { error = ends.0.error; told = ends.0.told; tells = within ends.0.error ends.0.tells }, ends.1)
   | inr comes ↦ inr comes
 ]

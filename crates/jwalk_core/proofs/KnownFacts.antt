@@ -1,5 +1,5 @@
 -- What is known of readings, and why one is missed.
-use Rattle.std.proofs.Common.{◌≡◌, [], ◌∷◌, Option, Some, None, List, inl, inr, subst}
+use Rattle.std.proofs.Common.{◌≡◌, ◌∷◌, Option, Some, None, List, inl, inr}
 use Rattle.jwalk_model.specs.Error.{Failure, memory}
 use Rattle.jwalk_model.specs.Entry.{Item}
 use Rattle.jwalk_model.specs.ReadDir.{Spec, Outcome}

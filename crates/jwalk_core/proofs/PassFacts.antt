@@ -16,11 +16,11 @@ use Rattle.jwalk_core.specs.declared.readers.Missed.TheVariants.{Memory}
 use Rattle.jwalk_core.specs.CrewReads.{failure_of}
 use Rattle.jwalk_core.specs.BatchReads.{PassesAddress}
 use Rattle.jwalk_core.specs.Reads.{ReadsFirstBy, ReadsNextBy}
-use Rattle.jwalk_core.specs.Source.{Source, IsSource, IsKnown, IsNextIn, EntersNextIn}
-use Rattle.jwalk_core.specs.Step.{IsAtDirectory, Receives, PassesNext, passed_plainly, passed_entering, LeavesOut, none_left_out, one_left_out, ReadsUpTo}
+use Rattle.jwalk_core.specs.Source.{Source, IsSource, EntersNextIn}
+use Rattle.jwalk_core.specs.Step.{IsAtDirectory, Receives, PassesNext, passed_plainly, passed_entering, LeavesOut, none_left_out, one_left_out}
 use Rattle.jwalk_core.specs.declared.readings.Readings as Readings
 use Rattle.jwalk_core.specs.declared.entries.Entries.{Entries}
-use Rattle.jwalk_core.specs.Entries.{Position, ArePlaced, items_of, source_of, unread_of, position_of, min_depth_of, max_depth_of, Known, KnownAt, IsSteadyWalk, ReadsStaySteady, EntersDirectory, PassesOne, PassesMany, none_passed, one_passed, one_entered, GrowsAhead, Stays, Passes, GoesOn}
+use Rattle.jwalk_core.specs.Entries.{Position, ArePlaced, items_of, source_of, unread_of, position_of, min_depth_of, max_depth_of, Known, KnownAt, IsSteadyWalk, PassesOne, PassesMany, none_passed, one_passed, one_entered, Stays, Passes, GoesOn}
 use Rattle.jwalk_core.proofs.ResultFacts.{none_ok, on_err, fewer_not_lost, passed_not_lost}
 use Rattle.jwalk_core.proofs.AheadFacts.{alone_at, at_nothing, at_first, same_position}
 use Rattle.jwalk_core.proofs.PlacedFacts.{left_placed}

@@ -1,5 +1,5 @@
 -- The next item of a walk over any readings is prepared, and then passed.
-use Rattle.std.proofs.Common.{◌≡◌, ◌⊎◌, ◌∙◌, ◌∷◌, List, ℕ, map, reverse, length, Option, Some, None, Result, Ok, Err, IsErr, IsErrAnd, inl, inr, refl, sym, ap, subst, arith, ⊎_elim}
+use Rattle.std.proofs.Common.{◌≡◌, ◌∙◌, List, ℕ, map, reverse, length, Option, Some, None, Result, Ok, Err, IsErr, IsErrAnd, inl, inr, sym, ap, subst, ⊎_elim}
 use Rattle.jwalk_model.specs.Entry.{Item}
 use Rattle.jwalk_model.specs.ReadDir.{Spec, children_of}
 use Rattle.jwalk_order.specs.Frontier as order
@@ -8,7 +8,6 @@ use Rattle.jwalk_job.specs.declared.error.Error.{Error}
 use Rattle.jwalk_job.specs.declared.dir_entry.DirEntry.{DirEntry}
 use Rattle.jwalk_job.specs.Entry.{item}
 use Rattle.jwalk_job.specs.Given.{Given}
-use Rattle.jwalk_core.specs.ReadAhead.{ReadAhead}
 use Rattle.jwalk_core.specs.Reads.{ReadsFirstBy}
 use Rattle.jwalk_core.specs.declared.readers.Missed.{Missed}
 use Rattle.jwalk_core.specs.declared.readers.Missed.TheVariants.{Memory}

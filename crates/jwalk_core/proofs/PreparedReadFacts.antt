@@ -1,6 +1,5 @@
 -- The next reading is prepared, and then read.
-use Rattle.std.proofs.Common.{◌≡◌, ◌∙◌, ◌≤◌, ℕ, ◌+◌, List, ◌∷◌, length, map, Option, Some, None, Result, Ok, Err, inl, inr, sym, ap, subst, arith, ⊎_elim}
-use Rattle.std.specs.Prelude.{option_map}
+use Rattle.std.proofs.Common.{◌≡◌, ◌∙◌, ◌≤◌, ◌+◌, length, map, Option, Some, None, Result, Ok, Err, inl, inr, sym, ap, subst, arith, ⊎_elim}
 use Rattle.jwalk_model.specs.Error.{memory}
 use Rattle.jwalk_model.specs.ReadDir.{Spec, Outcome, IsLawfulReading, AreClones, children_of}
 use Rattle.jwalk_order.specs.Frontier as order
@@ -10,7 +9,7 @@ use Rattle.jwalk_job.specs.declared.read_dir.ReadDir.{ReadDir}
 use Rattle.jwalk_job.specs.ReadDir.{outcome}
 use Rattle.jwalk_job.specs.Given.{Given, counted_spec, counted_outcome}
 use Rattle.jwalk_core.specs.Reads.{ReadsNextBy}
-use Rattle.jwalk_core.specs.Source.{Source, IsSource}
+use Rattle.jwalk_core.specs.Source.{Source}
 use Rattle.jwalk_core.specs.Gives.{GivesError, GivesPreorder, GivesFirst, EntersFirst, PassesFirst, source_of, next_address, Known, Readies, Prepares, Gives}
 use Rattle.jwalk_core.specs.declared.readings.Readings as Readings
 use Rattle.jwalk_core.proofs.GivesFacts.{gives_stopped}

@@ -1,13 +1,6 @@
 -- What is said of a call that may fail.
-use Rattle.std.proofs.Common.{◌≡◌, ℕ, true, false, List, Option, Some, None, Result, Ok, Err, IfOk, IfErr, IsErr, IsErrAnd, OnErr, OnOk, IfSome, OnSome, inl, inr, refl, sym, subst, arith}
-use Rattle.std.specs.Prelude.{option_map}
-use Rattle.std.specs.declared.clone.Clone as Clone
-use Rattle.std.specs.declared.default.Default as Default
-use Rattle.jwalk_fs.specs.declared.file_system.FileSystem as FileSystem
-use Rattle.jwalk_job.specs.declared.process_read_dir.ProcessReadDir as ProcessReadDir
-use Rattle.jwalk_job.specs.declared.job.Job.{Job}
+use Rattle.std.proofs.Common.{◌≡◌, true, false, Option, Some, None, Result, Ok, Err, IfOk, IfErr, IsErr, IsErrAnd, OnErr, OnOk, IfSome, OnSome, inl, inr, refl, sym, subst}
 use Rattle.jwalk_job.specs.Given.{Given}
-use Rattle.jwalk_core.specs.ReadAhead.{nothing_ahead}
 use Rattle.jwalk_core.specs.declared.readers.Missed.{Missed}
 use Rattle.jwalk_core.specs.declared.readers.Missed.TheVariants.{Memory, Lost}
 use Rattle.jwalk_core.specs.CrewReads.{failure_of, NotLost}

@@ -1,5 +1,5 @@
 -- Readings that are given one by one, over a source.
-use Rattle.std.proofs.Common.{◌≡◌, ◌≤◌, ℕ, true, refl, arith, List, Option, Some, None, Result, Ok, Err, IfOk}
+use Rattle.std.proofs.Common.{ℕ, true, refl, arith, List, Option, Some, None, Result, Ok, Err, IfOk}
 use Rattle.std.specs.Prelude.{option_map}
 use Rattle.std.specs.declared.clone.Clone as Clone
 use Rattle.jwalk_model.specs.ReadDir.{Spec, Outcome}

@@ -1,5 +1,5 @@
 -- What a walk begins with.
-use Rattle.std.proofs.Common.{◌≡◌, ◌∙◌, ◌≤◌, ℕ, Bool, false, true, [], ◌∷◌, ◌++◌, List, map, append-nil, Ok, Err, Option, Some, None, refl, sym, ap, subst, arith}
+use Rattle.std.proofs.Common.{◌≡◌, ◌∙◌, ℕ, Bool, false, true, [], ◌∷◌, ◌++◌, List, map, append-nil, Ok, Err, refl, sym, ap, subst, arith}
 use Rattle.std.specs.declared.clone.Clone as Clone
 use Rattle.std.specs.declared.default.Default as Default
 use Rattle.jwalk_model.specs.Error.{memory}

@@ -1,5 +1,5 @@
 -- What an iterator over readings gives, and what preparing one does.
-use Rattle.std.specs.Prelude.{◌≡◌, ◌≢◌, ◌≤◌, ◌+◌, ◌⊎◌, ℕ, length, List, [], map, Option, Some, None, option_map, Result, Err, OnOk, OnErr}
+use Rattle.std.specs.Prelude.{◌≡◌, ◌≢◌, ◌≤◌, ◌+◌, ◌⊎◌, ◌∷◌, ℕ, length, List, [], map, Option, Some, None, option_map, Result, Err, OnOk, OnErr}
 use Rattle.jwalk_model.specs.Error.{Failure, memory}
 use Rattle.jwalk_model.specs.Entry.{Item}
 use Rattle.jwalk_model.specs.ReadDir.{Spec, Outcome}

@@ -1,5 +1,5 @@
 -- What an iterator over readings that a crew may make still has to read, and what it gives.
-use Rattle.std.specs.Prelude.{◌≡◌, ◌⊎◌, Bool, true, false, List, [], Option, Result, OnOk}
+use Rattle.std.specs.Prelude.{◌≡◌, Option, Result}
 use Rattle.std.specs.declared.clone.Clone as Clone
 use Rattle.std.specs.declared.default.Default as Default
 use Rattle.jwalk_model.specs.Error.{memory}

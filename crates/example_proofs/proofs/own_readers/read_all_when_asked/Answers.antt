@@ -15,7 +15,7 @@ returns g c = λ fixed plain.
     let begun = c.in_ok-read-items.ensures in
     let fixed_there = subst g.S.FileSystem.IsFixed (sym (ap file_system begun.job)) fixed in
     ap (map (λ r. counted_outcome stateless (outcome r))) c.loop-read.invariant
-    ∙ read_all _ _ _ _ _ stateless c.loop-read.yielded reads c.loop-read.read-iterator c.next.new.self
+    ∙ read_all _ stateless c.loop-read.yielded reads c.loop-read.read-iterator c.next.new.self
     (begun.steady stateless (record { file_system = fixed_there; callback = λ depth path state list. refl; clones = λ x y is. refl; default = λ x is. refl }))
     (rw (sym c.into_iter-read-iterator.ensures.into_iter_gives) c.loop-read.yielded_by)
     c.in-None.ensures.steps

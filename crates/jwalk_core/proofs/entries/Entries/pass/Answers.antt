@@ -1,4 +1,4 @@
-use Rattle.std.proofs.Common.{◌≡◌, ◌∙◌, [], Ok, Err, inl, inr, map, reverse, refl, rules, sym, ap, subst, arith}
+use Rattle.std.proofs.Common.{◌∙◌, Ok, map, reverse, refl}
 use Rattle.std.specs.Prelude.{option_map}
 use Rattle.jwalk_order.specs.Frontier.{next_address}
 use Rattle.jwalk_job.specs.Entry.{entry, item, children}
@@ -9,8 +9,7 @@ use Rattle.jwalk_core.proofs.KnownFacts.{known_of}
 use Rattle.jwalk_core.proofs.StackFacts.{is_some-map}
 use Rattle.jwalk_core.proofs.ReceivedFacts.{popped}
 use Rattle.jwalk_core.proofs.ResultFacts.{none_ok, on_err, refused_not_lost, fewer_not_lost, passed_not_lost}
-use Rattle.jwalk_core.proofs.PassFacts.{passed_alone, passed_by_reading, at_read, tells_refused, tells_passed, stays_by}
-use Rattle.jwalk_core.proofs.PlacedFacts.{placed_next}
+use Rattle.jwalk_core.proofs.PassFacts.{passed_by_reading, at_read, tells_refused, tells_passed, stays_by}
 use Rattle.jwalk_core.proofs.entries.Entries.pass.Goals as goal
 
 pub returns-in_ok-entered-in-Some-Ok : goal.returns-in_ok-entered-in-Some-Ok

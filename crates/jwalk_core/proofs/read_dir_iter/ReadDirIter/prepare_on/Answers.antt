@@ -1,6 +1,6 @@
 use Rattle.std.proofs.Common.{refl, ap, inl, arith}
 use Rattle.jwalk_core.specs.declared.read_dir_iter.ReadDirIter.TheVariants.{Walk}
-use Rattle.jwalk_core.proofs.PreparedByFacts.{batches_ready, prepared_as, prepared_ready, same_base}
+use Rattle.jwalk_core.proofs.PreparedByFacts.{same_batches, batches_ready, prepared_as, prepared_ready}
 use Rattle.jwalk_core.proofs.read_dir_iter.ReadDirIter.prepare_on.Goals as goal
 
 pub returns-in-Walk : goal.returns-in-Walk
@@ -9,7 +9,7 @@ returns-in-Walk g c =
     rw c.in-Walk.is
     (record {
       steps = record {
-        base = same_base (Walk c.in-Walk.walk) (Walk c.prepare_on.new.self) refl p.job p.width;
+        base = same_batches g.S.FileSystem g.P.ProcessReadDir g.C.ReadDirState.Clone g.C.DirEntryState.Default g.L.Readers c.in-Walk.walk c.prepare_on.new.self p.job p.width;
         wide = p.wide;
         most = omega arith;
         steady = p.steady;
@@ -18,7 +18,7 @@ returns-in-Walk g c =
         stopped = p.stopped;
         nothing = p.nothing_ahead;
       };
-      ready = prepared_ready c.prepare_on.result p.ready;
+      ready = prepared_ready _ _ c.prepare_on.result p.ready;
     })
 
 pub returns-in-CrewWalk : goal.returns-in-CrewWalk
