@@ -1,7 +1,7 @@
 -- One call of the `next` of a walk over any readings, case by case.
-use Rattle.std.proofs.Common.{◌≡◌, ◌∙◌, ◌<◌, ◌≤◌, ℕ, Bool, true, false, List, [], ◌∷◌, ◌++◌, map, length, Option, Some, None, Result, Ok, Err, subst, inl, inr, refl, sym, ap, arith}
+use Rattle.std.proofs.Common.{◌≡◌, ◌∙◌, ◌<◌, ℕ, Bool, true, false, List, [], ◌∷◌, ◌++◌, map, length, Option, Some, None, Result, Err, subst, inl, inr, refl, sym, ap, arith}
 use Rattle.std.specs.Prelude.{option_map}
-use Rattle.jwalk_model.specs.Error.{Failure, memory}
+use Rattle.jwalk_model.specs.Error.{memory}
 use Rattle.jwalk_model.specs.Entry.{Item, NoDeeper}
 use Rattle.jwalk_model.specs.ReadDir.{Spec, Outcome}
 use Rattle.jwalk_model.specs.Counted.{Worth}
@@ -21,7 +21,7 @@ use Rattle.jwalk_core.specs.ReadAhead.{nothing_ahead}
 use Rattle.jwalk_core.specs.Source.{Source}
 use Rattle.jwalk_core.specs.declared.readings.Readings as Readings
 use Rattle.jwalk_core.specs.declared.entries.Entries.{Entries}
-use Rattle.jwalk_core.specs.Entries.{refusal, items_of, held_with, counted_with, AreAllSourced, source_of, unread_of, min_depth_of, max_depth_of, held, held_by, to_come, IsSourced, Stops, ArePlaced, IsSteadyWalk, Known, Stays, StaysSteady, GrowsAhead, Answers}
+use Rattle.jwalk_core.specs.Entries.{refusal, items_of, held_with, counted_with, AreAllSourced, source_of, unread_of, max_depth_of, held, held_by, to_come, IsSourced, Stops, ArePlaced, IsSteadyWalk, Known, Stays, StaysSteady, GrowsAhead, Answers}
 use Rattle.jwalk_core.proofs.PlacedFacts.{answered_placed, unread_placed}
 use Rattle.jwalk_core.proofs.StepFacts.{next_within, next_lighter, next_count, next_plain, next_listed, left_within, left_lighter, left_count, left_plain, left_to_come}
 

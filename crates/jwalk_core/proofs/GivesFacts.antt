@@ -133,4 +133,3 @@ lost_asked readings old new asked error is tells wide some other base most stead
 pub some_of : {X Y : Type 0} (P : Type 0) (f : X → Y) (o : Option X) → IfSome (option_map f o) (λ _. P) → IfSome o (λ _. P)
 some_of P f None h = tt
 some_of P f (Some x) h = h
-

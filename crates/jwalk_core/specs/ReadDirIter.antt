@@ -12,7 +12,6 @@ use Rattle.jwalk_core.specs.Gives as any
 use Rattle.jwalk_core.specs.ReadingsBy.{readings_by}
 use Rattle.jwalk_core.specs.declared.readers.Readers as Readers
 use Rattle.jwalk_core.specs.declared.read_dir_iter.ReadDirIter.{ReadDirIter}
-
 pub use Rattle.jwalk_core.specs.ReadBy.{by_crew, job_of, to_read, width_of, read_ahead, early_of, frontier_of, next_address, most_ahead, CountsAhead, Tells, EntersBy, IsSteadyReads, StartsSteady, StaysSteady}
 
 module _ {C S P A L R E : Type 0} (files : FileSystem.Ghosts S) (process : ProcessReadDir.Ghosts P C A R E) (clone : Clone.Ghosts R) (defaults : Default.Ghosts E) (readers : Readers.Ghosts L C S P A R E) where

@@ -1,5 +1,5 @@
 -- What readings come from, as far as a walk over them is concerned. It stays the same while they are read.
-use Rattle.std.specs.Prelude.{◌≡◌, ◌≤◌, ◌+◌, ◌⊎◌, ℕ, length, List, [], ◌∷◌, Option, Some, None, Ok}
+use Rattle.std.specs.Prelude.{◌≡◌, ◌≤◌, ◌+◌, ℕ, length, List, [], ◌∷◌, Option, Some, None, Ok}
 use Rattle.jwalk_model.specs.Error.{Failure, memory}
 use Rattle.jwalk_model.specs.Options.{Options}
 use Rattle.jwalk_model.specs.Entry.{Entry, Children, Item}

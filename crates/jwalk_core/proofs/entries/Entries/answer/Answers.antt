@@ -1,5 +1,4 @@
-use Rattle.std.proofs.Common.{◌∙◌, ◌≡◌, sym, subst}
-use Rattle.jwalk_job.specs.Error.{failure}
+use Rattle.std.proofs.Common.{sym, subst}
 use Rattle.jwalk_core.specs.Entries.{source_of}
 use Rattle.jwalk_core.proofs.KnownFacts.{told_refused}
 use Rattle.jwalk_core.proofs.PassFacts.{stays_on}
