@@ -13,6 +13,7 @@ pub mod hands_on_names;
 pub mod in_memory;
 pub mod marked;
 pub mod numbers;
+pub mod over_readings;
 pub mod own_readers;
 pub mod root_alone;
 pub mod skipping;

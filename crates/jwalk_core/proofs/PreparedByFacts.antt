@@ -7,7 +7,9 @@ use Rattle.jwalk_fs.specs.declared.file_system.FileSystem as FileSystem
 use Rattle.jwalk_job.specs.declared.process_read_dir.ProcessReadDir as ProcessReadDir
 use Rattle.jwalk_core.specs.declared.readers.Readers as Readers
 use Rattle.jwalk_core.specs.declared.read_dir_iter.ReadDirIter.{ReadDirIter}
-use Rattle.jwalk_core.specs.declared.read_dir_iter.ReadDirIter.TheVariants.{Walk}
+use Rattle.jwalk_core.specs.declared.read_dir_iter.ReadDirIter.TheVariants.{Walk, CrewWalk}
+use Rattle.jwalk_core.specs.declared.crew_reads.CrewReads.{CrewReads}
+use Rattle.jwalk_core.specs.CrewReads.{job_of as crew_job_of}
 use Rattle.jwalk_core.specs.BatchReads.{BatchReads, next_of, read_ahead, ReadsForNext}
 use Rattle.jwalk_core.specs.ReadBy.{by_crew, job_of, width_of}
 use Rattle.jwalk_core.specs.Sources.{base_of}
@@ -22,6 +24,10 @@ module _ {C S P A L R E : Type 0} (files : FileSystem.Ghosts S) (process : Proce
   -- what stays the same is the same for a walk's own batches
   pub same_batches : (old new : BatchReads C S P A R E) → new.job ≡ old.job → new.width ≡ old.width → (readings_by files process clone defaults readers).base (Walk new) ≡ (readings_by files process clone defaults readers).base (Walk old)
   same_batches old new job width = same_base {L = L} (Walk old) (Walk new) refl job width
+
+  -- and for a crew's readings
+  pub same_crews : (old new : CrewReads C S P A L R E) → crew_job_of new ≡ crew_job_of old → (readings_by files process clone defaults readers).base (CrewWalk new) ≡ (readings_by files process clone defaults readers).base (CrewWalk old)
+  same_crews old new job = same_base (CrewWalk old) (CrewWalk new) refl job refl
 
   -- a walk's own batches are made ready
   pub batches_ready : (old new : BatchReads C S P A R E) → ReadsForNext files process clone defaults old new → Readies (readings_by files process clone defaults readers) (Walk old) (Walk new)

@@ -72,6 +72,7 @@ impl<
     ghost use Rattle.jwalk_job.specs.Options.{mode_value};
     ghost use Rattle.jwalk_core.specs.ReadAhead.{nothing_ahead, BeginsWith};
     ghost use Rattle.jwalk_core.specs.ReadDirIter.{by_crew, job_of, to_read, width_of, read_ahead, early_of, frontier_of, most_ahead, CountsAhead, StaysSteady, Gives, GivesOf};
+    ghost use Rattle.jwalk_core.specs.Sources.{base_of};
 
     pub(crate) fn new(alloc: A, job: Job<C, S, P, A>, mode: Mode) -> Self
         ensures own { by_crew result ≡ false }
@@ -86,9 +87,7 @@ impl<
 
     pub(crate) fn begin(&mut self, roots: Vec<ReadDirSpec<C, A>, A>) -> Result<(), AllocError>
         requires { by_crew self.old ≡ false }
-        ensures own { by_crew self.new ≡ false }
-        ensures job { job_of self.new ≡ job_of self.old }
-        ensures width { width_of self.new ≡ width_of self.old }
+        ensures base { base_of self.new ≡ base_of self.old }
         ensures to_read { OnOk result (to_read self.new ≡ map spec roots.items) }
         ensures read_ahead { OnOk result (BeginsWith (map spec roots.items) (frontier_of self.new)
             (read_ahead self.new)) }
@@ -175,9 +174,7 @@ impl<
     }
 
     pub(crate) fn stop(&mut self)
-        ensures crew { by_crew self.new ≡ by_crew self.old }
-        ensures job { job_of self.new ≡ job_of self.old }
-        ensures width { width_of self.new ≡ width_of self.old }
+        ensures base { base_of self.new ≡ base_of self.old }
         ensures to_read { to_read self.new ≡ [] }
         ensures read_ahead { read_ahead self.new ≡ nothing_ahead }
         ensures frontier { by_crew self.old ≡ false → frontier_of self.new ≡ [] }

@@ -28,7 +28,8 @@ impl<
     ghost use Rattle.jwalk_job.specs.Options as options;
     ghost use Rattle.jwalk_job.specs.Job.{options_of};
     ghost use Rattle.jwalk_core.specs.ReadAhead.{BeginsWith};
-    ghost use Rattle.jwalk_core.specs.DirEntryIter.{by_crew, is_refused, job_of, items_of, unread_of, width_of, frontier_of, read_ahead, held_by, IsWithin, IsSourced, IsRefused};
+    ghost use Rattle.jwalk_core.specs.Sources.{base_of};
+    ghost use Rattle.jwalk_core.specs.DirEntryIter.{reads_of, by_crew, is_refused, job_of, items_of, unread_of, width_of, frontier_of, read_ahead, held_by, IsWithin, IsSourced, IsRefused};
 
     /// Returns a walk whose start ran out of memory: it yields the error that reports it, and nothing else. The call
     /// itself needs no memory.
@@ -51,13 +52,11 @@ impl<
 
     fn begin(&mut self, read: ReadDir<C, A>) -> Result<(), AllocError>
         requires { by_crew self.old ≡ false }
-        ensures own { by_crew self.new ≡ false }
-        ensures job { job_of self.new ≡ job_of self.old }
+        ensures base { base_of (reads_of self.new) ≡ base_of (reads_of self.old) }
         ensures refused { self.new.refused ≡ self.old.refused }
         ensures items { OnOk result (items_of self.new ≡ (reading read).list ++ items_of self.old) }
         ensures children { OnOk result (AreClones C.ReadDirState.is_clone
             (children (reading read)) (unread_of self.new)) }
-        ensures width { width_of self.new ≡ width_of self.old }
         ensures ahead { OnOk result (BeginsWith (unread_of self.new) (frontier_of self.new) (read_ahead self.new)) }
     {
         self.reads.begin(read.read_children_specs()?)?;

@@ -1,11 +1,11 @@
-use Rattle.std.proofs.Common.{◌∙◌}
+use Rattle.std.proofs.Common.{◌∙◌, ap}
 use Rattle.jwalk_core.proofs.read_dir_iter.ReadDirIter.alone.Goals as goal
 
 pub returns-in-Ok : goal.returns-in-Ok
 returns-in-Ok g c = record {
-  own = c.begin.ensures.own;
-  job = c.begin.ensures.job ∙ c.new-reads.ensures.job;
-  width = c.begin.ensures.width ∙ c.new-reads.ensures.width;
+  own = ap (λ b. b.by_crew) c.begin.ensures.base ∙ c.new-reads.ensures.own;
+  job = ap (λ b. b.job) c.begin.ensures.base ∙ c.new-reads.ensures.job;
+  width = ap (λ b. b.width) c.begin.ensures.base ∙ c.new-reads.ensures.width;
   to_read = c.in-Ok.ensures.to_read;
   read_ahead = c.in-Ok.ensures.read_ahead;
   memory = tt;

@@ -1,28 +1,25 @@
 use Rattle.std.proofs.Common.{◌∙◌, refl, sym, ap, subst}
 use Rattle.jwalk_core.specs.ReadAhead.{BeginsWith}
 use Rattle.jwalk_core.specs.ReadDirIter as readings
+use Rattle.jwalk_core.specs.Sources.{base_of}
 use Rattle.jwalk_core.proofs.ResultFacts.{none_on_ok}
 use Rattle.jwalk_core.proofs.entries.starts.DirEntryIter+C+S+P+A+L.begin.Goals as goal
 
 pub returns-in_err-read_children_specs : goal.returns-in_err-read_children_specs
 returns-in_err-read_children_specs g c = record {
-  own = c.requires;
-  job = refl;
+  base = refl;
   refused = refl;
   items = none_on_ok _ c.from_residual.result c.from_residual.ensures.0;
   children = none_on_ok _ c.from_residual.result c.from_residual.ensures.0;
-  width = refl;
   ahead = none_on_ok _ c.from_residual.result c.from_residual.ensures.0;
 }
 
 pub returns-in_err-begin : goal.returns-in_err-begin
 returns-in_err-begin g c = record {
-  own = c.begin.ensures.own;
-  job = c.begin.ensures.job;
+  base = c.begin.ensures.base;
   refused = refl;
   items = none_on_ok _ c.from_residual-in_err-begin.result c.from_residual-in_err-begin.ensures.0;
   children = none_on_ok _ c.from_residual-in_err-begin.result c.from_residual-in_err-begin.ensures.0;
-  width = c.begin.ensures.width;
   ahead = none_on_ok _ c.from_residual-in_err-begin.result c.from_residual-in_err-begin.ensures.0;
 }
 
@@ -30,29 +27,21 @@ pub returns-in_err-receive : goal.returns-in_err-receive
 returns-in_err-receive g c =
     let received = c.in_err-receive.ensures in
     record {
-      own = ap readings.by_crew received.reads ∙ c.begin.ensures.own;
-      job = ap readings.job_of received.reads ∙ c.begin.ensures.job;
+      base = ap base_of received.reads ∙ c.begin.ensures.base;
       refused = received.refused;
       items = none_on_ok _ c.from_residual-in_err-receive.result c.from_residual-in_err-receive.ensures.0;
       children = none_on_ok _ c.from_residual-in_err-receive.result c.from_residual-in_err-receive.ensures.0;
-      width = ap readings.width_of received.reads ∙ c.begin.ensures.width;
       ahead = none_on_ok _ c.from_residual-in_err-receive.result c.from_residual-in_err-receive.ensures.0;
     }
 
-pub returns-clause-own : goal.returns-clause-own
-returns-clause-own g c = ap readings.by_crew c.in_ok-receive.ensures.reads ∙ c.begin.ensures.own
-
-pub returns-clause-job : goal.returns-clause-job
-returns-clause-job g c = ap readings.job_of c.in_ok-receive.ensures.reads ∙ c.begin.ensures.job
+pub returns-clause-base : goal.returns-clause-base
+returns-clause-base g c = ap base_of c.in_ok-receive.ensures.reads ∙ c.begin.ensures.base
 
 pub returns-clause-refused : goal.returns-clause-refused
 returns-clause-refused g c = c.in_ok-receive.ensures.refused
 
 pub returns-clause-items : goal.returns-clause-items
 returns-clause-items g c = c.in_ok-receive.ensures.items
-
-pub returns-clause-width : goal.returns-clause-width
-returns-clause-width g c = ap readings.width_of c.in_ok-receive.ensures.reads ∙ c.begin.ensures.width
 
 pub returns-clause-ahead : goal.returns-clause-ahead
 returns-clause-ahead g c =

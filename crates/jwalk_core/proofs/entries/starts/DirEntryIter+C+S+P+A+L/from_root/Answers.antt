@@ -44,10 +44,10 @@ pub returns-in_default-clause-held : goal.returns-in_default-clause-held
 returns-in_default-clause-held g c = λ given counts started. absurd (let no : true ≡ false = sym c.refused-walk.ensures.refused ∙ started in cc)
 
 pub returns-in-Ok-clause-own : goal.returns-in-Ok-clause-own
-returns-in-Ok-clause-own g c = c.begin.ensures.own
+returns-in-Ok-clause-own g c = ap (λ b. b.by_crew) c.begin.ensures.base ∙ c.refused-walk.ensures.own
 
 pub returns-in-Ok-clause-job : goal.returns-in-Ok-clause-job
-returns-in-Ok-clause-job g c = c.begin.ensures.job ∙ c.refused-walk.ensures.job
+returns-in-Ok-clause-job g c = ap (λ b. b.job) c.begin.ensures.base ∙ c.refused-walk.ensures.job
 
 pub returns-in-Ok-clause-refused : goal.returns-in-Ok-clause-refused
 returns-in-Ok-clause-refused g c = λ refused. absurd cc
@@ -61,16 +61,16 @@ returns-in-Ok-clause-list g c = λ started.
     (c.in-Ok.ensures.items ∙ ap (λ l. (reading c.in-Some.read).list ++ l) c.refused-walk.ensures.items ∙ append-nil (reading c.in-Some.read).list)
 
 pub returns-in-Ok-clause-width : goal.returns-in-Ok-clause-width
-returns-in-Ok-clause-width g c = c.begin.ensures.width ∙ c.refused-walk.ensures.width
+returns-in-Ok-clause-width g c = ap (λ b. b.width) c.begin.ensures.base ∙ c.refused-walk.ensures.width
 
 pub returns-in-Ok-clause-ahead : goal.returns-in-Ok-clause-ahead
 returns-in-Ok-clause-ahead g c = c.in-Ok.ensures.ahead
 
 pub returns-in-Err-clause-own : goal.returns-in-Err-clause-own
-returns-in-Err-clause-own g c = c.stop.ensures.crew ∙ c.begin.ensures.own
+returns-in-Err-clause-own g c = ap (λ b. b.by_crew) (c.stop.ensures.base ∙ c.begin.ensures.base) ∙ c.refused-walk.ensures.own
 
 pub returns-in-Err-clause-job : goal.returns-in-Err-clause-job
-returns-in-Err-clause-job g c = c.stop.ensures.job ∙ c.begin.ensures.job ∙ c.refused-walk.ensures.job
+returns-in-Err-clause-job g c = ap (λ b. b.job) (c.stop.ensures.base ∙ c.begin.ensures.base) ∙ c.refused-walk.ensures.job
 
 pub returns-in-Err-clause-depth : goal.returns-in-Err-clause-depth
 returns-in-Err-clause-depth g c = λ started. absurd (let no : true ≡ false = sym (c.begin.ensures.refused ∙ c.refused-walk.ensures.refused) ∙ started in cc)
@@ -79,10 +79,10 @@ pub returns-in-Err-clause-list : goal.returns-in-Err-clause-list
 returns-in-Err-clause-list g c = λ started. absurd (let no : true ≡ false = sym (c.begin.ensures.refused ∙ c.refused-walk.ensures.refused) ∙ started in cc)
 
 pub returns-in-Err-clause-width : goal.returns-in-Err-clause-width
-returns-in-Err-clause-width g c = c.stop.ensures.width ∙ c.begin.ensures.width ∙ c.refused-walk.ensures.width
+returns-in-Err-clause-width g c = ap (λ b. b.width) (c.stop.ensures.base ∙ c.begin.ensures.base) ∙ c.refused-walk.ensures.width
 
 pub returns-in-Err-clause-ahead : goal.returns-in-Err-clause-ahead
-returns-in-Err-clause-ahead g c = begins_with_none _ _ _ c.stop.ensures.to_read (c.stop.ensures.frontier c.begin.ensures.own) c.stop.ensures.read_ahead
+returns-in-Err-clause-ahead g c = begins_with_none _ _ _ c.stop.ensures.to_read (c.stop.ensures.frontier (ap (λ b. b.by_crew) c.begin.ensures.base ∙ c.refused-walk.ensures.own)) c.stop.ensures.read_ahead
 
 pub returns-in-Err-clause-held : goal.returns-in-Err-clause-held
 returns-in-Err-clause-held g c = λ given counts started. absurd (let no : true ≡ false = sym (c.begin.ensures.refused ∙ c.refused-walk.ensures.refused) ∙ started in cc)

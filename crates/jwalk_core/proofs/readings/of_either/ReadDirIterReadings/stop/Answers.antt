@@ -1,12 +1,11 @@
 use Rattle.std.proofs.Common.{arith}
-use Rattle.jwalk_core.proofs.PreparedByFacts.{same_base}
 use Rattle.jwalk_core.proofs.readings.of_either.ReadDirIterReadings.stop.Goals as goal
 
 pub returns : goal.returns
 returns g c =
     let stopped = c.stop.ensures in
     record {
-      base = same_base c.args.self.now c.stop.new.self stopped.crew stopped.job stopped.width;
+      base = stopped.base;
       to_read = stopped.to_read;
       read_ahead = stopped.read_ahead;
       most = omega (arith, stopped.most);
