@@ -38,7 +38,7 @@ use Rattle.jwalk_core.proofs.FillFacts.{stays_steady, come}
 
 module _ {C A R E : Type 0} where
   -- answers that end with the error that says that memory ran out say so
-  end_told : (xs : List (Result (DirEntry C A R E) (Error A))) (before : List (Item R E)) → map item xs ≡ before ++ Err memory ∷ [] → NoneRefused xs → ⊥
+  pub end_told : (xs : List (Result (DirEntry C A R E) (Error A))) (before : List (Item R E)) → map item xs ≡ before ++ Err memory ∷ [] → NoneRefused xs → ⊥
   end_told [] [] is none = absurd cc
   end_told [] (b ∷ before) is none = absurd cc
   end_told (x ∷ xs) [] is none = let told : Err memory ≡ item x = cc in none.0 (subst TellsMemory told refl)
