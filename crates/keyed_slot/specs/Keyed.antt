@@ -4,7 +4,7 @@ use Rattle.keyed_slot.specs.declared.slot.KeyedSlot.{KeyedSlot}
 use Rattle.keyed_slot.specs.declared.slot.Key.{Key}
 use Rattle.keyed_slot.specs.declared.slot.Loan.{Loan}
 use Rattle.keyed_slot.specs.declared.slot.Receipt.{Receipt}
-use Rattle.keyed_slot.specs.declared.slot.Absence.{Absence}
+use Rattle.keyed_slot.specs.declared.slot.Empty.{Empty}
 
 -- A seat that has the value out carries the slot's one place, and another carries none.
 abbrev pub Carries : {X : Type 0} → Bool → List (ℕ × Option X) → Type 0
@@ -52,9 +52,9 @@ module _ {X T M : Type 0} where
     IsReceiptOf receipt slot = receipt.seat.table_id ≡ slot.table.shared.table_id
 
     -- The value wasn't in this slot.
-    pub record IsAbsenceOf (absence : Absence X T M) (slot : KeyedSlot X A T M) : Type 0 where
-      pub table : absence.seat.table_id ≡ slot.table.shared.table_id
-      pub none : absence.seat.me.0.took ≡ None
+    pub record WasEmpty (empty : Empty X T M) (slot : KeyedSlot X A T M) : Type 0 where
+      pub table : empty.seat.table_id ≡ slot.table.shared.table_id
+      pub none : empty.seat.me.0.took ≡ None
 
     -- The value is owed to the slot.
     pub record IsOwed (loan : Loan X T M) (slot : KeyedSlot X A T M) : Type 0 where

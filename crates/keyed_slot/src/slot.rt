@@ -35,9 +35,9 @@ pub struct Receipt<X: Marked> {
     seat: Seat<Option<X>, Known<X::Tag, X::Mark, X>>,
 }
 
-/// That a slot's value wasn't there. `take` alone makes one of these.
+/// That a slot was empty, since its value was out. `take` alone makes one of these.
 #[derive(Drop)]
-pub struct Absence<X: Marked> {
+pub struct Empty<X: Marked> {
     seat: Seat<Option<X>, Known<X::Tag, X::Mark, X>>,
 }
 
@@ -54,7 +54,7 @@ impl<X: Marked + Drop, A: Allocator + Copy> KeyedSlot<X, A> {
       Opens,
       IsOwed,
       IsReceiptOf,
-      IsAbsenceOf,
+      WasEmpty,
     };
 
     /// Returns a slot with this value, and its key.
@@ -86,17 +86,17 @@ impl<X: Marked + Drop, A: Allocator + Copy> KeyedSlot<X, A> {
     /// # Errors
     ///
     /// If it isn't.
-    pub fn take(&self) -> Result<(X, Loan<X>), Absence<X>>
+    pub fn take(&self) -> Result<(X, Loan<X>), Empty<X>>
         ensures fits { IfOk result (λ taken. X.fits (tag_of self.now) taken.0) }
         ensures mark { IfOk result (λ taken. loan_mark taken.1 ≡ X.mark taken.0) }
         ensures owed { IfOk result (λ taken. IsOwed taken.1 self.now) }
         ensures lent { IfOk result (λ taken. lent taken.1 ≡ Some taken.0) }
-        ensures absent { IfErr result (λ absence. IsAbsenceOf absence self.now) }
+        ensures absent { IfErr result (λ empty. WasEmpty empty self.now) }
     {
         let shared = &self.table.shared;
         let (found, mut seat) = shared.swap_new_seat::<Take<X>>(0, 1);
         if found != 0 {
-            return Err(Absence { seat });
+            return Err(Empty { seat });
         }
         match shared.exchange(&mut seat, 0, None) {
             Some(value) => Ok((value, Loan { seat })),

@@ -26,7 +26,7 @@ not_overslept sleepers = record sleepers { overslept = false }
 
 -- A note of who overslept changes nothing of whom is called.
 takers_of_noted : {T R : Type 0} (limit : ℕ) (board : Board T R) (before after : Sleepers) (calls : Called) → CallsTakers limit board (not_overslept before) after calls → CallsTakers limit board before after calls
-takers_of_noted limit board before after calls told = record { takers = told.takers; may = told.may; workers = told.workers; walk = told.walk; rests = told.rests }
+takers_of_noted limit board before after calls told = record { takers = told.takers; may = told.may; workers = told.workers; walk = told.walk; is_full = told.is_full }
 
 module _ {T U J A : Type 0} where
   -- whom the walk calls where a reading came

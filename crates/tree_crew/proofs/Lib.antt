@@ -2,5 +2,5 @@ pub mod OriginFacts
 pub mod ArrivalFacts
 mod HandledFacts
 mod SharedFacts
-mod PaceFacts
+mod ReadAheadFacts
 mod AwaitFacts

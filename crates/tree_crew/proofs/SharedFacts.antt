@@ -12,20 +12,20 @@ use Rattle.tree_crew.specs.Message.{Message, ran_out}
 use Rattle.tree_crew.specs.Origin.{Origin, IsBoardOf, IsMadeAt}
 use Rattle.tree_crew.specs.Shared.{IsTurnOf, IsArrivalOf}
 use Rattle.tree_crew.specs.Steps.{Turns}
-use Rattle.tree_crew.specs.Pace.{IsWithin}
+use Rattle.tree_crew.specs.ReadAhead.{IsWithin}
 use Rattle.tree_crew.proofs.ArrivalFacts.{made_of}
-use Rattle.tree_crew.proofs.PaceFacts.{handed_within, same_within}
+use Rattle.tree_crew.proofs.ReadAheadFacts.{handed_within, same_within}
 use Rattle.tree_crew.proofs.OriginFacts.{ChildrenAreGiven, taken_of, handed_of, finished_of, stopped_of}
 
 module _ {S R : Type 0} (old new : Board S R) where
   pub stopped_frontier : new ≡ record old { stopped = true } → new.frontier ≡ old.frontier
   stopped_frontier is = ap (λ b. b.frontier) is
 
-  pub turned_frontier : {A : Type 0} (limit : ℕ) (rests : Bool) (t : Turn S A) → Turns limit rests old t new → new.frontier ≡ old.frontier
-  turned_frontier limit rests (turn.Read item) takes = ap (λ b. b.frontier) takes.1.others
-  turned_frontier limit rests turn.Wait refused = ap (λ b. b.frontier) refused.1
-  turned_frontier limit rests turn.Rest held = ap (λ b. b.frontier) held.1
-  turned_frontier limit rests turn.End ends = elim ends [
+  pub turned_frontier : {A : Type 0} (limit : ℕ) (is_full : Bool) (t : Turn S A) → Turns limit is_full old t new → new.frontier ≡ old.frontier
+  turned_frontier limit is_full (turn.Read item) takes = ap (λ b. b.frontier) takes.1.others
+  turned_frontier limit is_full turn.Empty refused = ap (λ b. b.frontier) refused.1
+  turned_frontier limit is_full turn.Full held = ap (λ b. b.frontier) held.1
+  turned_frontier limit is_full turn.End ends = elim ends [
     | inl refused ↦ ap (λ b. b.frontier) refused.1
     | inr stopped ↦ stopped_frontier stopped.1
   ]
@@ -39,11 +39,11 @@ module _ {J A T U : Type 0} (p : Plan.Ghosts J A T U) (origin : Origin T J) (old
   pub same_of : new ≡ old → IsBoardOf p origin new
   same_of is = subst (IsBoardOf p origin) (sym is) of
 
-  pub turned_of : (limit : ℕ) (rests : Bool) (t : Turn T A) → Turns limit rests old t new → IsTurnOf p origin t × IsBoardOf p origin new
-  turned_of limit rests (turn.Read item) takes = taken_of p origin old new of item takes.1
-  turned_of limit rests turn.Wait refused = (tt, same_of refused.1)
-  turned_of limit rests turn.Rest held = (tt, same_of held.1)
-  turned_of limit rests turn.End ends = elim ends [
+  pub turned_of : (limit : ℕ) (is_full : Bool) (t : Turn T A) → Turns limit is_full old t new → IsTurnOf p origin t × IsBoardOf p origin new
+  turned_of limit is_full (turn.Read item) takes = taken_of p origin old new of item takes.1
+  turned_of limit is_full turn.Empty refused = (tt, same_of refused.1)
+  turned_of limit is_full turn.Full held = (tt, same_of held.1)
+  turned_of limit is_full turn.End ends = elim ends [
     | inl refused ↦ (tt, same_of refused.1)
     | inr stopped ↦ (tt, stopped_of p origin old new of stopped.1)
   ]

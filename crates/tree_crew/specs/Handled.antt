@@ -1,7 +1,7 @@
 -- What one hold of their lock does to the board that a walk and its workers share.
 use Rattle.std.specs.Prelude.{◌≡◌, ◌⊎◌, ℕ, Bool, true, List, Option, Some, None, option_map, Result, Ok, Err, box_value, IsTrue, length}
-use Rattle.keyed_slot.specs.Keyed.{receipt_of, IsReceiptOf, IsAbsenceOf}
-use Rattle.keyed_slot.specs.declared.slot.Absence.{Absence}
+use Rattle.keyed_slot.specs.Keyed.{receipt_of, IsReceiptOf, WasEmpty}
+use Rattle.keyed_slot.specs.declared.slot.Empty.{Empty}
 use Rattle.keyed_slot.specs.declared.slot.KeyedSlot.{KeyedSlot}
 use Rattle.keyed_slot.specs.declared.slot.Receipt.{Receipt}
 use Rattle.jwalk_order.specs.IndexPath.{address}
@@ -16,7 +16,7 @@ use Rattle.tree_crew.specs.declared.steps.Called.{Called}
 use Rattle.tree_crew.specs.declared.steps.Turn.{Turn}
 use Rattle.tree_crew.specs.declared.steps.Turn.TheVariants.{End}
 use Rattle.tree_crew.specs.declared.work.Work.{Work}
-use Rattle.tree_crew.specs.Pace.{CountsTakers}
+use Rattle.tree_crew.specs.ReadAhead.{CountsTakers}
 use Rattle.tree_crew.specs.Sleepers.{CallsNobody, CallsTakers}
 use Rattle.tree_crew.specs.Steps.{Turns}
 
@@ -29,10 +29,10 @@ module _ {T R : Type 0} where
   abbrev pub FinishesOrStops : List ℕ → R → List T → Board T R → Board T R → Type 0
   FinishesOrStops a reading children old new = Finishes a reading children old new ⊎ Stops old new
 
-  -- A worker's turn at a pace. It calls as many workers as may take something then, if there will be another turn, and the walk where its next reading is ready.
-  pub record TurnsAndCalls {A : Type 0} (limit : ℕ) (rests : Bool) (turn : Turn T A) (calls : Called) (old new : Board T R) : Type 0 where
-    pub turns : Turns limit rests old turn new
-    pub calls_workers : ¬ (turn ≡ End) → CountsTakers limit rests new calls.workers
+  -- A worker's turn at this limit. It calls as many workers as may take something then, if there will be another turn, and the walk where its next reading is ready.
+  pub record TurnsAndCalls {A : Type 0} (limit : ℕ) (is_full : Bool) (turn : Turn T A) (calls : Called) (old new : Board T R) : Type 0 where
+    pub turns : Turns limit is_full old turn new
+    pub calls_workers : ¬ (turn ≡ End) → CountsTakers limit is_full new calls.workers
     pub calls_walk : IsNextReady new → IsTrue calls.walk
 
   -- How many readings are ready.
@@ -82,13 +82,13 @@ module _ {T U J A : Type 0} where
     pub handled : IsHandled step (receipt_of receipt)
 
   -- The board wasn't in this slot, which is noted under the lock from now on.
-  pub record IsMissed {G M : Type 0} (slot : KeyedSlot (Work T U J A) A G M) (sleepers : Sleepers) (absence : Absence (Work T U J A) G M) : Type 0 where
-    pub absent : IsAbsenceOf absence slot
+  pub record IsMissed {G M : Type 0} (slot : KeyedSlot (Work T U J A) A G M) (sleepers : Sleepers) (empty : Empty (Work T U J A) G M) : Type 0 where
+    pub absent : WasEmpty empty slot
     pub noted : sleepers.board_missed ≡ true
 
   -- What was read, if anything, was handed in: the receipt is for a board on which it is finished, or which is stopped. Or the board was missed.
-  abbrev pub IsHandedIn : {G M : Type 0} → KeyedSlot (Work T U J A) A G M → (Absence (Work T U J A) G M → Type 0) → Option (HandIn T U J A) → Option (Result (Receipt (Work T U J A) G M) (Absence (Work T U J A) G M)) → Type 0
+  abbrev pub IsHandedIn : {G M : Type 0} → KeyedSlot (Work T U J A) A G M → (Empty (Work T U J A) G M → Type 0) → Option (HandIn T U J A) → Option (Result (Receipt (Work T U J A) G M) (Empty (Work T U J A) G M)) → Type 0
   IsHandedIn slot missed None handed = Unit {0}
   IsHandedIn slot missed (Some read) None = ⊥
   IsHandedIn slot missed (Some read) (Some (Ok receipt)) = IsReceiptFor slot (FinishesOrStops (address read.address) read.message read.children.items) receipt
-  IsHandedIn slot missed (Some read) (Some (Err absence)) = missed absence
+  IsHandedIn slot missed (Some read) (Some (Err empty)) = missed empty

@@ -3,8 +3,8 @@ pub mod Crew
 pub mod Message
 pub mod Origin
 pub mod Arrival
-pub mod Ground
-pub mod Pace
+pub mod BoardTag
+pub mod ReadAhead
 pub mod Steps
 pub mod Sleepers
 pub mod Handled

@@ -3,7 +3,7 @@ use Rattle.std.specs.Prelude.{ℕ, List}
 use Rattle.std.specs.Arc.{arc_value}
 use Rattle.keyed_slot.specs.Keyed.{key_mark}
 use Rattle.tree_crew.specs.declared.session.Session.{Session}
-use Rattle.tree_crew.specs.Ground.{limit_at, origin_at}
+use Rattle.tree_crew.specs.BoardTag.{limit_at, origin_at}
 use Rattle.tree_crew.specs.Origin.{Origin}
 
 module _ {W T U J A : Type 0} where

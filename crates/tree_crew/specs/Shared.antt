@@ -17,8 +17,8 @@ module _ {J A T U : Type 0} (p : Plan.Ghosts J A T U) (origin : Origin T J) wher
   -- What a worker takes is the specification at its address of the walk.
   abbrev pub IsTurnOf : Turn T A → Type 0
   IsTurnOf (turn.Read item) = IsAt p origin (address_of item) item.value
-  IsTurnOf turn.Wait = Unit {0}
-  IsTurnOf turn.Rest = Unit {0}
+  IsTurnOf turn.Empty = Unit {0}
+  IsTurnOf turn.Full = Unit {0}
   IsTurnOf turn.End = Unit {0}
 
   -- The reading at the first awaited address came, by the walk's own plan and of the specification at that address. These addresses were awaited before it, and those are after it.

@@ -1,7 +1,7 @@
 -- Whom a hand-out calls of those who sleep.
 use Rattle.std.specs.Prelude.{◌≡◌, ◌↔◌, ◌+◌, ◌-◌, ◌<◌, ℕ, false, min, IsTrue}
 use Rattle.jwalk_board.specs.Board.{Board}
-use Rattle.tree_crew.specs.Pace.{ready_or_in_hand, CountsTakers}
+use Rattle.tree_crew.specs.ReadAhead.{ready_or_in_hand, CountsTakers}
 use Rattle.tree_crew.specs.declared.sleepers.Sleepers.{Sleepers}
 use Rattle.tree_crew.specs.declared.steps.Called.{Called}
 
@@ -16,13 +16,13 @@ pub record CallsNobody (calls : Called) : Type 0 where
 
 module _ {T R : Type 0} where
   -- Workers that rested still do: more than half the limit is ready or in hand.
-  abbrev pub StillRests : ℕ → Sleepers → Board T R → Type 0
-  StillRests limit before board = IsTrue before.rests × (limit < ready_or_in_hand board + ready_or_in_hand board)
+  abbrev pub StaysFull : ℕ → Sleepers → Board T R → Type 0
+  StaysFull limit before board = IsTrue before.is_full × (limit < ready_or_in_hand board + ready_or_in_hand board)
 
   -- As many workers are called as may take something, and not the walk. Workers that rested stop resting once the readings are down to half the limit.
   pub record CallsTakers (limit : ℕ) (board : Board T R) (before after : Sleepers) (calls : Called) : Type 0 where
     pub takers : ℕ
-    pub may : CountsTakers limit after.rests board takers
+    pub may : CountsTakers limit after.is_full board takers
     pub workers : calls.workers ≡ called_of before takers
     pub walk : calls.walk ≡ false
-    pub rests : IsTrue after.rests ↔ StillRests limit before board
+    pub is_full : IsTrue after.is_full ↔ StaysFull limit before board

@@ -6,14 +6,14 @@
 #![tactic(auto)]
 
 pub mod arrival;
+mod board_tag;
 pub mod crew;
-mod ground;
 mod hand_in;
 pub mod incomplete;
 pub mod message;
 pub mod origin;
-mod pace;
 pub mod places;
+mod read_ahead;
 pub mod session;
 mod shared;
 mod sleepers;

@@ -4,14 +4,14 @@ ghost use Rattle.std.specs.Arc.{arc_value};
 ghost use Rattle.keyed_slot.specs.Keyed.{key_mark, is_out, handled, Opens};
 ghost use Rattle.jwalk_order.specs.Frontier.{roots as root_addresses};
 ghost use Rattle.tree_crew.specs.Crew.{limit_of};
-ghost use Rattle.tree_crew.specs.Ground.{origin_at};
+ghost use Rattle.tree_crew.specs.BoardTag.{origin_at};
 ghost use Rattle.tree_crew.specs.Handled.{WasAsked};
 ghost use Rattle.tree_crew.specs.Origin.{CountAlike};
 ghost use Rattle.tree_crew.specs.Shared.{IsAnswerOf};
 
 use crate::arrival::Arrival;
+use crate::board_tag::BoardTag;
 use crate::crew::{NotStarted, Place};
-use crate::ground::Ground;
 use crate::message::Message;
 use crate::origin::Origin;
 use crate::shared::Shared;
@@ -152,19 +152,19 @@ impl<
     fn start_on(
         place: Place<R, A>,
         plan: Arc<J, A>,
-        ground: &Ground<T, J, A>,
+        tag: &BoardTag<T, J, A>,
         roots: Vec<T, A>,
     ) -> Result<Self, NotStarted>
         requires lawful { J.IsLawful (arc_value plan) }
-        requires plan { arc_value plan ≡ ground.now.origin.value.plan }
-        requires limit { limit_of (arc_value place.crew) ≡ ground.now.limit.value }
-        requires alike { CountAlike J.Plan ground.now.origin.value.plan roots.items ground.now.origin.value.roots }
-        ensures origin { IfOk result (λ session. origin_of session ≡ ground.now.origin.value) }
-        ensures read_ahead { IfOk result (λ session. read_ahead_of session ≡ ground.now.limit.value) }
+        requires plan { arc_value plan ≡ tag.now.origin.value.plan }
+        requires limit { limit_of (arc_value place.crew) ≡ tag.now.limit.value }
+        requires alike { CountAlike J.Plan tag.now.origin.value.plan roots.items tag.now.origin.value.roots }
+        ensures origin { IfOk result (λ session. origin_of session ≡ tag.now.origin.value) }
+        ensures read_ahead { IfOk result (λ session. read_ahead_of session ≡ tag.now.limit.value) }
         ensures awaits { IfOk result (λ session. awaited_by session ≡ root_addresses (length roots.items)) }
     {
         let alloc = *roots.allocator();
-        let (shared, key) = Shared::new(place.crew(), plan, ground, roots)?;
+        let (shared, key) = Shared::new(place.crew(), plan, tag, roots)?;
         let Ok(shared) = Arc::new(alloc, shared) else {
             return Err(NotStarted::Memory);
         };
@@ -196,8 +196,8 @@ impl<
         ensures awaits { IfOk result (λ session. awaited_by session ≡ root_addresses (length roots.items)) }
     {
         let plan = origin.plan().clone()?;
-        let ground = Ground::of(origin, place.crew().read_ahead());
-        Session::start_on(place, plan, &ground, roots)
+        let tag = BoardTag::of(origin, place.crew().read_ahead());
+        Session::start_on(place, plan, &tag, roots)
     }
 
     /// Starts the workers of a walk that has a place, and gives them the specifications that it begins with.
@@ -212,7 +212,7 @@ impl<
         ensures awaits { IfOk result (λ session. awaited_by session ≡ root_addresses (length origin.roots)) }
     {
         let plan = origin.plan().clone()?;
-        let ground = Ground::of(&origin, place.crew().read_ahead());
-        Session::start_on(place, plan, &ground, origin.into_roots())
+        let tag = BoardTag::of(&origin, place.crew().read_ahead());
+        Session::start_on(place, plan, &tag, origin.into_roots())
     }
 }

@@ -12,12 +12,12 @@ ghost use Rattle.keyed_slot.specs.Keyed.{
   Opens,
   IsOwed,
   IsReceiptOf,
-  IsAbsenceOf,
+  WasEmpty,
 };
 ghost use Rattle.jwalk_order.specs.Frontier.{roots as root_addresses};
 ghost use Rattle.jwalk_order.specs.IndexPath.{address as indices_of};
 ghost use Rattle.tree_crew.specs.Crew.{limit_of};
-ghost use Rattle.tree_crew.specs.Ground.{limit_at, origin_at};
+ghost use Rattle.tree_crew.specs.BoardTag.{limit_at, origin_at};
 ghost use Rattle.tree_crew.specs.Handled.{
   board_in,
   ArrivesOrIsOut,
@@ -31,15 +31,15 @@ ghost use Rattle.tree_crew.specs.Handled.{
   TurnsAndCalls,
 };
 ghost use Rattle.tree_crew.specs.Origin.{CountAlike, IsBoardOf, IsMadeAt};
-ghost use Rattle.tree_crew.specs.Pace.{IsWithin};
+ghost use Rattle.tree_crew.specs.ReadAhead.{IsWithin};
 ghost use Rattle.tree_crew.specs.Shared.{IsArrivalOf, IsTurnOf};
 
 use crate::arrival::{Arrival, arrive};
+use crate::board_tag::BoardTag;
 use crate::crew::Crew;
-use crate::ground::Ground;
 use crate::hand_in::HandIn;
 use crate::message::Message;
-use crate::pace::Pace;
+use crate::read_ahead::ReadAhead;
 use crate::sleepers::Sleepers;
 use crate::steps::{Called, Turn, new_board, take_turn};
 use crate::work::{Handled, SharedBoard, TakenOut, Work};
@@ -54,7 +54,7 @@ use std::time::Clock;
 /// While the walk waits somebody works. The reading that it waits for is in one of three places. It is ready: the walk
 /// takes it. Or it is in hand: its worker comes back, and calls the walk. Or it is queued: then it is the least that is
 /// queued, and at most the limit are ready or in hand, since one more is there only if the next reading is among them.
-/// So a worker may take it, whatever the pace is. It came next by the hand-out of a reading, which called a worker if
+/// So a worker may take it, however full that is. It came next by the hand-out of a reading, which called a worker if
 /// all slept; and a worker that doesn't sleep has a turn before it does.
 pub(crate) struct Shared<
     R: Wait + Clock + Drop,
@@ -109,14 +109,14 @@ impl<
     pub(crate) fn new(
         crew: &Arc<Crew<R>, A>,
         plan: Arc<J, A>,
-        ground: &Ground<T, J, A>,
+        tag: &BoardTag<T, J, A>,
         roots: Vec<T, A>,
     ) -> Result<(Self, Key<Work<T, U, J, A>>), AllocError>
-        requires plan { arc_value plan ≡ ground.now.origin.value.plan }
-        requires limit { limit_of (arc_value crew.now) ≡ ground.now.limit.value }
-        requires alike { CountAlike J.Plan ground.now.origin.value.plan roots.items ground.now.origin.value.roots }
-        ensures origin { IfOk result (λ made. origin_at made.0.work ≡ ground.now.origin.value) }
-        ensures limit { IfOk result (λ made. limit_at made.0.work ≡ ground.now.limit.value) }
+        requires plan { arc_value plan ≡ tag.now.origin.value.plan }
+        requires limit { limit_of (arc_value crew.now) ≡ tag.now.limit.value }
+        requires alike { CountAlike J.Plan tag.now.origin.value.plan roots.items tag.now.origin.value.roots }
+        ensures origin { IfOk result (λ made. origin_at made.0.work ≡ tag.now.origin.value) }
+        ensures limit { IfOk result (λ made. limit_at made.0.work ≡ tag.now.limit.value) }
         ensures opens { IfOk result (λ made. Opens made.1 made.0.work) }
         ensures home { IfOk result (λ made. is_out made.1 ≡ false) }
         ensures mark { IfOk result (λ made. key_mark made.1 ≡ root_addresses (length roots.items)) }
@@ -124,7 +124,7 @@ impl<
         let crew = crew.clone()?;
         let alloc = *roots.allocator();
         let board = new_board(roots)?;
-        let (work, key) = KeyedSlot::new(alloc, Work::new(board), ground)?;
+        let (work, key) = KeyedSlot::new(alloc, Work::new(board), tag)?;
         let shared = Shared {
             alloc,
             crew,
@@ -149,9 +149,9 @@ impl<
     {
         match self.work.take() {
             Ok((work, loan)) => Ok((work.into_board(), loan)),
-            Err(absence) => {
+            Err(empty) => {
                 held.set_board_missed();
-                Err(absence)
+                Err(empty)
             }
         }
     }
@@ -190,9 +190,9 @@ impl<
                 let _refused = read.finish(&mut *board);
                 Ok(self.put_back(held, board, loan))
             }
-            Err(absence) => {
+            Err(empty) => {
                 read.give_up();
-                Err(absence)
+                Err(empty)
             }
         }
     }
@@ -203,18 +203,18 @@ impl<
     ) -> (Turn<T, A>, Called, Handled<T, U, J, A>)
         ensures turn { IsTurnOf J.Plan (origin_at self.now.work) result.0 }
         ensures handled { IfOk result.2 (IsReceiptFor self.now.work (TurnsAndCalls (limit_at self.now.work)
-            (mutex_guard_value held.old).rests result.0 result.1)) }
+            (mutex_guard_value held.old).is_full result.0 result.1)) }
         ensures absent { IfErr result.2 (IsMissed self.now.work (mutex_guard_value held.new)) }
     {
-        let pace = Pace::new(self.crew.read_ahead(), held.rests());
+        let ahead = ReadAhead::new(self.crew.read_ahead(), held.is_full());
         let (mut board, loan) = match self.take_out(held) {
             Ok(taken) => taken,
-            Err(absence) => return (Turn::End, Called::all(), Err(absence)),
+            Err(empty) => return (Turn::End, Called::all(), Err(empty)),
         };
-        let turn = take_turn(&mut *board, pace);
+        let turn = take_turn(&mut *board, ahead);
         held.note_turn(&turn);
         self.crew.count_late(held.take_overslept(turn.has_found()));
-        let calls = Called::after_turn(&*board, &turn, pace);
+        let calls = Called::after_turn(&*board, &turn, ahead);
         (turn, calls, Ok(self.put_back(held, board, loan)))
     }
 
@@ -276,7 +276,7 @@ impl<
     {
         let (board, loan) = match self.take_out(held) {
             Ok(taken) => taken,
-            Err(absence) => return (0, Err(absence)),
+            Err(empty) => return (0, Err(empty)),
         };
         let ready = board.ready();
         (ready, Ok(self.put_back(held, board, loan)))
@@ -304,7 +304,7 @@ impl<
     /// Stops the board, and with it the workers and the walk.
     pub(crate) fn stop(&self) -> Handled<T, U, J, A>
         ensures stopped { IfOk result (IsReceiptFor self.now.work Stops) }
-        ensures absent { IfErr result (λ absence. IsAbsenceOf absence self.now.work) }
+        ensures absent { IfErr result (λ empty. WasEmpty empty self.now.work) }
     {
         let mut sleepers = self.sleepers.lock(&self.crew.rt);
         let receipt = self.stop_board(&mut sleepers);

@@ -1,13 +1,13 @@
 //! Who sleeps until something comes.
 ghost use Rattle.std.specs.Prelude.{◌≡◌, ◌↔◌, IsTrue, true, false};
-ghost use Rattle.tree_crew.specs.Sleepers.{called_of, CallsNobody, CallsTakers, StillRests};
+ghost use Rattle.tree_crew.specs.Sleepers.{called_of, CallsNobody, CallsTakers, StaysFull};
 
-use crate::pace::Pace;
+use crate::read_ahead::ReadAhead;
 use crate::steps::{Called, Turn};
 use jwalk_board::board::Board;
 use std::alloc::Allocator;
 
-/// How many workers sleep, how many of these were called, whether the workers rest, whether the walk sleeps uncalled,
+/// How many workers sleep, how many of these were called, whether what is read ahead is full, whether the walk sleeps uncalled,
 /// and whether the board was missed. It is kept under the lock of the board.
 ///
 /// No call is lost. Whoever sleeps looked at the board, found nothing to do and was counted here in one hold of the lock. So
@@ -22,7 +22,7 @@ pub(crate) struct Sleepers {
     /// A worker found the limit of what is read ahead reached, and the readings haven't been down to half of it since.
     /// Until then the workers make only the next reading, so that they work on many in a row rather than on one for
     /// each that is handed out.
-    rests: bool,
+    is_full: bool,
     walk: bool,
     /// Whoever woke last did so because its turn was over, and nobody had called it.
     overslept: bool,
@@ -37,7 +37,7 @@ impl Sleepers {
         Sleepers {
             workers: 0,
             called: 0,
-            rests: false,
+            is_full: false,
             walk: false,
             overslept: false,
             board_missed: false,
@@ -95,29 +95,29 @@ impl Sleepers {
         late
     }
 
-    pub(crate) fn rests(&self) -> bool
-        ensures { result ≡ self.now.rests }
+    pub(crate) fn is_full(&self) -> bool
+        ensures { result ≡ self.now.is_full }
     {
-        self.rests
+        self.is_full
     }
 
-    /// Notes that the workers rest, if this turn found that what is queued may not be taken.
+    /// Notes that what is read ahead is full, if this turn found it so.
     pub(crate) fn note_turn<T, A: Allocator + Copy>(&mut self, turn: &Turn<T, A>)
         ensures { self.new.board_missed ≡ self.old.board_missed }
     {
-        if matches!(turn, Turn::Rest) {
-            self.rests = true;
+        if matches!(turn, Turn::Full) {
+            self.is_full = true;
         }
     }
 
-    fn still_rests<T: Drop, R: Drop, A: Allocator + Copy>(
+    fn stays_full<T: Drop, R: Drop, A: Allocator + Copy>(
         &self,
         board: &Board<T, R, A>,
         limit: usize,
     ) -> bool
-        ensures { IsTrue result ↔ StillRests limit self.now board.now }
+        ensures { IsTrue result ↔ StaysFull limit self.now board.now }
     {
-        self.rests && !Pace::new(limit, self.rests).is_half_free(board)
+        self.is_full && !ReadAhead::new(limit, self.is_full).is_half_free(board)
     }
 
     pub(crate) fn after_arrival<T: Drop, R: Drop, A: Allocator + Copy>(
@@ -133,8 +133,8 @@ impl Sleepers {
         if !came {
             return Called::none();
         }
-        self.rests = self.still_rests(board, limit);
-        let workers = Pace::new(limit, self.rests).takers(board);
+        self.is_full = self.stays_full(board, limit);
+        let workers = ReadAhead::new(limit, self.is_full).takers(board);
         self.called_by(Called {
             workers,
             walk: false,
@@ -145,7 +145,7 @@ impl Sleepers {
     pub(crate) fn called_by(&mut self, calls: Called) -> Called
         ensures workers { result.workers ≡ called_of self.old calls.workers }
         ensures walk { IsTrue result.walk ↔ (IsTrue calls.walk × IsTrue self.old.walk) }
-        ensures rests { self.new.rests ≡ self.old.rests }
+        ensures is_full { self.new.is_full ≡ self.old.is_full }
         ensures missed { self.new.board_missed ≡ self.old.board_missed }
     {
         let workers = calls.workers.min(self.workers).saturating_sub(self.called);

@@ -2,11 +2,11 @@
 ghost use Rattle.std.specs.Prelude.{◌≡◌, ◌↔◌, box_value, true, IsTrue, IfOk, OnErr, OnOk};
 ghost use Rattle.jwalk_order.specs.IndexPath.{address as indices_of};
 ghost use Rattle.jwalk_board.specs.Board.{Finishes, IsNew, IsNextReady};
-ghost use Rattle.tree_crew.specs.Pace.{CountsTakers};
+ghost use Rattle.tree_crew.specs.ReadAhead.{CountsTakers};
 ghost use Rattle.tree_crew.specs.Sleepers.{CallsNobody};
 ghost use Rattle.tree_crew.specs.Steps.{Turns};
 
-use crate::pace::Pace;
+use crate::read_ahead::ReadAhead;
 use jwalk_board::board::{Board, FinishFault, TakeRefusal};
 use jwalk_order::index_path::IndexPath;
 use jwalk_order::ordered::Ordered;
@@ -32,10 +32,10 @@ pub(crate) fn new_board<T: Drop, R: Drop, A: Allocator + Copy>(
 pub(crate) enum Turn<T, A: Allocator + Copy> {
     /// It reads what it took.
     Read(Ordered<T, A>),
-    /// It blocks, since others may find more.
-    Wait,
-    /// It blocks, since it may not take what is queued yet.
-    Rest,
+    /// Nothing is queued: it blocks, since others may find more.
+    Empty,
+    /// What is read ahead is full: it blocks, since it may not take what is queued yet.
+    Full,
     /// It ends.
     End,
 }
@@ -45,7 +45,7 @@ impl<T, A: Allocator + Copy> Turn<T, A> {
     pub(crate) fn has_found(&self) -> bool {
         match self {
             Turn::Read(_) | Turn::End => true,
-            Turn::Wait | Turn::Rest => false,
+            Turn::Empty | Turn::Full => false,
         }
     }
 }
@@ -53,16 +53,16 @@ impl<T, A: Allocator + Copy> Turn<T, A> {
 /// If memory runs out, the board is stopped.
 pub(crate) fn take_turn<T: Drop, R: Drop, A: Allocator + Copy>(
     board: &mut Board<T, R, A>,
-    pace: Pace,
+    ahead: ReadAhead,
 ) -> Turn<T, A>
-    ensures { Turns pace.limit pace.rests board.old result board.new }
+    ensures { Turns ahead.limit ahead.is_full board.old result board.new }
 {
-    if pace.holds_back(&*board) {
-        return Turn::Rest;
+    if ahead.holds_back(&*board) {
+        return Turn::Full;
     }
     match board.take() {
         Ok(item) => Turn::Read(item),
-        Err(TakeRefusal::Empty) => Turn::Wait,
+        Err(TakeRefusal::Empty) => Turn::Empty,
         Err(TakeRefusal::Done | TakeRefusal::Stopped) => Turn::End,
         Err(TakeRefusal::Memory) => {
             board.stop();
@@ -114,12 +114,15 @@ impl Called {
     }
 
     /// Returns whom to call after a step that left the board at work.
-    fn after<T: Drop, R: Drop, A: Allocator + Copy>(board: &Board<T, R, A>, pace: Pace) -> Self
-        ensures workers { CountsTakers pace.limit pace.rests board.now result.workers }
+    fn after<T: Drop, R: Drop, A: Allocator + Copy>(
+        board: &Board<T, R, A>,
+        ahead: ReadAhead,
+    ) -> Self
+        ensures workers { CountsTakers ahead.limit ahead.is_full board.now result.workers }
         ensures walk { IsTrue result.walk ↔ IsNextReady board.now }
     {
         Called {
-            workers: pace.takers(board),
+            workers: ahead.takers(board),
             walk: board.is_next_ready(),
         }
     }
@@ -128,15 +131,15 @@ impl Called {
     pub(crate) fn after_turn<T: Drop, R: Drop, A: Allocator + Copy>(
         board: &Board<T, R, A>,
         turn: &Turn<T, A>,
-        pace: Pace,
+        ahead: ReadAhead,
     ) -> Self
-        ensures workers { (turn.now ≡ Turn.End → ⊥) → CountsTakers pace.limit pace.rests board.now result.workers }
+        ensures workers { (turn.now ≡ Turn.End → ⊥) → CountsTakers ahead.limit ahead.is_full board.now result.workers }
         ensures ready { IsNextReady board.now → IsTrue result.walk }
         ensures end { turn.now ≡ Turn.End → IsTrue result.walk }
     {
         match turn {
             Turn::End => Called::all(),
-            Turn::Read(_) | Turn::Wait | Turn::Rest => Called::after(board, pace),
+            Turn::Read(_) | Turn::Empty | Turn::Full => Called::after(board, ahead),
         }
     }
 

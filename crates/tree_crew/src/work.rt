@@ -1,12 +1,12 @@
 //! The board that a walk and its workers share.
 ghost use Rattle.std.specs.Prelude.{◌≡◌};
 
-use crate::ground::Ground;
+use crate::board_tag::BoardTag;
 use crate::message::Message;
 use jwalk_board::board::{Board, Plan};
 use jwalk_order::ordered_queue::OrderedMatcher;
 use keyed_slot::marked::Marked;
-use keyed_slot::slot::{Absence, Loan, Receipt};
+use keyed_slot::slot::{Empty, Loan, Receipt};
 use std::alloc::Allocator;
 
 /// A board that a walk and its workers share. It is boxed, so that taking it out and putting it back moves a pointer.
@@ -27,11 +27,11 @@ pub(crate) struct Work<
 /// A board that was taken, and what is owed for it; or that there was none.
 pub(crate) type TakenOut<T, U, J, A> = Result<
     (SharedBoard<T, U, J, A>, Loan<Work<T, U, J, A>>),
-    Absence<Work<T, U, J, A>>,
+    Empty<Work<T, U, J, A>>,
 >;
 
 /// A receipt for a board that was taken and put back; or that there was none.
-pub(crate) type Handled<T, U, J, A> = Result<Receipt<Work<T, U, J, A>>, Absence<Work<T, U, J, A>>>;
+pub(crate) type Handled<T, U, J, A> = Result<Receipt<Work<T, U, J, A>>, Empty<Work<T, U, J, A>>>;
 
 impl<T: Drop, U: Drop, J: Plan<A, Spec = T, Reading = U> + Drop, A: Allocator + Copy> Drop
     for Work<T, U, J, A> {
@@ -42,16 +42,16 @@ impl<T: Drop, U: Drop, J: Plan<A, Spec = T, Reading = U> + Drop, A: Allocator + 
 
 impl<T: Drop, U: Drop, J: Plan<A, Spec = T, Reading = U> + Drop, A: Allocator + Copy> Marked
     for Work<T, U, J, A> {
-    type Tag = Ground<T, J, A>;
+    type Tag = BoardTag<T, J, A>;
 
     type Mark = OrderedMatcher<A>;
 
     ghost use Rattle.std.specs.Prelude.{box_value};
     ghost use Rattle.tree_crew.specs.Origin.{IsBoardOf};
-    ghost use Rattle.tree_crew.specs.Pace.{IsWithin};
+    ghost use Rattle.tree_crew.specs.ReadAhead.{IsWithin};
 
-    ghost fits = { λ ground work. IsBoardOf J.Plan ground.origin.value (box_value work.board)
-        × IsWithin ground.limit.value (box_value work.board) };
+    ghost fits = { λ tag work. IsBoardOf J.Plan tag.origin.value (box_value work.board)
+        × IsWithin tag.limit.value (box_value work.board) };
 
     ghost mark = { λ work. (box_value work.board).frontier };
 }

@@ -2,10 +2,10 @@
 ghost use Rattle.std.specs.Prelude.{◌≤◌, IfSome};
 ghost use Rattle.std.specs.Arc.{arc_value};
 ghost use Rattle.std.specs.Sync.Mutex.{mutex_guard_value};
-ghost use Rattle.keyed_slot.specs.Keyed.{IsAbsenceOf};
+ghost use Rattle.keyed_slot.specs.Keyed.{WasEmpty};
 ghost use Rattle.jwalk_order.specs.IndexPath.{address as indices_of};
 ghost use Rattle.jwalk_order.specs.Ordered.{address_of};
-ghost use Rattle.tree_crew.specs.Ground.{origin_at};
+ghost use Rattle.tree_crew.specs.BoardTag.{origin_at};
 ghost use Rattle.tree_crew.specs.Handled.{IsHandedIn, IsMissed};
 ghost use Rattle.tree_crew.specs.Origin.{IsAt, IsMadeAt};
 
@@ -78,7 +78,7 @@ impl<
 
     /// Blocks until it is called or for a turn, if nobody is called, and else wakes those who are. Returns the lock, taken
     /// again.
-    fn rest<'b>(
+    fn wait<'b>(
         &'b self,
         held: MutexGuard<'b, Sleepers>,
         calls: Called,
@@ -105,7 +105,7 @@ impl<
             let (turn, wanted, _receipt) = self.shared.turn(&mut held);
             let calls = held.called_by(wanted);
             match turn {
-                Turn::Wait | Turn::Rest => held = self.rest(held, calls),
+                Turn::Empty | Turn::Full => held = self.wait(held, calls),
                 Turn::Read(item) => {
                     self.leave(held, calls);
                     return Some(item);
@@ -129,7 +129,7 @@ impl<
             (indices_of h.address) h.message h.children.items) }
         ensures taken { IfSome result.0 (λ item. IsAt J.Plan (origin_at (arc_value self.now.shared).work)
             (address_of item) item.value) }
-        ensures handed_in { IsHandedIn (arc_value self.now.shared).work (λ absence. IsAbsenceOf absence
+        ensures handed_in { IsHandedIn (arc_value self.now.shared).work (λ empty. WasEmpty empty
             (arc_value self.now.shared).work) read result.1 }
     {
         let mut held = self.shared.sleepers.lock(&self.shared.crew.rt);

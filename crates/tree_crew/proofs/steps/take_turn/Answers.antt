@@ -1,6 +1,6 @@
 use Rattle.std.proofs.Common.{inr, subst}
 use Rattle.jwalk_board.specs.Refusal.{RefusesTake}
-use Rattle.tree_crew.proofs.PaceFacts.{taken_may}
+use Rattle.tree_crew.proofs.ReadAheadFacts.{taken_may}
 use Rattle.tree_crew.proofs.steps.take_turn.Goals as goal
 
 pub returns-in-Ok : goal.returns-in-Ok

@@ -1,10 +1,10 @@
 use Rattle.std.proofs.Common.{◌∙◌, sym, ap, subst, box_value}
 use Rattle.keyed_slot.specs.Keyed.{key_mark}
 use Rattle.tree_crew.specs.Crew.{limit_of}
-use Rattle.tree_crew.specs.Ground.{limit_at, origin_at}
+use Rattle.tree_crew.specs.BoardTag.{limit_at, origin_at}
 use Rattle.tree_crew.specs.Shared.{IsArrivalOf}
 use Rattle.tree_crew.proofs.HandledFacts.{arrives_on, calls_entered, calls_nobody, calls_on, not_overslept}
-use Rattle.tree_crew.proofs.PaceFacts.{same_within}
+use Rattle.tree_crew.proofs.ReadAheadFacts.{same_within}
 use Rattle.tree_crew.proofs.SharedFacts.{same_of, arrived_board, arrived_of, arrived_within}
 use Rattle.tree_crew.proofs.shared.Shared.arrival_on_board.Goals as goal
 use Rattle.tree_crew.proofs.shared.Shared.arrival_on_board.Goals.{in-Entered, in_default-matches}

@@ -1,6 +1,6 @@
 use Rattle.std.proofs.Common.{◌∙◌, sym, ap}
 use Rattle.tree_crew.proofs.OriginFacts.{children_are}
-use Rattle.tree_crew.proofs.PaceFacts.{handed_in_within, same_within}
+use Rattle.tree_crew.proofs.ReadAheadFacts.{handed_in_within, same_within}
 use Rattle.tree_crew.proofs.SharedFacts.{same_of, handed_in_of, handed_in_frontier}
 use Rattle.tree_crew.proofs.HandledFacts.{finishes_or_stops, receipt_for}
 use Rattle.tree_crew.proofs.shared.Shared.hand_in.Goals as goal

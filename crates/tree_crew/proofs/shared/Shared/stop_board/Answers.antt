@@ -1,6 +1,6 @@
 use Rattle.std.proofs.Common.{◌∙◌, sym, ap}
 use Rattle.tree_crew.proofs.OriginFacts.{stopped_of}
-use Rattle.tree_crew.proofs.PaceFacts.{same_within, stopped_within}
+use Rattle.tree_crew.proofs.ReadAheadFacts.{same_within, stopped_within}
 use Rattle.tree_crew.proofs.SharedFacts.{same_of, stopped_frontier}
 use Rattle.tree_crew.proofs.HandledFacts.{receipt_for}
 use Rattle.tree_crew.proofs.shared.Shared.stop_board.Goals as goal

@@ -1,7 +1,7 @@
 use Rattle.std.proofs.Common.{IfSome}
 use Rattle.std.specs.Arc.{arc_value}
 use Rattle.jwalk_order.specs.Ordered.{address_of}
-use Rattle.tree_crew.specs.Ground.{origin_at}
+use Rattle.tree_crew.specs.BoardTag.{origin_at}
 use Rattle.tree_crew.specs.Origin.{IsAt}
 use Rattle.tree_crew.proofs.worker.Worker.work.Given as goal
 

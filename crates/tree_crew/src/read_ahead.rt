@@ -1,26 +1,26 @@
 //! How far ahead workers may read.
 ghost use Rattle.std.specs.Prelude.{◌≡◌, ◌⊎◌, ◌+◌, ◌≤◌, ◌<◌, ◌↔◌, [], true, false, IfNone, IfSome, IsTrue};
-ghost use Rattle.tree_crew.specs.Pace.{ready_or_in_hand, CountsTakers, HoldsBack, MayTake};
+ghost use Rattle.tree_crew.specs.ReadAhead.{ready_or_in_hand, CountsTakers, HoldsBack, MayTake};
 
 use jwalk_board::board::Board;
 use std::alloc::Allocator;
 
 /// How far ahead a walk's workers may read now.
 #[derive(Clone, Copy)]
-pub(crate) struct Pace {
+pub(crate) struct ReadAhead {
     /// How many readings may be ready or in hand. The next one to be handed out may be one more.
     limit: usize,
-    /// Whether the workers rest: one found the limit reached, and more than half of it is still ready or in hand. Until
-    /// then they make only the next reading.
-    rests: bool,
+    /// Whether a worker found the limit reached, and more than half of it is still ready or in hand. Until then they make
+    /// only the next reading.
+    is_full: bool,
 }
 
-impl Pace {
-    pub(crate) fn new(limit: usize, rests: bool) -> Self
+impl ReadAhead {
+    pub(crate) fn new(limit: usize, is_full: bool) -> Self
         ensures limit { result.limit ≡ limit }
-        ensures rests { result.rests ≡ rests }
+        ensures is_full { result.is_full ≡ is_full }
     {
-        Pace { limit, rests }
+        ReadAhead { limit, is_full }
     }
 
     fn room<T: Drop, R: Drop, A: Allocator + Copy>(self, board: &Board<T, R, A>) -> Option<usize>
@@ -48,10 +48,10 @@ impl Pace {
         self,
         board: &Board<T, R, A>,
     ) -> usize
-        ensures { CountsTakers self.limit self.rests board.now result }
+        ensures { CountsTakers self.limit self.is_full board.now result }
     {
         match self.room(board) {
-            Some(room) if room > 0 && !self.rests => room.min(board.queued()),
+            Some(room) if room > 0 && !self.is_full => room.min(board.queued()),
             Some(_) => usize::from(board.is_next_queued()),
             None => 0,
         }
@@ -61,9 +61,9 @@ impl Pace {
         self,
         board: &Board<T, R, A>,
     ) -> bool
-        ensures held { IsTrue result → HoldsBack self.limit self.rests board.now }
+        ensures held { IsTrue result → HoldsBack self.limit self.is_full board.now }
         ensures free { result ≡ false → (board.now.stopped ≡ true) ⊎ ((board.now.queued ≡ [])
-            ⊎ MayTake self.limit self.rests board.now) }
+            ⊎ MayTake self.limit self.is_full board.now) }
     {
         !board.is_stopped() && board.queued() > 0 && self.takers(board) == 0
     }

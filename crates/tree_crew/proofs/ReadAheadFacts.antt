@@ -6,14 +6,14 @@ use Rattle.jwalk_order.specs.Addressed.{addressed}
 use Rattle.jwalk_order.specs.Ordered.{address_of}
 use Rattle.jwalk_order.specs.declared.ordered.Ordered.{Ordered}
 use Rattle.jwalk_board.specs.Board.{Board, IsNew, Takes, HandsOut, Finishes}
-use Rattle.tree_crew.specs.Pace.{ready_or_in_hand, CountsTakers, IsWithin, MayTake}
+use Rattle.tree_crew.specs.ReadAhead.{ready_or_in_hand, CountsTakers, IsWithin, MayTake}
 use Rattle.tree_crew.specs.Steps.{Turns}
 use Rattle.tree_crew.specs.declared.steps.Turn.{Turn}
 use Rattle.tree_crew.specs.declared.steps.Turn.TheVariants as turn
 
-module _ {T R : Type 0} (b : Board T R) (limit : ℕ) (rests : Bool) where
+module _ {T R : Type 0} (b : Board T R) (limit : ℕ) (is_full : Bool) where
   -- where something may be taken, no more than the limit are ready or in hand
-  pub may_most : MayTake limit rests b → ready_or_in_hand b ≤ limit
+  pub may_most : MayTake limit is_full b → ready_or_in_hand b ≤ limit
   may_most may = elim may [
     | inl free ↦ omega (arith, free.2)
     | inr next ↦ next.1
@@ -21,8 +21,8 @@ module _ {T R : Type 0} (b : Board T R) (limit : ℕ) (rests : Bool) where
 
 module _ {T R : Type 0} (limit : ℕ) (old new : Board T R) where
   -- What is taken was queued, and so it might be.
-  pub taken_may : {A : Type 0} (rests : Bool) (item : Ordered T A) → (old.stopped ≡ true) ⊎ ((old.queued ≡ []) ⊎ MayTake limit rests old) → Takes item old new → MayTake limit rests old
-  taken_may rests item free takes = elim free [
+  pub taken_may : {A : Type 0} (is_full : Bool) (item : Ordered T A) → (old.stopped ≡ true) ⊎ ((old.queued ≡ []) ⊎ MayTake limit is_full old) → Takes item old new → MayTake limit is_full old
+  taken_may is_full item free takes = elim free [
     | inl stopped ↦ absurd (false≢true (sym takes.running ∙ stopped))
     | inr others ↦ elim others [
       | inl none ↦
@@ -57,11 +57,11 @@ module _ {T R : Type 0} (limit : ℕ) (old new : Board T R) where
       let in_hand : length new.in_hand ≡ length old.in_hand = ap (λ b. length b.in_hand) out.others in
       omega (arith, in_hand, ready, within)
 
-  pub turned_within : {A : Type 0} (rests : Bool) (t : Turn T A) → Turns limit rests old t new → IsWithin limit old → IsWithin limit new
-  turned_within rests (turn.Read item) takes within = taken_within item takes.1 (may_most old limit rests takes.0)
-  turned_within rests turn.Wait refused within = same_within refused.1 within
-  turned_within rests turn.Rest held within = same_within held.1 within
-  turned_within rests turn.End ends within = elim ends [
+  pub turned_within : {A : Type 0} (is_full : Bool) (t : Turn T A) → Turns limit is_full old t new → IsWithin limit old → IsWithin limit new
+  turned_within is_full (turn.Read item) takes within = taken_within item takes.1 (may_most old limit is_full takes.0)
+  turned_within is_full turn.Empty refused within = same_within refused.1 within
+  turned_within is_full turn.Full held within = same_within held.1 within
+  turned_within is_full turn.End ends within = elim ends [
     | inl refused ↦ same_within refused.1 within
     | inr stopped ↦ stopped_within stopped.1 within
   ]
@@ -77,11 +77,11 @@ new_within limit specs b new =
     let in_hand : length b.in_hand ≡ 0 = ap length new.in_hand in
     omega (arith, ready, in_hand)
 
-module _ {T R A : Type 0} (limit own : ℕ) (rests noted : Bool) (is : limit ≡ own) (same : rests ≡ noted) (t : Turn T A) (old new : Board T R) where
-  -- A turn at a pace of this limit is one at the limit that the slot has.
-  pub turns_at : Turns limit rests old t new → Turns own noted old t new
+module _ {T R A : Type 0} (limit own : ℕ) (is_full noted : Bool) (is : limit ≡ own) (same : is_full ≡ noted) (t : Turn T A) (old new : Board T R) where
+  -- A turn at this limit is one at the limit that the slot has.
+  pub turns_at : Turns limit is_full old t new → Turns own noted old t new
   turns_at turns = subst (λ l. Turns l noted old t new) is (subst (λ r. Turns limit r old t new) same turns)
 
-pub takers_at : {T R : Type 0} (limit own : ℕ) (rests noted : Bool) → limit ≡ own → rests ≡ noted → (this that : Board T R) → this ≡ that → (count : ℕ) → CountsTakers limit rests this count → CountsTakers own noted that count
-takers_at limit own rests noted is same this that board count counts =
-    subst (λ l. CountsTakers l noted that count) is (subst (λ r. CountsTakers limit r that count) same (subst (λ b. CountsTakers limit rests b count) board counts))
+pub takers_at : {T R : Type 0} (limit own : ℕ) (is_full noted : Bool) → limit ≡ own → is_full ≡ noted → (this that : Board T R) → this ≡ that → (count : ℕ) → CountsTakers limit is_full this count → CountsTakers own noted that count
+takers_at limit own is_full noted is same this that board count counts =
+    subst (λ l. CountsTakers l noted that count) is (subst (λ r. CountsTakers limit r that count) same (subst (λ b. CountsTakers limit is_full b count) board counts))

@@ -7,26 +7,26 @@ use std::snapshot::Snapshot;
 
 /// What the slot of a walk's board is made for: where the walk's readings come from, and how many of them may be ready or
 /// in hand. Only clauses read it.
-pub(crate) struct Ground<T, J, A: Allocator + Copy> {
+pub(crate) struct BoardTag<T, J, A: Allocator + Copy> {
     origin: Snapshot<Origin<T, J, A>>,
     limit: Snapshot<usize>,
 }
 
-impl<T, J, A: Allocator + Copy> Drop for Ground<T, J, A> {
+impl<T, J, A: Allocator + Copy> Drop for BoardTag<T, J, A> {
     fn drop(self) {
-        let Ground {
+        let BoardTag {
             origin: _,
             limit: _,
         } = self;
     }
 }
 
-impl<T, J, A: Allocator + Copy> Ground<T, J, A> {
+impl<T, J, A: Allocator + Copy> BoardTag<T, J, A> {
     pub(crate) fn of(origin: &Origin<T, J, A>, limit: usize) -> Self
         ensures origin { result.origin.value ≡ origin.now }
         ensures limit { result.limit.value ≡ limit }
     {
-        Ground {
+        BoardTag {
             origin: Snapshot::of(origin),
             limit: Snapshot::of(&limit),
         }
