@@ -15,7 +15,7 @@ use crate::crew::{NotStarted, Place};
 use crate::message::Message;
 use crate::origin::Origin;
 use crate::shared::Shared;
-use crate::waiting::wait_a_turn;
+use crate::waiting::{lock_soon, wait_a_turn};
 use crate::work::Work;
 use crate::worker::start_workers;
 use jwalk_board::board::Plan;
@@ -80,7 +80,7 @@ fn wait_for<
     ensures asked { IfErr result (λ _. WasAsked (handled key.new)) }
 {
     let rt = &shared.crew.rt;
-    let mut sleepers = shared.sleepers.lock(rt);
+    let mut sleepers = lock_soon(rt, &shared.sleepers);
     for _ in rt.forever() {
         let (arrival, calls) = shared.arrival(&mut sleepers, key);
         match arrival {

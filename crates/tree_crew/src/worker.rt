@@ -14,7 +14,7 @@ use crate::message::Message;
 use crate::shared::Shared;
 use crate::sleepers::Sleepers;
 use crate::steps::{Called, Turn};
-use crate::waiting::wait_a_turn;
+use crate::waiting::{lock_soon, wait_a_turn};
 use crate::work::Handled;
 use jwalk_board::board::Plan;
 use jwalk_order::ordered::Ordered;
@@ -86,7 +86,7 @@ impl<
         let rt = &self.shared.crew.rt;
         if !calls.is_empty() {
             self.leave(held, calls);
-            return self.shared.sleepers.lock(rt);
+            return lock_soon(rt, &self.shared.sleepers);
         }
         let mut held = held;
         held.add_worker();
@@ -132,7 +132,7 @@ impl<
         ensures handed_in { IsHandedIn (arc_value self.now.shared).work (λ empty. WasEmpty empty
             (arc_value self.now.shared).work) read result.1 }
     {
-        let mut held = self.shared.sleepers.lock(&self.shared.crew.rt);
+        let mut held = lock_soon(&self.shared.crew.rt, &self.shared.sleepers);
         let receipt = self.hand_in(&mut held, read);
         (self.take(held), receipt)
     }
