@@ -26,6 +26,7 @@ pub use jwalk_fs::path_text;
 pub use jwalk_job::client_state::ClientState;
 pub use jwalk_job::dir_entry::{DirEntry, ReadChildren};
 pub use jwalk_job::error::{Error, Result};
+pub use jwalk_job::options::Options;
 pub use jwalk_job::{dir_entry, error};
 pub use jwalk_order::{index_path, ordered, ordered_queue};
 pub use walk_dir::{WalkDir, WalkDirGeneric};

@@ -131,6 +131,7 @@ impl<
     W: Drop,
 > WalkDirGeneric<C, S, P, A, W> {
     ghost use Rattle.jwalk_model.specs.Options.{with_sort, with_skip_hidden, with_follow_links, with_same_file_system, with_keep_metadata, with_min_depth, with_max_depth, with_parallelism};
+    ghost use Rattle.jwalk_job.specs.Options.{options_value};
     ghost use Rattle.jwalk_core.specs.Parallelism.{parallelism_value, crew_of};
     ghost use Rattle.jwalk.specs.WalkDir.{root_of, options_of, described, with_callback, Sets};
 
@@ -215,6 +216,18 @@ impl<
         ensures { Sets (record (described self) { options = with_max_depth depth (options_of self) }) result }
     {
         self.options = self.options.with_max_depth(depth);
+        self
+    }
+
+    /// Sets all that `sort`, `skip_hidden`, `follow_links`, `same_file_system`, `keep_metadata`, `min_depth` and
+    /// `max_depth` set, as these options have it. How directories are read stays as it was: a depth below 2 doesn't make
+    /// the walk serial here.
+    pub fn with_options(mut self, options: Options) -> Self
+        ensures { Sets (record (described self) {
+          options = with_parallelism (options_of self).parallelism (options_value options);
+        }) result }
+    {
+        self.options = options.with_mode(self.options.mode());
         self
     }
 

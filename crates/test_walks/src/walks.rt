@@ -1,9 +1,9 @@
 //! Counts and paths of walks over trees in memory.
 use jwalk::file_system::{BuildError, MemoryFs};
-use jwalk::{WalkDirGeneric, path_text};
+use jwalk::{Options, WalkDirGeneric, path_text};
 use std::alloc::Global;
 use test_fixtures::builders::over_tree;
-use test_fixtures::trees::SMALL;
+use test_fixtures::trees::{GROUPED, SMALL};
 
 fn count(alloc: Global) -> Result<usize, BuildError> {
     Ok(over_tree(alloc, SMALL, "/r")?.into_iter().count())
@@ -33,6 +33,26 @@ fn paths_in_memory(alloc: Global) -> anyhow::Result<String> {
 fn a_tree_built_in_memory(rt: HostRuntime) {
     let paths = paths_in_memory(rt.alloc());
     assert!(rt; matches!(&paths, Ok(paths) if paths.as_str() == "/photos\n/photos/sea.jpg\n"));
+}
+
+/// The paths are one on each line.
+fn paths_by_options(alloc: Global) -> anyhow::Result<String> {
+    let mut text = String::new(alloc);
+    let options = Options::new()
+        .with_sort(true)
+        .with_skip_hidden(false)
+        .with_min_depth(2);
+    for answer in over_tree(alloc, GROUPED, "/t")?.with_options(options) {
+        writeln!(text, "{}", answer?.path()?)?;
+    }
+    Ok(text)
+}
+
+#[test]
+fn options_set_together(rt: HostRuntime) {
+    let wanted = "/t/group 1/d.txt\n/t/group 2/.hidden_file.txt\n/t/group 2/e.txt\n";
+    let paths = paths_by_options(rt.alloc());
+    assert!(rt; matches!(&paths, Ok(paths) if paths.as_str() == wanted));
 }
 
 #[test]

@@ -1,7 +1,7 @@
 //! The number of directories that are read together, and the moment of it.
 use crate::rows::courses::{Course, Seen, all_take};
-use jwalk::Parallelism;
 use jwalk::file_system::{BuildError, FileSystem};
+use jwalk::{Options, Parallelism};
 use std::alloc::{AllocError, Global};
 use test_fixtures::builders::{Builder, over_tree};
 use test_fixtures::trees::{FORKED, GROUPED, Step};
@@ -198,4 +198,16 @@ fn ahead_by_clones(alloc: Global) -> Result<(usize, usize), BuildError> {
 #[test]
 fn clones_of_one_parallelism(rt: HostRuntime) {
     assert!(rt; matches!(ahead_by_clones(rt.alloc()), Ok((0, 1))));
+}
+
+/// The width is set before the greatest depth of 1, which is among the options.
+fn ahead_by_options(alloc: Global) -> Result<usize, BuildError> {
+    let walk = over_tree(alloc, GROUPED, "/t")?.parallelism(Parallelism::RayonNewPool(3));
+    let options = Options::new().with_max_depth(1);
+    Ok(ahead_at_first_group(alloc, walk.with_options(options))?)
+}
+
+#[test]
+fn options_leave_the_width_as_it_was(rt: HostRuntime) {
+    assert!(rt; matches!(ahead_by_options(rt.alloc()), Ok(1)));
 }
