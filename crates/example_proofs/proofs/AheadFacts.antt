@@ -10,9 +10,9 @@ use Rattle.jwalk.specs.jwalk_model.Listing.{is_answered}
 use Rattle.jwalk.specs.jwalk_job.declared.dir_entry.DirEntry.{DirEntry}
 use Rattle.jwalk.specs.jwalk_job.declared.error.Error.{Error}
 use Rattle.jwalk.specs.jwalk_job.Entry.{item}
-use Rattle.jwalk.specs.jwalk_core.declared.readings.Readings as Readings
-use Rattle.jwalk.specs.jwalk_core.declared.entries.Entries.{Entries}
-use Rattle.jwalk.specs.jwalk_core.Entries.{Position, reads_of, is_refused, source_of, min_depth_of, Stops, PassesMany, none_passed, one_passed, one_entered, GrowsAhead, Answers}
+use Rattle.jwalk.specs.jwalk_readings.declared.readings.Readings as Readings
+use Rattle.jwalk.specs.jwalk_iter.declared.entries.Entries.{Entries}
+use Rattle.jwalk.specs.jwalk_iter.Entries.{Position, reads_of, is_refused, source_of, min_depth_of, Stops, PassesMany, none_passed, one_passed, one_entered, GrowsAhead, Answers}
 
 -- what can't be otherwise is so
 unless : (a b : ℕ) → ¬ (¬ (a ≤ b)) → a ≤ b

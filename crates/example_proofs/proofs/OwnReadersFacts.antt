@@ -28,13 +28,13 @@ use Rattle.jwalk.specs.jwalk_job.declared.job.Job.{Job}
 use Rattle.jwalk.specs.jwalk_job.declared.read_dir.ReadDir.{ReadDir}
 use Rattle.jwalk.specs.jwalk_job.Job.{IsReadingOf}
 use Rattle.jwalk.specs.jwalk_job.ReadDir.{outcome}
-use Rattle.jwalk.specs.jwalk_core.Message.{Message, IsLawfulMessage}
-use Rattle.jwalk.specs.jwalk_core.Wanted.{Fits}
-use Rattle.jwalk.specs.jwalk_core.declared.wanted.Wanted.{Wanted}
-use Rattle.jwalk.specs.jwalk_core.Due.{IsDue}
-use Rattle.jwalk.specs.jwalk_core.Origin.{Origin, CountAlike, IsAt, IsMessageOf}
-use Rattle.jwalk.specs.jwalk_core.declared.readings.Readings as Readings
-use Rattle.jwalk.specs.jwalk_core.Gives.{Gives}
+use Rattle.jwalk.specs.jwalk_readings.Message.{Message, IsLawfulMessage}
+use Rattle.jwalk.specs.jwalk_readings.Wanted.{Fits}
+use Rattle.jwalk.specs.jwalk_readings.declared.wanted.Wanted.{Wanted}
+use Rattle.jwalk.specs.jwalk_readings.Due.{IsDue}
+use Rattle.jwalk.specs.jwalk_readings.Origin.{Origin, CountAlike, IsAt, IsMessageOf}
+use Rattle.jwalk.specs.jwalk_readings.declared.readings.Readings as Readings
+use Rattle.jwalk.specs.jwalk_readings.Gives.{Gives}
 use Rattle.jwalk.proofs.OriginFacts.{below_read, child_at}
 use Rattle.jwalk.proofs.DueFacts.{due_fits}
 use Rattle.jwalk.proofs.CopyFacts.{alike_copies}

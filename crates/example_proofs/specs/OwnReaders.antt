@@ -16,7 +16,7 @@ use Rattle.jwalk.specs.jwalk_job.ReadDirSpec.{spec}
 use Rattle.jwalk.specs.jwalk_job.Given.{counted_spec}
 use Rattle.jwalk.specs.jwalk_job.declared.job.Job.{Job}
 use Rattle.jwalk.specs.jwalk_job.Job.{greatest_depth, job_by}
-use Rattle.jwalk.specs.jwalk_core.Origin.{Origin, IsAt}
+use Rattle.jwalk.specs.jwalk_readings.Origin.{Origin, IsAt}
 use Rattle.jwalk.specs.WalkDir.{stateless}
 
 module _ {C A R E : Type 0} where

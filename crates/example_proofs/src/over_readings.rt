@@ -4,7 +4,7 @@ ghost use Rattle.jwalk.specs.jwalk_model.Entry.{IsBetween};
 ghost use Rattle.jwalk.specs.jwalk_job.Entry.{item};
 ghost use Rattle.jwalk.specs.jwalk_job.Given.{counted_list};
 ghost use Rattle.jwalk.specs.jwalk_job.Job.{callback};
-ghost use Rattle.jwalk.specs.jwalk_core.Entries.{reads_of, source_of, min_depth_of, max_depth_of, weight_of, IsWithin, IsSteadyWalk, ComesFirst, EndsEarly};
+ghost use Rattle.jwalk.specs.jwalk_iter.Entries.{reads_of, source_of, min_depth_of, max_depth_of, weight_of, IsWithin, IsSteadyWalk, ComesFirst, EndsEarly};
 ghost use Rattle.jwalk.specs.DirEntryIter as walks;
 ghost use Rattle.jwalk.specs.DirEntryIter.{job_of};
 

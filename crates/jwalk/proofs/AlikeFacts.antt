@@ -11,8 +11,8 @@ use Rattle.jwalk_fs.specs.declared.file_system.FileSystem as FileSystem
 use Rattle.jwalk_job.specs.declared.process_read_dir.ProcessReadDir as ProcessReadDir
 use Rattle.jwalk_job.specs.Given.{Given}
 use Rattle.jwalk_job.specs.Job.{IsSteady}
-use Rattle.jwalk_core.specs.declared.readers.Readers as Readers
-use Rattle.jwalk_core.specs.DirEntryIter.{DirEntryIter, to_come}
+use Rattle.jwalk_readings.specs.declared.readers.Readers as Readers
+use Rattle.jwalk_iter.specs.DirEntryIter.{DirEntryIter, to_come}
 use Rattle.jwalk.specs.declared.walk_dir.WalkDirGeneric.{WalkDirGeneric}
 use Rattle.jwalk.specs.WalkDir.{file_system_of, callback_of, root_of, state_of, options_of, job_for, Starts, Holds}
 use Rattle.jwalk.proofs.WholeFacts.{comes_whole}

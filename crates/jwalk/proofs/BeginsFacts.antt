@@ -22,8 +22,8 @@ use Rattle.jwalk_job.specs.Job as job
 use Rattle.jwalk_job.specs.Job.{file_system, callback, job_by, IsSteady}
 use Rattle.tree_crew.specs.declared.crew.NotStarted.{NotStarted}
 use Rattle.tree_crew.specs.declared.crew.NotStarted.TheVariants.{Busy, Memory}
-use Rattle.jwalk_core.specs.DirEntryIter.{DirEntryIter, by_crew, held_by}
-use Rattle.jwalk_core.specs.CrewReads.{start_failure}
+use Rattle.jwalk_iter.specs.DirEntryIter.{DirEntryIter, by_crew, held_by}
+use Rattle.jwalk_readings.specs.CrewReads.{start_failure}
 use Rattle.jwalk.specs.CrewStart.{HoldsList, IsFromRoot}
 use Rattle.jwalk.specs.WalkDir.{file_system_of, callback_of, root_of, state_of, options_of, job_for, Starts, HoldsOne, HoldsBusy, HoldsUnless, Begins}
 use Rattle.jwalk.specs.declared.walk_dir.WalkDirGeneric.{WalkDirGeneric}

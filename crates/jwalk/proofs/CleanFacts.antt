@@ -23,10 +23,10 @@ use Rattle.jwalk_job.specs.Given.{Given, counted_item, counted_spec, counted_out
 use Rattle.jwalk_job.specs.Job.{greatest_depth, job_by, IsSteady}
 use Rattle.tree_crew.specs.declared.crew.NotStarted.{NotStarted}
 use Rattle.tree_crew.specs.declared.crew.NotStarted.TheVariants.{Busy, Memory}
-use Rattle.jwalk_core.specs.declared.readers.Readers as Readers
+use Rattle.jwalk_readings.specs.declared.readers.Readers as Readers
 use Rattle.jwalk.specs.declared.walk_dir.WalkDirGeneric.{WalkDirGeneric}
 use Rattle.jwalk.specs.CrewStart.{busied, busy_pair}
-use Rattle.jwalk_core.specs.DirEntryIter.{DirEntryIter, job_of, min_depth_of, held, held_by, refusal, items_of, unread_of, to_come, NoneRefused, IsSteadyWalk, Answers, Fills}
+use Rattle.jwalk_iter.specs.DirEntryIter.{DirEntryIter, job_of, min_depth_of, held, held_by, refusal, items_of, unread_of, to_come, NoneRefused, IsSteadyWalk, Answers, Fills}
 use Rattle.jwalk.specs.WalkDir.{file_system_of, callback_of, root_of, state_of, job_for, ReportsBusy, NoneBusy, Starts, HoldsBusy, HoldsUnless}
 use Rattle.jwalk.proofs.WholeFacts.{all_answered, answered_whole, comes_whole, entries_tell, filled_came}
 

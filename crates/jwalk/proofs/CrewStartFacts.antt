@@ -20,25 +20,25 @@ use Rattle.jwalk_job.specs.Given.{Given, counted_reading, ClonesCount}
 use Rattle.jwalk_job.specs.declared.job.Job.{Job}
 use Rattle.jwalk_job.specs.Options as options
 use Rattle.jwalk_job.specs.Job.{options_of, greatest_depth}
-use Rattle.jwalk_core.specs.declared.readers.Readers as Readers
+use Rattle.jwalk_readings.specs.declared.readers.Readers as Readers
 use Rattle.tree_crew.specs.declared.crew.NotStarted.{NotStarted}
 use Rattle.tree_crew.specs.declared.crew.NotStarted.TheVariants.{Busy, Memory}
-use Rattle.jwalk_core.specs.BatchReads.{BatchReads}
-use Rattle.jwalk_core.specs.ReadAhead.{BeginsWith}
-use Rattle.jwalk_core.specs.DirEntryIter.{DirEntryIter, reads_of, is_refused, by_crew, width_of, frontier_of, read_ahead, job_of, items_of, unread_of, held, held_by, IsWithin, IsSourced, IsRefused}
-use Rattle.jwalk_core.specs.Sources.{Base, source_by}
-use Rattle.jwalk_core.specs.SourceFacts.{is_source_by}
-use Rattle.jwalk_core.specs.Entries.{ArePlaced}
+use Rattle.jwalk_readings.specs.BatchReads.{BatchReads}
+use Rattle.jwalk_readings.specs.ReadAhead.{BeginsWith}
+use Rattle.jwalk_iter.specs.DirEntryIter.{DirEntryIter, reads_of, is_refused, by_crew, width_of, frontier_of, read_ahead, job_of, items_of, unread_of, held, held_by, IsWithin, IsSourced, IsRefused}
+use Rattle.jwalk_readings.specs.Sources.{Base, source_by}
+use Rattle.jwalk_readings.specs.SourceFacts.{is_source_by}
+use Rattle.jwalk_iter.specs.Entries.{ArePlaced}
 use Rattle.jwalk.specs.CrewStart.{busied, busy_pair, left_of, IsToRead, IsBegun, HoldsList, IsFromRoot}
-use Rattle.jwalk_core.specs.CrewReads as reads_by
-use Rattle.jwalk_core.specs.declared.crew_reads.CrewReads.{CrewReads}
-use Rattle.jwalk_core.specs.ReadDirIter as readings
-use Rattle.jwalk_core.specs.declared.read_dir_iter.ReadDirIter.{ReadDirIter}
-use Rattle.jwalk_core.specs.declared.read_dir_iter.ReadDirIter.TheVariants.{Walk, CrewWalk}
-use Rattle.jwalk_core.proofs.CrewSteadyFacts.{starts_steady}
-use Rattle.jwalk_core.proofs.PlacedFacts.{list_placed, unread_placed}
-use Rattle.jwalk_core.proofs.AnswerFacts.{with_sourced}
-use Rattle.jwalk_core.proofs.StartFacts.{holds_refusal, refusal_sourced, list_sourced, holds_list, within_root}
+use Rattle.jwalk_readings.specs.CrewReads as reads_by
+use Rattle.jwalk_readings.specs.declared.crew_reads.CrewReads.{CrewReads}
+use Rattle.jwalk_readings.specs.ReadDirIter as readings
+use Rattle.jwalk_readings.specs.declared.read_dir_iter.ReadDirIter.{ReadDirIter}
+use Rattle.jwalk_readings.specs.declared.read_dir_iter.ReadDirIter.TheVariants.{Walk, CrewWalk}
+use Rattle.jwalk_readings.proofs.CrewSteadyFacts.{starts_steady}
+use Rattle.jwalk_iter.proofs.PlacedFacts.{list_placed, unread_placed}
+use Rattle.jwalk_iter.proofs.AnswerFacts.{with_sourced}
+use Rattle.jwalk_iter.proofs.StartFacts.{holds_refusal, refusal_sourced, list_sourced, holds_list, within_root}
 
 module _ {R E : Type 0} where
   -- errors have no depth

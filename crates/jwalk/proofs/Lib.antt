@@ -5,8 +5,8 @@ pub mod CleanFacts
 pub mod AlikeFacts
 mod CrewStartFacts
 -- what callers cite of a walk's answers
-pub use Rattle.jwalk_core.proofs.FillFacts as FillFacts
-pub use Rattle.jwalk_core.proofs.SameFacts as SameFacts
+pub use Rattle.jwalk_iter.proofs.FillFacts as FillFacts
+pub use Rattle.jwalk_iter.proofs.SameFacts as SameFacts
 -- what callers cite of a callback's lists
 pub use Rattle.jwalk_job.proofs.GivenFacts as GivenFacts
 -- what callers cite of callbacks that change states alone, and of sizes
@@ -15,7 +15,7 @@ pub use Rattle.jwalk_model.proofs.StatesFacts as StatesFacts
 pub use Rattle.jwalk_model.proofs.KeptFacts as KeptFacts
 pub use Rattle.jwalk_callbacks.proofs.SizedWalks as SizedWalks
 -- what callers cite of readings by readers of their own
-pub use Rattle.jwalk_core.proofs.OriginFacts as OriginFacts
-pub use Rattle.jwalk_core.proofs.DueFacts as DueFacts
-pub use Rattle.jwalk_core.proofs.AlikeFacts as CopyFacts
+pub use Rattle.jwalk_readings.proofs.OriginFacts as OriginFacts
+pub use Rattle.jwalk_readings.proofs.DueFacts as DueFacts
+pub use Rattle.jwalk_readings.proofs.AlikeFacts as CopyFacts
 mod EachFacts

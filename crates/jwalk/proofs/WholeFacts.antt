@@ -26,15 +26,15 @@ use Rattle.jwalk_job.specs.Error.{failure}
 use Rattle.jwalk_job.specs.Entry.{item}
 use Rattle.jwalk_job.specs.Given.{Given, counted_item, counted_spec, counted_list}
 use Rattle.jwalk_job.specs.Job.{options_of, greatest_depth, job_by, IsSteady}
-use Rattle.jwalk_core.specs.declared.readers.Readers as Readers
+use Rattle.jwalk_readings.specs.declared.readers.Readers as Readers
 use Rattle.jwalk.specs.declared.walk_dir.WalkDirGeneric.{WalkDirGeneric}
-use Rattle.jwalk_core.specs.DirEntryIter.{DirEntryIter, by_crew, is_refused, job_of, min_depth_of, items_of, unread_of, held, held_by, refusal, to_come, TellsMemory, NoneRefused, IsRefused, StartsSteady, IsSteadyWalk, Answers, Fills}
+use Rattle.jwalk_iter.specs.DirEntryIter.{DirEntryIter, by_crew, is_refused, job_of, min_depth_of, items_of, unread_of, held, held_by, refusal, to_come, TellsMemory, NoneRefused, IsRefused, StartsSteady, IsSteadyWalk, Answers, Fills}
 use Rattle.jwalk.specs.WalkDir as builder
 use Rattle.jwalk.specs.WalkDir.{file_system_of, callback_of, root_of, state_of, job_for, Starts, Holds}
-use Rattle.jwalk_core.specs.ReadingsBy.{readings_by}
-use Rattle.jwalk_core.proofs.AnswerFacts.{held_by_nothing}
-use Rattle.jwalk_core.proofs.StartFacts.{alone_steady}
-use Rattle.jwalk_core.proofs.FillFacts.{stays_steady, come}
+use Rattle.jwalk_readings.specs.ReadingsBy.{readings_by}
+use Rattle.jwalk_iter.proofs.AnswerFacts.{held_by_nothing}
+use Rattle.jwalk_iter.proofs.StartFacts.{alone_steady}
+use Rattle.jwalk_iter.proofs.FillFacts.{stays_steady, come}
 
 module _ {C A R E : Type 0} where
   -- answers that end with the error that says that memory ran out say so

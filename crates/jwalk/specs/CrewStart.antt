@@ -12,8 +12,8 @@ use Rattle.jwalk_job.specs.declared.job.Job.{Job}
 use Rattle.jwalk_job.specs.Options as options
 use Rattle.jwalk_job.specs.Given.{Given, counted_reading, ClonesCount}
 use Rattle.jwalk_job.specs.Job.{options_of}
-use Rattle.jwalk_core.specs.ReadAhead.{BeginsWith}
-use Rattle.jwalk_core.specs.DirEntryIter.{DirEntryIter, is_refused, by_crew, job_of, items_of, unread_of, width_of, frontier_of, read_ahead, held, held_by, IsWithin, IsSourced, IsRefused}
+use Rattle.jwalk_readings.specs.ReadAhead.{BeginsWith}
+use Rattle.jwalk_iter.specs.DirEntryIter.{DirEntryIter, is_refused, by_crew, job_of, items_of, unread_of, width_of, frontier_of, read_ahead, held, held_by, IsWithin, IsSourced, IsRefused}
 
 -- what a busy crew leaves of an item: the error that says so, if the item has a directory to be read
 abbrev pub busied : {R E : Type 0} → Item R E → Item R E

@@ -7,8 +7,8 @@ use Rattle.std.specs.List.{FoldsTo}
 use denote.Param.Members.{Mut, Called}
 use Rattle.jwalk_fs.specs.declared.file_system.FileSystem as FileSystem
 use Rattle.jwalk_job.specs.declared.process_read_dir.ProcessReadDir as ProcessReadDir
-use Rattle.jwalk_core.specs.declared.readers.Readers as Readers
-use Rattle.jwalk_core.specs.DirEntryIter.{DirEntryIter, by_crew, IsRefused, StartsSteady}
+use Rattle.jwalk_readings.specs.declared.readers.Readers as Readers
+use Rattle.jwalk_iter.specs.DirEntryIter.{DirEntryIter, by_crew, IsRefused, StartsSteady}
 use Rattle.jwalk.specs.declared.walk_dir.WalkDirGeneric.{WalkDirGeneric}
 use Rattle.jwalk.specs.WalkDir.{Starts, Holds, Begins}
 

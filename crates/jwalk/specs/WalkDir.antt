@@ -20,15 +20,15 @@ use Rattle.jwalk_job.specs.Options.{options_value, width_of}
 use Rattle.jwalk_job.specs.Given.{Given, counted_item, KeepsLists}
 use Rattle.jwalk_job.specs.Job as job
 use Rattle.jwalk_job.specs.Job.{file_system, callback, IsSteady}
-use Rattle.jwalk_core.specs.ReadAhead.{BeginsWith}
-use Rattle.jwalk_core.specs.DirEntryIter as iter
+use Rattle.jwalk_readings.specs.ReadAhead.{BeginsWith}
+use Rattle.jwalk_iter.specs.DirEntryIter as iter
 use Rattle.tree_crew.specs.declared.crew.Crew.{Crew}
 use Rattle.tree_crew.specs.Crew.{limit_of}
-use Rattle.jwalk_core.specs.declared.readers.Readers as Readers
+use Rattle.jwalk_readings.specs.declared.readers.Readers as Readers
 use Rattle.tree_crew.specs.declared.crew.NotStarted.{NotStarted}
 use Rattle.tree_crew.specs.declared.crew.NotStarted.TheVariants.{Busy, Memory}
 use Rattle.jwalk.specs.CrewStart.{busy_pair}
-use Rattle.jwalk_core.specs.DirEntryIter.{DirEntryIter, by_crew, job_of, items_of, held, held_by, IsWithin, IsSourced, IsRefused}
+use Rattle.jwalk_iter.specs.DirEntryIter.{DirEntryIter, by_crew, job_of, items_of, held, held_by, IsWithin, IsSourced, IsRefused}
 use Rattle.jwalk.specs.declared.walk_dir.WalkDirGeneric.{WalkDirGeneric}
 
 -- the item is the error that reports a busy crew

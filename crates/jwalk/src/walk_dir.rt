@@ -12,10 +12,8 @@ mod workers;
 
 use jwalk_callbacks::by_fn::ByFn;
 use jwalk_callbacks::calls::Closure;
-use jwalk_core::dir_entry_iter::DirEntryIter;
-use jwalk_core::parallelism::Parallelism;
-use jwalk_core::readers::NoCrew;
 use jwalk_fs::file_system::FileSystem;
+use jwalk_iter::dir_entry_iter::DirEntryIter;
 use jwalk_job::client_state::ClientState;
 use jwalk_job::dir_entry::DirEntry;
 use jwalk_job::error::Error;
@@ -23,6 +21,8 @@ use jwalk_job::item::Item;
 use jwalk_job::job::Job;
 use jwalk_job::options::Options;
 use jwalk_job::process_read_dir::{NoProcess, ProcessReadDir};
+use jwalk_readings::parallelism::Parallelism;
+use jwalk_readings::readers::NoCrew;
 use jwalk_real_fs::real_fs::RealFs;
 use std::alloc::{AllocError, Allocator, Global};
 use std::rt::{Files, HostRuntime};
@@ -132,7 +132,7 @@ impl<
 > WalkDirGeneric<C, S, P, A, W> {
     ghost use Rattle.jwalk_model.specs.Options.{with_sort, with_skip_hidden, with_follow_links, with_same_file_system, with_keep_metadata, with_min_depth, with_max_depth, with_parallelism};
     ghost use Rattle.jwalk_job.specs.Options.{options_value};
-    ghost use Rattle.jwalk_core.specs.Parallelism.{parallelism_value, crew_of};
+    ghost use Rattle.jwalk_readings.specs.Parallelism.{parallelism_value, crew_of};
     ghost use Rattle.jwalk.specs.WalkDir.{root_of, options_of, described, with_callback, Sets};
 
     /// Returns the root's path as it was given.
@@ -293,7 +293,7 @@ impl<C: ClientState, S: FileSystem, P: ProcessReadDir<C, A>, A: Allocator + Copy
     NoCrew,
 > {
     ghost use Rattle.jwalk.specs.WalkDir.{callback_of, Starts, Holds, HoldsOne};
-    ghost use Rattle.jwalk_core.specs.DirEntryIter.{by_crew, is_refused, IsRefused};
+    ghost use Rattle.jwalk_iter.specs.DirEntryIter.{by_crew, is_refused, IsRefused};
 
     fn begin(self) -> DirEntryIter<C, S, P, A>
         requires { P.IsLawful (callback_of self) }
@@ -406,7 +406,7 @@ impl<C: ClientState, S: FileSystem, A: Allocator + Copy> IntoIterator
     type IntoIter = DirEntryIter<C, S, NoProcess, A>;
 
     ghost use Rattle.jwalk.specs.WalkDir.{Starts, Holds};
-    ghost use Rattle.jwalk_core.specs.DirEntryIter.{by_crew, IsRefused};
+    ghost use Rattle.jwalk_iter.specs.DirEntryIter.{by_crew, IsRefused};
 
     ghost into_iter_gives = { λ walk it. (by_crew it ≡ false) × Starts walk it × (IsRefused it ⊎ Holds S.FileSystem
         ⟦<NoProcess as ProcessReadDir<C, A>>⟧ C.ReadDirState.Clone C.DirEntryState.Default walk it) };

@@ -14,9 +14,9 @@ use Rattle.jwalk.specs.jwalk_fs.declared.file_system.FileSystem as FileSystem
 use Rattle.jwalk.specs.jwalk_job.declared.process_read_dir.ProcessReadDir as ProcessReadDir
 use Rattle.jwalk.specs.jwalk_job.Given.{Given, counted_item}
 use Rattle.jwalk.specs.jwalk_job.Job.{IsSteady}
-use Rattle.jwalk.specs.jwalk_core.declared.readers.Readers as Readers
+use Rattle.jwalk.specs.jwalk_readings.declared.readers.Readers as Readers
 use Rattle.jwalk.specs.DirEntryIter.{DirEntryIter}
-use Rattle.jwalk.specs.jwalk_core.DirEntryIter.{Answers, StartsSteady}
+use Rattle.jwalk.specs.jwalk_iter.DirEntryIter.{Answers, StartsSteady}
 use Rattle.jwalk.specs.tree_crew.declared.crew.NotStarted.{NotStarted}
 use Rattle.jwalk.specs.WalkDir.{HoldsUnless, Starts, callback_of, file_system_of, job_for, root_of, state_of}
 use Rattle.jwalk.specs.declared.walk_dir.WalkDirGeneric.{WalkDirGeneric}

@@ -18,8 +18,8 @@ use Rattle.jwalk.specs.jwalk_job.Entry.{item}
 use Rattle.jwalk.specs.jwalk_job.Given.{Given, counted_item}
 use Rattle.jwalk.specs.jwalk_job.Job.{IsSteady}
 use Rattle.jwalk.specs.DirEntryIter.{DirEntryIter}
-use Rattle.jwalk.specs.jwalk_core.declared.readers.Readers as Readers
-use Rattle.jwalk.specs.jwalk_core.DirEntryIter.{Answers}
+use Rattle.jwalk.specs.jwalk_readings.declared.readers.Readers as Readers
+use Rattle.jwalk.specs.jwalk_iter.DirEntryIter.{Answers}
 use Rattle.jwalk.specs.WalkDir.{Starts, callback_of, file_system_of, job_for, root_of, state_of}
 use Rattle.jwalk.specs.declared.walk_dir.WalkDirGeneric.{WalkDirGeneric}
 use Rattle.jwalk_ignore.specs.Callback.Excluding.{Excluded, excluded_by, excluding}

@@ -1,12 +1,12 @@
 //! Readings over a board, one after another and on threads.
 use crate::given::{self, States, push_names, refusing, roots_of};
-use jwalk_core::batch_reads::BatchReads;
 use jwalk_fs::file_system::FileSystem;
 use jwalk_job::client_state::ClientState;
 use jwalk_job::job::Job;
 use jwalk_job::options::Options;
 use jwalk_job::process_read_dir::NoProcess;
 use jwalk_job::read_dir::Outcome;
+use jwalk_readings::batch_reads::BatchReads;
 use std::alloc::{AllocError, Global};
 use std::thread::Threads;
 use test_fixtures::watched::Watched;

@@ -1,17 +1,17 @@
 //! Walks whose answers are handed to a closure, or appended to a list.
-ghost use Rattle.jwalk_core.specs.DirEntryIter.{Answers};
+ghost use Rattle.jwalk_iter.specs.DirEntryIter.{Answers};
 ghost use Rattle.jwalk.specs.Each.{BeginsAlone, BeginsOver, CallsWithEach, CallsUntilError, Appends};
 ghost use Rattle.jwalk.specs.WalkDir.{callback_of};
 
 use crate::walk_dir::WalkDirGeneric;
 use crate::walk_dir::handed::{append_to, hand_to, hand_until_error};
-use jwalk_core::readers::{NoCrew, Readers};
-use jwalk_core::session::Session;
 use jwalk_fs::file_system::FileSystem;
 use jwalk_job::client_state::ClientState;
 use jwalk_job::dir_entry::DirEntry;
 use jwalk_job::error::Error;
 use jwalk_job::process_read_dir::ProcessReadDir;
+use jwalk_readings::readers::{NoCrew, Readers};
+use jwalk_readings::session::Session;
 use std::alloc::{AllocError, Global};
 use std::sync::Wait;
 use std::thread::Threads;

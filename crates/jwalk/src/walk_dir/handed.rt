@@ -1,17 +1,17 @@
 //! Walks that have begun, whose answers are handed to a closure, or appended to a list.
 ghost use Rattle.std.specs.Prelude.{◌≡◌};
 ghost use Rattle.std.specs.Iterator.{CallsOnEach};
-ghost use Rattle.jwalk_core.specs.DirEntryIter.{Answers, job_of};
+ghost use Rattle.jwalk_iter.specs.DirEntryIter.{Answers, job_of};
 ghost use Rattle.jwalk_job.specs.Job.{callback};
 ghost use Rattle.jwalk.specs.Each.{CallsUntilError, Appends};
 
-use jwalk_core::dir_entry_iter::DirEntryIter;
-use jwalk_core::readers::Readers;
 use jwalk_fs::file_system::FileSystem;
+use jwalk_iter::dir_entry_iter::DirEntryIter;
 use jwalk_job::client_state::ClientState;
 use jwalk_job::dir_entry::DirEntry;
 use jwalk_job::error::Error;
 use jwalk_job::process_read_dir::ProcessReadDir;
+use jwalk_readings::readers::Readers;
 use std::alloc::{AllocError, Global};
 
 pub(crate) fn hand_to<

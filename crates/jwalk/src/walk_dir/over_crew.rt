@@ -7,16 +7,16 @@ ghost use Rattle.jwalk_job.specs.Error.{failure};
 
 use crate::walk_dir::WalkDirGeneric;
 use crate::walk_dir::crew_start::{Begun, CrewWalk, from_root_alone};
-use jwalk_core::crew_reads::started::start_error;
-use jwalk_core::dir_entry_iter::DirEntryIter;
-use jwalk_core::readers::Readers;
-use jwalk_core::session::Session;
 use jwalk_fs::file_system::FileSystem;
+use jwalk_iter::dir_entry_iter::DirEntryIter;
 use jwalk_job::client_state::ClientState;
 use jwalk_job::error::Error;
 use jwalk_job::job::Job;
 use jwalk_job::mode::Mode;
 use jwalk_job::process_read_dir::{NoProcess, ProcessReadDir};
+use jwalk_readings::crew_reads::started::start_error;
+use jwalk_readings::readers::Readers;
+use jwalk_readings::session::Session;
 use std::alloc::Allocator;
 use std::sync::Wait;
 use std::thread::Threads;
@@ -68,7 +68,7 @@ where
     C::DirEntryState: Send + 'static,
 {
     ghost use Rattle.jwalk.specs.WalkDir.{callback_of, options_of, Starts, HoldsOne, KeepsBound, Begins};
-    ghost use Rattle.jwalk_core.specs.DirEntryIter.{StartsSteady};
+    ghost use Rattle.jwalk_iter.specs.DirEntryIter.{StartsSteady};
 
     fn begin_by(self) -> Begun<CrewWalk<R, C, S, P, A>>
         requires { P.IsLawful (callback_of self) }

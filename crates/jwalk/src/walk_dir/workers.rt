@@ -3,11 +3,11 @@ ghost use Rattle.std.specs.Prelude.{◌≡◌, ◌<◌, min, None, IfOk, IsSomeA
 
 use crate::host::Host;
 use crate::walk_dir::WalkDirGeneric;
-use jwalk_core::parallelism::Parallelism;
-use jwalk_core::readers::NoCrew;
 use jwalk_fs::file_system::FileSystem;
 use jwalk_job::client_state::ClientState;
 use jwalk_job::process_read_dir::ProcessReadDir;
+use jwalk_readings::parallelism::Parallelism;
+use jwalk_readings::readers::NoCrew;
 use std::alloc::{AllocError, Allocator};
 use std::sync::Arc;
 use std::thread::{Threads, available_parallelism};

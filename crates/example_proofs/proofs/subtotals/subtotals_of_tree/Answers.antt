@@ -4,7 +4,7 @@ use Rattle.jwalk.specs.WalkDir.{stateless}
 use Rattle.jwalk.specs.jwalk_model.Options.{defaults, with_keep_metadata, with_parallelism}
 use Rattle.jwalk.specs.jwalk_model.Tree.{functions_of}
 use Rattle.jwalk.specs.jwalk_memory_fs.MemoryFs.{tree_of}
-use Rattle.jwalk.specs.jwalk_core.Parallelism.{parallelism_value}
+use Rattle.jwalk.specs.jwalk_readings.Parallelism.{parallelism_value}
 use Rattle.jwalk.proofs.AlikeFacts.{stateless_however_read}
 use Rattle.jwalk.proofs.WholeFacts.{stateless_of}
 use Rattle.jwalk_subtotals.specs.Subtotals.{subtotals}

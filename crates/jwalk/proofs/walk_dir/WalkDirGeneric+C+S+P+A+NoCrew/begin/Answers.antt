@@ -7,7 +7,7 @@ use Rattle.jwalk_job.specs.ReadDir.{reading}
 use Rattle.jwalk_job.specs.Options.{width_of}
 use Rattle.jwalk_job.specs.Given.{counted_reading}
 use Rattle.jwalk_job.specs.Job.{file_system, callback, options_of, job_by, IsSteady}
-use Rattle.jwalk_core.specs.DirEntryIter.{held_by}
+use Rattle.jwalk_iter.specs.DirEntryIter.{held_by}
 use Rattle.jwalk.specs.WalkDir.{job_for, file_system_of, root_of, state_of}
 use Rattle.jwalk.proofs.BeginFacts.{held_view, by_flag, either}
 use Rattle.jwalk.proofs.BeginsFacts.{if_some_view}

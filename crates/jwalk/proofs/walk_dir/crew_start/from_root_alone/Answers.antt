@@ -2,8 +2,8 @@ use Rattle.std.proofs.Common.{Some, None, inl, inr, refl, sym, ap, length, optio
 use Rattle.jwalk_job.specs.ReadDir.{reading}
 use Rattle.tree_crew.specs.declared.crew.NotStarted.TheVariants.{Memory}
 use Rattle.jwalk.proofs.CrewStartFacts.{reads_alone, alone_from_root, held_count, held_of, list_of}
-use Rattle.jwalk_core.specs.DirEntryIter.{reads_of}
-use Rattle.jwalk_core.proofs.StartFacts.{alone_steady}
+use Rattle.jwalk_iter.specs.DirEntryIter.{reads_of}
+use Rattle.jwalk_iter.proofs.StartFacts.{alone_steady}
 use Rattle.jwalk.proofs.walk_dir.crew_start.from_root_alone.Goals as goal
 
 pub returns-then-is_refused-clause-from_root : goal.returns-then-is_refused-clause-from_root

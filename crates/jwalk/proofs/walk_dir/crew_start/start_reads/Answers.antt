@@ -2,9 +2,9 @@ use Rattle.std.proofs.Common.{map, refl}
 use Rattle.jwalk_model.specs.ReadDir.{children, AreClones}
 use Rattle.jwalk_job.specs.ReadDirSpec.{spec}
 use Rattle.jwalk_job.specs.ReadDir.{reading}
-use Rattle.jwalk_core.specs.CrewReads.{to_read}
-use Rattle.jwalk_core.proofs.AlikeFacts.{alike_clones}
-use Rattle.jwalk_core.proofs.ResultFacts.{none_on_ok, on_err, on_ok_as}
+use Rattle.jwalk_readings.specs.CrewReads.{to_read}
+use Rattle.jwalk_readings.proofs.AlikeFacts.{alike_clones}
+use Rattle.jwalk_readings.proofs.ResultFacts.{none_on_ok, on_err, on_ok_as}
 use Rattle.jwalk.proofs.walk_dir.crew_start.start_reads.Goals as goal
 
 pub returns-in_err-own : goal.returns-in_err-own

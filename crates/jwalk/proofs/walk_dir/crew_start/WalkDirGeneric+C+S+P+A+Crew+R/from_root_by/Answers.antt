@@ -4,8 +4,8 @@ use Rattle.jwalk_job.specs.Options as options
 use Rattle.jwalk_job.specs.ReadDir.{reading}
 use Rattle.jwalk_job.specs.Job.{options_of}
 use Rattle.jwalk.proofs.CrewStartFacts.{reads_alone, refused_from_root, by_from_root, if_some_map}
-use Rattle.jwalk_core.specs.DirEntryIter.{reads_of}
-use Rattle.jwalk_core.proofs.StartFacts.{alone_steady}
+use Rattle.jwalk_iter.specs.DirEntryIter.{reads_of}
+use Rattle.jwalk_iter.proofs.StartFacts.{alone_steady}
 use Rattle.jwalk.proofs.walk_dir.crew_start.WalkDirGeneric+C+S+P+A+Crew+R.from_root_by.Goals as goal
 
 pub returns-in_default-clause-from_root : goal.returns-in_default-clause-from_root

@@ -1,0 +1,10 @@
+mod ReceivedFacts
+mod AheadFacts
+mod StepFacts
+pub mod PlacedFacts
+mod PassFacts
+mod PreparedPassFacts
+pub mod AnswerFacts
+pub mod StartFacts
+pub mod FillFacts
+pub mod SameFacts

@@ -1,0 +1,3 @@
+pub mod Step
+pub mod Entries
+pub mod DirEntryIter
