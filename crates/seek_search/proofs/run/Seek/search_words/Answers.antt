@@ -4,7 +4,7 @@ use Rattle.seek_found.proofs.ShownFacts.{shown_for}
 use Rattle.seek_words.proofs.AsksFacts.{shown_ask_for}
 use Rattle.seek_search.specs.Based.{functions_based, texts_based}
 use Rattle.seek_search.proofs.RunFacts.{searches_as}
-use Rattle.seek_search.proofs.run.run_words.Goals as goal
+use Rattle.seek_search.proofs.run.Seek.search_words.Goals as goal
 
 pub returns-in-Err-clause-status : goal.returns-in-Err-clause-status
 returns-in-Err-clause-status g c = ends_most _ _ c.in-Err.ensures.ended.ends
@@ -41,6 +41,7 @@ returns-clause-done g c = λ zero.
       is_over = record { of = over.of; from = over.from };
       from = c.in-Ok-Ok.texts;
       is_from = record { of = from.of; from = from.from };
+      folder = λ both. has_folder_as over.of over.from both.0;
       searches = searches_as _ _ (λ both. (subst g.S.FileSystem.IsFixed (sym over.of) both.0, subst g.X.Texts.IsFixed (sym from.of) both.1))
           (ap₂ functions_based over.from (ap g.S.FileSystem.functions over.of)) (ap₂ texts_based from.from (ap g.X.Texts.functions from.of)) c.in-Ok.ensures.unwritten done.2;
     })
