@@ -1,5 +1,5 @@
 -- The walks of a search, and its finds.
-use Rattle.std.specs.Prelude.{ℕ, zero, suc, ◌==◌, ◌||◌, Bool, true, false, not, List, [], ◌∷◌, bytes_eq, codes, flat_map, length, take, Option, None, Some, Result, Ok, Err, option_map, unwrap_or, if◌then◌else◌}
+use Rattle.std.specs.Prelude.{ℕ, zero, suc, ◌==◌, Bool, true, false, not, List, [], ◌∷◌, bytes_eq, codes, flat_map, length, take, Option, None, Some, Result, Ok, Err, option_map, unwrap_or, if◌then◌else◌}
 use Rattle.std.specs.declared.io.ErrorKind.{ErrorKind}
 use Rattle.jwalk.specs.jwalk_model.Counted.{Worth, blank}
 use Rattle.jwalk.specs.jwalk_model.Entry.{Item}
@@ -66,7 +66,7 @@ settings_asked lines asked = record first_settings {
 
 -- how the paths below a root begin if they are relative to the folder that the program runs in
 abbrev pub here_of : List ℕ → List ℕ
-here_of root = if bytes_eq root (codes ".") || bytes_eq (take 2 root) (codes "./") then codes "." else []
+here_of root = if bytes_eq root (codes ".") then codes "." else if bytes_eq (take 2 root) (codes "./") then codes "." else []
 
 -- what these lines of files name below a root: they match whole paths
 abbrev pub named_below : List ℕ → List ℕ → Excluded

@@ -58,10 +58,12 @@ pub(crate) fn excluding_of(
 fn here_of(root: &str) -> &str
     ensures { result.now ≡ here_of root.now }
 {
-    if root == "." || root.starts_with("./") {
-        "."
-    } else {
-        ""
+    if root == "." {
+        return ".";
+    }
+    match root.strip_prefix("./") {
+        Some(_) => ".",
+        None => "",
     }
 }
 
