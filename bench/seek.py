@@ -227,6 +227,8 @@ WORDS = [
     *[[f"--owner={owner}"] for owner in [f"{os.getuid()}", f"!{os.getuid()}", f":{os.getgid()}", f"{os.getuid()}:!{os.getgid()}"]],
     *[[word] for word in ["-H", "-I", "-u", "-HI", "-L", "-a", "-0", "--no-ignore-vcs", "--no-ignore-parent", "--one-file-system"]],
     ["--ignore-file=.given"], ["-H", "--ignore-file=.given"], ["--ignore-file=.given", "foo", "one"], ["--ignore-file=.given", "--ignore-file=.kept"],
+    *[[word, "--ignore-file=.given"] for word in ["-I", "-u"]], ["-I", "--ignore-file=.given", "foo", "one"], ["-I", "--ignore-file=.given", "--ignore-file=.kept"],
+    *[[*words, "foo"] for words in [["--ignore-file=nowhere"], ["-I", "--ignore-file=nowhere"], ["--ignore-file=one"]]],
     *[["-S", "-1k"], ["--size", "-1ki", "-S", "+1k"], ["-HS", "-10b"], ["-g", "--regex", "o$"]],
     *[["--path-separator", text, "-t", "f"] for text in ["#", "::", ""]], ["--path-separator=#", "--color=always", "b.foo"],
     *[["--base-directory", "one", *words] for words in [["foo"], ["foo", "two"], ["-a", "foo"], ["-p", "one/two"], ["foo", "../one"]]],

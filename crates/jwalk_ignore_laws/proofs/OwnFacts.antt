@@ -10,7 +10,7 @@ use Rattle.jwalk_model.specs.FileType.{is_file}
 use Rattle.jwalk_model.specs.Paths.{join}
 use Rattle.jwalk_model.specs.declared.file_type.FileType.{FileType}
 use Rattle.jwalk_ignore.specs.Callback.IgnoreFiles.{Made, Source, depth_of, file_of, git_by, git_in, if_read, is_git, is_missing, kind_of, kind_of_file, own_kind, rules_found, rules_read, rules_typed, source_in, with_item, with_listed, with_own}
-use Rattle.jwalk_ignore.specs.Rules.Git.{git, is_git_dir}
+use Rattle.jwalk_ignore.specs.Rules.Git.{git, is_repository}
 use Rattle.jwalk_ignore_laws.specs.Starts.{Agrees, is_of, is_regular, links_in, same_kind}
 use Rattle.jwalk_ignore.specs.Pattern.{Pattern}
 use Rattle.jwalk_ignore.specs.Rules.Chain.{Chain, Link, may_miss, with_link}
@@ -222,13 +222,13 @@ module _ (texts : Texts) (directory : List ℕ) {R E : Type 0} where
   abbrev git_of : Option (Item R E) → Option FileType
   git_of found = option_and_then (git_by texts directory) found
 
-  one_by : (items : List (Item R E)) → is_git_dir (git_of (first_of items)) ≡ true → length items ≤ 1 → length items ≡ 1
+  one_by : (items : List (Item R E)) → is_repository (git_of (first_of items)) ≡ true → length items ≤ 1 → length items ≡ 1
   one_by [] is few = absurd (cc)
   one_by (x ∷ items) is few = omega (arith, few)
 
   -- where `.git` is found there is one
-  one_git : (list : List (Item R E)) → is_git_dir (git_in texts directory list) ≡ true → length (filter is_git list) ≤ 1 → length (filter is_git list) ≡ 1
-  one_git list is few = one_by (filter is_git list) (sym (ap (λ (o : Option (Item R E)). is_git_dir (git_of o)) (find_first is_git list)) ∙ is) few
+  one_git : (list : List (Item R E)) → is_repository (git_in texts directory list) ≡ true → length (filter is_git list) ≤ 1 → length (filter is_git list) ≡ 1
+  one_git list is few = one_by (filter is_git list) (sym (ap (λ (o : Option (Item R E)). is_repository (git_of o)) (find_first is_git list)) ∙ is) few
 
 cond_read : (b : Bool) (before : ℕ) (found : Result (Option (List Pattern)) ErrorKind) → cond b (found_links before found) [] ≡ found_links before (cond b found (Ok None))
 cond_read true before found = refl
@@ -308,7 +308,7 @@ module _ (texts : Texts) (reads : RulesKind → Bool) (directory : List ℕ) (be
         (rest.0 ∙ first.0, rest.1 ∙ first.1)
 
     -- what a list leads to of a kind
-    number_read : (kind : RulesKind) (list : List (Item R E)) → Agrees texts directory list → (reads rules.Exclude ≡ true → is_git_dir (git_in texts directory list) ≡ true) → reads kind ≡ true
+    number_read : (kind : RulesKind) (list : List (Item R E)) → Agrees texts directory list → (reads rules.Exclude ≡ true → is_repository (git_in texts directory list) ≡ true) → reads kind ≡ true
         → times (length (filter (has kind) list)) (found_links before (listed_file kind)) ≡ found_links before (looked_for kind)
     number_read rules.Fdignore list agrees git_is is =
         let path : List ℕ = join directory (file_of rules.Fdignore) in
@@ -325,7 +325,7 @@ module _ (texts : Texts) (reads : RulesKind → Bool) (directory : List ℕ) (be
     number_read rules.Exclude list agrees git_is is =
         ap (λ (n : ℕ). times n (found_links before (listed_file rules.Exclude))) (one_git texts directory list (git_is is) agrees.once) ∙ append-nil (found_links before (listed_file rules.Exclude))
 
-    pub list_links : (kind : RulesKind) (chain : Chain) (list : List (Item R E)) → Agrees texts directory list → (reads rules.Exclude ≡ true → is_git_dir (git_in texts directory list) ≡ true)
+    pub list_links : (kind : RulesKind) (chain : Chain) (list : List (Item R E)) → Agrees texts directory list → (reads rules.Exclude ≡ true → is_repository (git_in texts directory list) ≡ true)
         → links_in kind (fold (with_listed texts reads directory before) (record { chain = chain; list = [] }) list).chain ≡ links_in kind chain ++ cond (reads kind) (found_links before (looked_for kind)) []
     list_links kind chain list agrees git_is =
         ap (links_in kind) (all_put (record { chain = chain; list = [] }) list) ∙ all_links kind chain list

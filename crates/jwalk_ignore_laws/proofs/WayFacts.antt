@@ -10,7 +10,7 @@ use Rattle.jwalk_model.specs.PathTexts.{IsName}
 use Rattle.jwalk_model.specs.Paths.{join, parent, with_slash}
 use Rattle.jwalk_ignore.specs.Callback.IgnoreFiles.{Made, all_kinds, file_of, git_in, goes_on as kind_goes_on, is_read, is_read_above, own_rules, rules_found, source_above, with_absolute, with_root}
 use Rattle.jwalk_ignore.specs.Rules.Folder.{Folder, ends_git, folder_at, folders_above}
-use Rattle.jwalk_ignore.specs.Rules.Git.{is_git_dir, is_repository}
+use Rattle.jwalk_ignore.specs.Rules.Git.{is_repository}
 use Rattle.jwalk_ignore_laws.specs.Starts.{Agrees, AreTheSame, IsWay, Lists, RulesAreTheSame, WalksBeginSo, begun, below, come_to, links_in, same_kind, unplaced}
 use Rattle.jwalk_ignore.specs.Rules.Chain.{Chain, Link, below_root, entered, place_in}
 use Rattle.jwalk_ignore.specs.Pattern.Names.{names_of}
@@ -289,7 +289,7 @@ module _ (settings : Settings) (texts : Texts) where
       let same : put_folder settings texts first folder ≡ put_folder settings texts first (folder_at texts false d) =
       ap (λ (g : Option FileType). let f : Folder = record { path = d; git = g; is_outer = false } in put_folder settings texts first f) agrees.git in
       let own_links : (kind : RulesKind) → links_in kind own ≡ links_in kind inside ++ cond (reads kind) (found_links (length p) (found kind)) [] =
-      λ kind. list_links texts reads d before kind inside list agrees (second_of settings.version_control (is_git_dir git))
+      λ kind. list_links texts reads d before kind inside list agrees (second_of settings.version_control (is_repository git))
       ∙ ap (λ (q : List ℕ). links_in kind inside ++ cond (reads kind) (found_links (length q) (found kind)) []) (entered_place (is_repository git) chain d) in
       let other_links : (kind : RulesKind) → links_in kind (put_folder settings texts first folder) ≡ links_in kind other ++ cond (reads kind) (found_links (length d) (found kind)) [] =
       λ kind. folder_links settings texts kind folder other

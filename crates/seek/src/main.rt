@@ -3,7 +3,7 @@
 
 use jwalk::file_system::{Patient, RealFs};
 use jwalk_ignore::real_texts::RealTexts;
-use seek_search::run::run;
+use seek_search::run::Seek;
 use seek_words::screen::Screen;
 use std::io::{IsTerminal, Write};
 use std::process::ExitCode;
@@ -40,21 +40,19 @@ fn main(rt: HostRuntime) -> ExitCode {
     };
     let (home, config) = (variable(&rt, "HOME"), variable(&rt, "XDG_CONFIG_HOME"));
     let status = match call_of(&rt) {
-        Ok((words, (disk, texts))) => run(
-            &rt,
-            &rt,
-            rt.alloc(),
+        Ok((words, (disk, texts))) => Seek {
+            rt: &rt,
+            clock: &rt,
+            alloc: rt.alloc(),
             disk,
             texts,
-            words.as_slice(),
-            Home {
+            home: Home {
                 home: home.as_str(),
                 config: config.as_str(),
             },
             screen,
-            &mut io::writer(&rt),
-            &mut err,
-        ),
+        }
+        .run(words.as_slice(), &mut io::writer(&rt), &mut err),
         Err(error) => {
             let _ = writeln!(err, "seek: words that can't be read: {error}");
             2

@@ -1,7 +1,12 @@
 -- A disk and texts of rules, as they are seen from a folder.
-use Rattle.std.specs.Prelude.{◌≡◌, ℕ, List, Option, None, Some, option_map, string_bytes}
+use Rattle.std.specs.Prelude.{◌≡◌, ℕ, Bool, true, false, List, Option, None, Some, Result, Ok, Err, option_map, string_bytes}
+use Rattle.std.specs.Option.{option_map_or}
+use Rattle.std.specs.declared.io.ErrorKind.{ErrorKind}
 use Rattle.jwalk.specs.jwalk_model.FileSystem.{Functions}
-use Rattle.jwalk.specs.jwalk_model.Paths.{join}
+use Rattle.jwalk.specs.jwalk_model.FileType.{is_dir}
+use Rattle.jwalk.specs.jwalk_model.Metadata.{type_of}
+use Rattle.jwalk.specs.jwalk_model.declared.metadata.Metadata.{Metadata}
+use Rattle.jwalk.specs.jwalk_model.Paths.{dot, join}
 use Rattle.jwalk_ignore.specs.Rules.Texts.{Texts}
 use Rattle.seek_words.specs.Paths.{without_here}
 use Rattle.seek_words.specs.declared.asked.Asked.{Asked}
@@ -37,6 +42,15 @@ base_of it = option_map string_bytes it.base
 -- the folder that a search runs in, if it isn't that of the program
 abbrev pub base_asked : Asked → Option (List ℕ)
 base_asked asked = option_map (λ base. base.now) asked.base
+
+-- whether this is the metadata of a directory
+abbrev pub is_folder : Result Metadata ErrorKind → Bool
+is_folder (Ok m) = is_dir (type_of m)
+is_folder (Err k) = false
+
+-- whether the folder that is asked for is a directory or a link to one, if one is named, on the disk as it is seen from there
+abbrev pub has_folder : Functions → Asked → Bool
+has_folder fs asked = option_map_or (λ _. is_folder (fs.meta_of dot)) asked.base true
 
 -- This is a disk, or texts, as it is seen from the folder that is asked for.
 pub record IsBased {V : Type 0} (value : V) (asked : Asked) (it : Based V) : Type 0 where

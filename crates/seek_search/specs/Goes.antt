@@ -27,8 +27,10 @@ use Rattle.seek_found.specs.Limit.{is_hit}
 use Rattle.seek_found.specs.Prune.{unpruned}
 use Rattle.seek_found.specs.Roots.{AreBelow, Below, PrintsSuch}
 use Rattle.program_walks.specs.Options.{with_crew}
+use Rattle.jwalk.specs.jwalk_callbacks.Both.{first_of, second_of}
+use Rattle.jwalk.specs.jwalk_callbacks.declared.both.Both.{Both}
 use Rattle.jwalk_ignore.specs.Callback.Excluding.{excluded_of}
-use Rattle.seek_search.specs.Search.{excluded_asked, form_before, limit_asked, options_asked, roots_asked, settings_asked, sought_before}
+use Rattle.seek_search.specs.Search.{excluded_asked, form_before, limit_asked, named_below, options_asked, roots_asked, settings_asked, sought_before}
 use Rattle.jwalk_ignore.specs.declared.callback.excluding.Excluding.{Excluding}
 use Rattle.seek_search.specs.declared.kept_links.KeptLinks.{KeptLinks}
 use Rattle.jwalk_ignore.specs.declared.callback.kept_rules.KeptRules.{KeptRules}
@@ -49,13 +51,19 @@ pub record Yielded {T C S P A R E : Type 0} (calls : CallsOf T C S P A R E) (is 
   pub called : Drains calls it yielded ⊎ (may_stop × ((end : DirEntryIter C S P A (Session T C S P A R E) R E) × Yields calls it yielded end))
   pub counted : unpruned sought (counted_list stateless yielded) ≡ answers
 
--- The walk over this disk below this root, without ignore files. It leaves out what `-E` names. A crew may read for it.
-pub record IsPlain {T C S B A R E : Type 0} (disk : S) (asked : Asked) (root : List ℕ) (walk : WalkDirGeneric C (Arc S B) Excluding A (Crew T) R E) : Type 0 where
+-- the callback of walks without ignore files
+abbrev pub LeavesOut : Type 0
+LeavesOut = Both Excluding Excluding
+
+-- The walk over this disk below this root, without ignore files. It leaves out what these lines name, and then what `-E`
+-- does. A crew may read for it.
+pub record IsPlain {T C S B A R E : Type 0} (disk : S) (lines : List ℕ) (asked : Asked) (root : List ℕ) (walk : WalkDirGeneric C (Arc S B) LeavesOut A (Crew T) R E) : Type 0 where
   pub over : arc_value (file_system_of walk) ≡ disk
   pub below : root_of walk ≡ root
   pub by_crew : Bool
   pub options : options_of walk ≡ with_crew by_crew (options_asked asked)
-  pub excluded : excluded_of (callback_of walk) ≡ excluded_asked asked root
+  pub named : excluded_of (first_of (callback_of walk)) ≡ named_below lines root
+  pub excluded : excluded_of (second_of (callback_of walk)) ≡ excluded_asked asked root
 
 -- The walk over this disk below this root that honours the ignore files of these texts, and at last these lines. It begins without rules, and is
 -- shown hidden names. It drops these itself, unless they are asked for.
@@ -69,13 +77,13 @@ pub record IsHonouring {T C S B X A D Q E : Type 0} (disk : S) (texts : X) (line
   pub excluded : excluded_of (next_of (callback_of walk).rules) ≡ excluded_asked asked root
   pub begins : rules_alone (state_of walk) ≡ no_rules_yet
 
-module _ {T C S B X A D Q E G H F : Type 0} (plain : CallsOf T G (Arc S B) Excluding A H F) (honouring : CallsOf T C (Arc S B) (KeptRules X) A (Chain D × Q) E) where
+module _ {T C S B X A D Q E G H F : Type 0} (plain : CallsOf T G (Arc S B) LeavesOut A H F) (honouring : CallsOf T C (Arc S B) (KeptRules X) A (Chain D × Q) E) where
   -- The answers are those of the walk that is asked for below this root: all of them, unless the search may stop.
   abbrev pub YieldedBelow : S → X → List ℕ → Asked → Sought → Below
   YieldedBelow disk texts lines asked sought may_stop root answers =
-      MatchBool asked.no_ignore (Yielded plain (IsPlain disk asked root) sought may_stop answers) (Yielded honouring (IsHonouring disk texts lines asked root) sought may_stop answers)
+      MatchBool asked.no_ignore (Yielded plain (IsPlain disk lines asked root) sought may_stop answers) (Yielded honouring (IsHonouring disk texts lines asked root) sought may_stop answers)
 
-module _ {T C Z B X A D Q E G H F : Type 0} (plain : CallsOf T G (Arc (KeptLinks Z) B) Excluding A H F) (honouring : CallsOf T C (Arc (KeptLinks Z) B) (KeptRules X) A (Chain D × Q) E) where
+module _ {T C Z B X A D Q E G H F : Type 0} (plain : CallsOf T G (Arc (KeptLinks Z) B) LeavesOut A H F) (honouring : CallsOf T C (Arc (KeptLinks Z) B) (KeptRules X) A (Chain D × Q) E) where
   -- The answers are those of the walks below the roots that are asked for, one root after another. Links that lead
   -- nowhere stay links.
   abbrev pub AreYielded : Z → X → List ℕ → Asked → Sought → Type 0 → List (Item Worth Worth) → Type 0

@@ -5,3 +5,4 @@ pub mod RulesRead
 pub mod Printed
 pub mod Goes
 pub mod KeptLinks
+pub mod Printing

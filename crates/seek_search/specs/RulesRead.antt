@@ -26,6 +26,6 @@ lines_found (Err k) = []
 abbrev pub lines_at : Texts → List ℕ → List ℕ
 lines_at texts path = lines_found (texts.bytes_of path)
 
--- the lines of the files that decide last, if ignore files are read
+-- the lines of the files that decide last
 abbrev pub lines_asked : Texts → Asked → List ℕ
-lines_asked texts asked = if asked.no_ignore then [] else flat_map (lines_at texts) (texts_of asked.ignore_files.items)
+lines_asked texts asked = flat_map (lines_at texts) (texts_of asked.ignore_files.items)

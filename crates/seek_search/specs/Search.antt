@@ -1,13 +1,15 @@
 -- The walks of a search, and its finds.
-use Rattle.std.specs.Prelude.{ℕ, zero, suc, ◌==◌, Bool, true, false, not, List, [], ◌∷◌, flat_map, length, Option, None, Some, Result, Ok, Err, option_map, unwrap_or, if◌then◌else◌}
+use Rattle.std.specs.Prelude.{ℕ, zero, suc, ◌==◌, Bool, true, false, not, List, [], ◌∷◌, bytes_eq, codes, flat_map, length, take, Option, None, Some, Result, Ok, Err, option_map, unwrap_or, if◌then◌else◌}
 use Rattle.std.specs.declared.io.ErrorKind.{ErrorKind}
 use Rattle.jwalk.specs.jwalk_model.Counted.{Worth, blank}
 use Rattle.jwalk.specs.jwalk_model.Entry.{Item}
 use Rattle.jwalk.specs.jwalk_model.FileSystem.{Functions}
 use Rattle.jwalk.specs.jwalk_model.Options.{Options}
 use Rattle.jwalk.specs.jwalk_model.Paths.{join, dot}
+use Rattle.jwalk.specs.jwalk_model.Job.{Processing}
 use Rattle.jwalk.specs.jwalk_model.Walk.{whole_walk}
-use Rattle.jwalk_ignore.specs.Callback.Excluding.{Excluded, excluded_by, excluding}
+use Rattle.jwalk.specs.jwalk_callbacks.Both.{chained}
+use Rattle.jwalk_ignore.specs.Callback.Excluding.{Excluded, excluded_by, excluded_in, excluding}
 use Rattle.jwalk_ignore.specs.Callback.Given.{first_settings}
 use Rattle.jwalk_ignore.specs.Callback.Kept.{ignoring_walk, job_with}
 use Rattle.jwalk_ignore.specs.Rules.Line.{patterns_of}
@@ -62,9 +64,21 @@ settings_asked lines asked = record first_settings {
   given = patterns_of lines;
 }
 
+-- how the paths below a root begin if they are relative to the folder that the program runs in
+abbrev pub here_of : List ℕ → List ℕ
+here_of root = if bytes_eq root (codes ".") then codes "." else if bytes_eq (take 2 root) (codes "./") then codes "." else []
+
+-- what these lines of files name below a root: they match whole paths
+abbrev pub named_below : List ℕ → List ℕ → Excluded
+named_below lines root = excluded_in lines (here_of root)
+
+-- what is made of lists without ignore files: what lines of named files leave out is dropped, and then what `-E` does
+abbrev pub leaving_out : Excluded → Excluded → Processing Worth Worth
+leaving_out named excluded = chained (excluding named) (excluding excluded)
+
 -- all answers of a walk without ignore files, below a root
-abbrev pub all_below : Functions → Asked → Excluded → List ℕ → List (Item Worth Worth)
-all_below fs asked excluded root = whole_walk (job_with fs (options_asked asked) (excluding excluded)) root blank
+abbrev pub all_below : Functions → List ℕ → Asked → Excluded → List ℕ → List (Item Worth Worth)
+all_below fs lines asked excluded root = whole_walk (job_with fs (options_asked asked) (leaving_out (named_below lines root) excluded)) root blank
 
 -- the same with ignore files
 abbrev pub kept_below : Functions → Texts → List ℕ → Asked → Excluded → List ℕ → List (Item Worth Worth)
@@ -81,7 +95,7 @@ excluded_asked asked root = excluded_by (flat_map lines_of (texts_of asked.exclu
 -- all answers below a root
 abbrev pub yielded_below : Functions → Texts → List ℕ → Asked → List ℕ → List (Item Worth Worth)
 yielded_below fs texts lines asked root =
-    if asked.no_ignore then all_below fs asked (excluded_asked asked root) root else kept_below fs texts lines asked (excluded_asked asked root) root
+    if asked.no_ignore then all_below fs lines asked (excluded_asked asked root) root else kept_below fs texts lines asked (excluded_asked asked root) root
 
 -- the roots: the folder that the program runs in, if none is named
 abbrev pub roots_asked : Asked → List (List ℕ)

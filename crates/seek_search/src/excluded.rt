@@ -1,8 +1,8 @@
-//! The lines of `-E`.
+//! What is left out without ignore files: the lines of `-E`, and those of files that are named.
 ghost use Rattle.std.specs.Prelude.{◌≡◌, flat_map, map, string_bytes, IfOk};
 ghost use Rattle.jwalk_ignore.specs.Callback.Excluding.{excluded_by, excluded_of};
 ghost use Rattle.program_parts.specs.Values.{texts_of};
-ghost use Rattle.seek_search.specs.Search.{lines_of};
+ghost use Rattle.seek_search.specs.Search.{here_of, lines_of, named_below};
 
 use jwalk_ignore::excluding::Excluding;
 use seek_braces::expansions;
@@ -52,4 +52,25 @@ pub(crate) fn excluding_of(
     let all = all_lines(alloc, lines)?;
     let texts = borrowed(alloc, all.as_slice())?;
     Excluding::new(alloc, texts.as_slice(), root)
+}
+
+/// Returns how the paths below a root begin if they are relative to the folder that the program runs in.
+fn here_of(root: &str) -> &str
+    ensures { result.now ≡ here_of root.now }
+{
+    if root == "." {
+        return ".";
+    }
+    match root.strip_prefix("./") {
+        Some(_) => ".",
+        None => "",
+    }
+}
+
+/// Returns the callback that leaves out what these lines of files name below a root. They match whole paths, from the
+/// folder that the program runs in, or from `/` if the root is absolute.
+pub(crate) fn naming_of(alloc: Global, lines: &[u8], root: &str) -> Result<Excluding, AllocError>
+    ensures { IfOk result (λ it. excluded_of it ≡ named_below lines.now root.now) }
+{
+    Excluding::of_text(alloc, lines, here_of(root))
 }

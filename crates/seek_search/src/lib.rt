@@ -4,6 +4,7 @@
 mod based;
 mod excluded;
 mod kept_links;
+mod printing;
 mod rules_read;
 pub mod run;
 mod search;

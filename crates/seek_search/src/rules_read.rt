@@ -20,7 +20,7 @@ pub(crate) struct RulesRead {
     pub(crate) excludes: Vec<u8>,
     /// The lines of the files that decide last.
     pub(crate) lines: Vec<u8>,
-    /// No file was there that can't be read.
+    /// The user's excludes are known.
     pub(crate) clean: bool,
 }
 
@@ -52,14 +52,14 @@ fn excludes_read<X: Texts, E: Write>(
     }
 }
 
-/// Appends the lines of a file, or reports its error. Returns whether there is none.
+/// Appends the lines of a file, or reports its error.
 fn add_lines<X: Texts, E: Write>(
     alloc: Global,
     texts: &X,
     path: &str,
     lines: &mut Vec<u8>,
     err: &mut E,
-) -> Result<bool, AllocError>
+) -> Result<(), AllocError>
     ensures { X.IsFixed texts.now → OnOk result (lines.new.items
         ≡ lines.old.items ++ lines_found ((X.functions texts.now).bytes_of path.now)) }
 {
@@ -67,36 +67,34 @@ fn add_lines<X: Texts, E: Write>(
         Ok(bytes) => {
             lines.extend_from_slice(without_mark(&bytes))?;
             lines.push(b'\n')?;
-            Ok(true)
+            Ok(())
         }
         Err(Fault::Io(error)) => {
             report(path, &error, err);
-            Ok(false)
+            Ok(())
         }
         Err(Fault::Memory) => Err(AllocError),
     }
 }
 
-/// Returns the lines of files, one after another, and whether all of them were read.
+/// Returns the lines of files, one after another. A file that can't be read is reported, and has none.
 fn lines_read<X: Texts, E: Write>(
     alloc: Global,
     texts: &X,
     paths: &[&str],
     err: &mut E,
-) -> Result<(Vec<u8>, bool), AllocError>
-    ensures { X.IsFixed texts.now → IfOk result (λ it. it.0.items ≡ flat_map (lines_at (X.functions texts.now)) (texts_of paths.now)) }
+) -> Result<Vec<u8>, AllocError>
+    ensures { X.IsFixed texts.now → IfOk result (λ lines. lines.items ≡ flat_map (lines_at (X.functions texts.now)) (texts_of paths.now)) }
 {
     let mut lines = Vec::new(alloc);
-    let mut clean = true;
     for path in paths {
-        clean &= add_lines(alloc, texts, path, &mut lines, err)?;
+        add_lines(alloc, texts, path, &mut lines, err)?;
     }
-    Ok((lines, clean))
+    Ok(lines)
 }
 
 impl RulesRead {
-    /// Reads the user's excludes, and the files that decide last, as far as they are asked for. Reports those that can't
-    /// be read.
+    /// Reads the user's excludes, if they are asked for, and the files that decide last. Reports those that can't be read.
     pub(crate) fn read<X: Texts, E: Write>(
         alloc: Global,
         texts: &X,
@@ -108,19 +106,11 @@ impl RulesRead {
             → it.excludes.items ≡ excludes_asked (X.functions texts.now) home.entry asked.now) }
         ensures lines { X.IsFixed texts.now → IfOk result (λ it. it.lines.items ≡ lines_asked (X.functions texts.now) asked.now) }
     {
-        let (excludes, known) = excludes_read(alloc, texts, home, asked, err)?;
-        if asked.no_ignore {
-            return Ok(RulesRead {
-                excludes,
-                lines: Vec::new(alloc),
-                clean: known,
-            });
-        }
-        let (lines, all) = lines_read(alloc, texts, asked.ignore_files.as_slice(), err)?;
+        let (excludes, clean) = excludes_read(alloc, texts, home, asked, err)?;
         Ok(RulesRead {
             excludes,
-            lines,
-            clean: known && all,
+            lines: lines_read(alloc, texts, asked.ignore_files.as_slice(), err)?,
+            clean,
         })
     }
 }

@@ -1,6 +1,7 @@
 //! A search below roots.
-ghost use Rattle.std.specs.Prelude.{◌≡◌, [], false, IfOk};
+ghost use Rattle.std.specs.Prelude.{◌≡◌, [], false, flat_map, IfOk};
 ghost use Rattle.std.specs.Arc.{arc_value};
+ghost use Rattle.program_parts.specs.Values.{texts_of as texts_now};
 ghost use Rattle.seek_words.specs.Filter.{sought_of};
 ghost use Rattle.seek_words.specs.Lines.{form_of};
 ghost use Rattle.jwalk.specs.jwalk_model.Options.{with_skip_hidden};
@@ -11,14 +12,15 @@ ghost use Rattle.jwalk_ignore.specs.Callback.Excluding.{excluded_of};
 ghost use Rattle.jwalk_ignore.specs.Callback.Kept.{ignoring_walk};
 ghost use Rattle.seek_search.specs.Goes.{IsHonouring, IsPlain, Yielded, YieldedBelow};
 ghost use Rattle.seek_search.specs.Printed.{PrintsAll, PrintsThose, PrintsWalk};
-ghost use Rattle.seek_search.specs.Search.{all_below, excluded_asked, kept_below, settings_asked, unpruned_below, walk_options};
+ghost use Rattle.seek_search.specs.Search.{all_below, excluded_asked, kept_below, roots_asked, settings_asked, unpruned_below, walk_options, yielded_by};
 ghost use Rattle.seek_found.specs.Prune.{unpruned};
+ghost use Rattle.seek_found.specs.Roots.{AreBelow};
 ghost use Rattle.seek_found.specs.SoughtTest.{takes_of};
 
-use crate::excluded::excluding_of;
+use crate::excluded::{excluding_of, naming_of};
 use jwalk::crew::Session;
 use jwalk::file_system::FileSystem;
-use jwalk::read_dir::ProcessReadDir;
+use jwalk::read_dir::{Both, ProcessReadDir};
 use jwalk::{ClientState, Crew, DirEntryIter, WalkDirGeneric};
 use jwalk_ignore::builder::with_hidden_shown;
 use jwalk_ignore::excluding::Excluding;
@@ -41,8 +43,11 @@ use std::time::Clock;
 /// A walk under way that a crew may read for.
 pub(crate) type CrewWalk<T, C, S, P> = DirEntryIter<C, S, P, Global, Session<T, C, S, P, Global>>;
 
+/// A callback without ignore files: it drops what lines of named files leave out, and then what `-E` does.
+type LeavesOut = Both<Excluding, Excluding>;
+
 /// A walk without ignore files.
-pub(crate) type PlainWalk<T, S> = CrewWalk<T, ((), ()), Arc<S>, Excluding>;
+pub(crate) type PlainWalk<T, S> = CrewWalk<T, ((), ()), Arc<S>, LeavesOut>;
 
 /// A walk with ignore files.
 pub(crate) type HonouringWalk<T, S, X> = CrewWalk<T, KeptStates, Arc<S>, KeptRules<X>>;
@@ -179,15 +184,16 @@ impl<
         err: &mut E,
     ) -> Result<bool, Halt>
         ensures whole { IfOk result (λ clean. S.IsFixed (arc_value self.now.disk) → PrintsAll (λ sought. unpruned sought
-            (all_below (S.functions (arc_value self.now.disk)) self.now.asked.now
+            (all_below (S.functions (arc_value self.now.disk)) self.now.lines.now self.now.asked.now
             (excluded_asked self.now.asked.now root.now) root.now))
             printer.old printer.new (W.contents out.old) (W.contents out.new) clean) }
         ensures yielded { IfOk result (PrintsThose (Yielded ⟦<PlainWalk<T, S> as Iterator>⟧.next_gives
-            (IsPlain (arc_value self.now.disk) self.now.asked.now root.now))
+            (IsPlain (arc_value self.now.disk) self.now.lines.now self.now.asked.now root.now))
             printer.old printer.new (W.contents out.old) (W.contents out.new)) }
         ensures sought { sought_of takes_of printer.new.filter ≡ sought_of takes_of printer.old.filter }
         ensures form { form_of printer.new.lines ≡ form_of printer.old.lines }
     {
+        let naming = naming_of(alloc, self.lines, root)?;
         let excluding = excluding_of(alloc, self.asked.excludes.as_slice(), root)?;
         let root = String::from_str(alloc, root)?;
         let disk = self.disk.clone()?;
@@ -195,7 +201,7 @@ impl<
             .options()
             .walk_of::<((), ()), _, _, _>(disk, root, &self.crew)?;
         print_begun(
-            walk.process_read_dir(excluding),
+            walk.process_read_dir(Both::new(naming, excluding)),
             printer,
             self.clock,
             out,
@@ -235,7 +241,7 @@ impl<
     }
 
     /// Prints what is found, and reports errors. Returns whether there was none.
-    pub(crate) fn below<W: Write, E: Write>(
+    fn below<W: Write, E: Write>(
         &self,
         alloc: Global,
         root: &str,
@@ -257,5 +263,62 @@ impl<
             return self.search_all(alloc, root, printer, out, err);
         }
         self.search_kept(alloc, root, printer, out, err)
+    }
+
+    /// Searches the two halves of the roots in turn. Returns whether there was no error.
+    fn below_each<W: Write, E: Write>(
+        &self,
+        alloc: Global,
+        roots: &[&str],
+        printer: &mut Printer<'_, SoughtTest<'_>>,
+        out: &mut W,
+        err: &mut E,
+    ) -> Result<bool, Halt>
+        ensures yielded { IfOk result (PrintsThose (λ sought may_stop. AreBelow (YieldedBelow ⟦<PlainWalk<T, S> as Iterator>⟧.next_gives
+            ⟦<HonouringWalk<T, S, X> as Iterator>⟧.next_gives (arc_value self.now.disk) (arc_value self.now.texts)
+            self.now.lines.now self.now.asked.now sought) may_stop (texts_now roots.now)) printer.old printer.new (W.contents out.old) (W.contents out.new)) }
+        ensures whole { IfOk result (λ clean. S.IsFixed (arc_value self.now.disk) → X.IsFixed (arc_value self.now.texts)
+            → PrintsAll (λ sought. flat_map (unpruned_below (S.functions (arc_value self.now.disk))
+            (X.functions (arc_value self.now.texts)) self.now.lines.now self.now.asked.now sought) (texts_now roots.now)) printer.old printer.new (W.contents out.old) (W.contents out.new) clean) }
+        ensures sought { sought_of takes_of printer.new.filter ≡ sought_of takes_of printer.old.filter }
+        ensures form { form_of printer.new.lines ≡ form_of printer.old.lines }
+    {
+        match roots {
+            [] => Ok(true),
+            [root] => self.below(alloc, root, printer, out, err),
+            _ => {
+                let (first, rest) = roots.split_at(roots.len() / 2);
+                let clean = self.below_each(alloc, first, printer, out, err)?;
+                if printer.is_full() {
+                    return Ok(clean);
+                }
+                Ok(clean & self.below_each(alloc, rest, printer, out, err)?)
+            }
+        }
+    }
+
+    /// Searches the roots that are asked for, or the folder that the program runs in, if none is named. Returns whether
+    /// there was no error.
+    pub(crate) fn below_roots<W: Write, E: Write>(
+        &self,
+        alloc: Global,
+        printer: &mut Printer<'_, SoughtTest<'_>>,
+        out: &mut W,
+        err: &mut E,
+    ) -> Result<bool, Halt>
+        ensures yielded { IfOk result (PrintsThose (λ sought may_stop. AreBelow (YieldedBelow ⟦<PlainWalk<T, S> as Iterator>⟧.next_gives
+            ⟦<HonouringWalk<T, S, X> as Iterator>⟧.next_gives (arc_value self.now.disk) (arc_value self.now.texts)
+            self.now.lines.now self.now.asked.now sought) may_stop (roots_asked self.now.asked.now)) printer.old printer.new
+            (W.contents out.old) (W.contents out.new)) }
+        ensures whole { IfOk result (λ clean. S.IsFixed (arc_value self.now.disk) → X.IsFixed (arc_value self.now.texts)
+            → PrintsAll
+            (yielded_by (S.functions (arc_value self.now.disk)) (X.functions (arc_value self.now.texts)) self.now.lines.now self.now.asked.now)
+            printer.old printer.new (W.contents out.old) (W.contents out.new) clean) }
+    {
+        let roots = self.asked.roots.as_slice();
+        if roots.is_empty() {
+            return self.below(alloc, ".", printer, out, err);
+        }
+        self.below_each(alloc, roots, printer, out, err)
     }
 }

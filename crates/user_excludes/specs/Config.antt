@@ -33,9 +33,27 @@ is_equals byte = byte == 61
 abbrev has_byte : (ℕ → Bool) → List ℕ → Bool
 has_byte test text = nat_lt (position_or_len test text) (length text)
 
+-- what is in front of a `#`, or of a `;`, or the text if it has none
+abbrev pub before_hash : List ℕ → List ℕ
+before_hash = before_first (λ byte. byte == 35)
+
+abbrev pub before_semicolon : List ℕ → List ℕ
+before_semicolon = before_first (λ byte. byte == 59)
+
+-- what is in front of a comment, without the spaces there
+abbrev pub uncommented : List ℕ → List ℕ
+uncommented text = trim (before_semicolon (before_hash text))
+
+abbrev pub has_quote : List ℕ → Bool
+has_quote = has_byte is_quote
+
 -- what is between a text's quotes, or the text if it has none
+abbrev pub between_quotes : List ℕ → List ℕ
+between_quotes text = if has_quote text then before_first is_quote (after_first is_quote text) else text
+
+-- what is between a value's quotes, or the value without a comment behind it if it has none
 abbrev pub unquoted : List ℕ → List ℕ
-unquoted text = if has_byte is_quote text then before_first is_quote (after_first is_quote text) else text
+unquoted text = if has_quote (uncommented text) then between_quotes text else uncommented text
 
 -- whether a line sets the key
 abbrev pub is_key : List ℕ → Bool
@@ -53,7 +71,7 @@ with_value reading (Some path) = if reading.in_core then record { in_core = true
 -- what is known behind one more line
 abbrev pub after : Reading → List ℕ → Reading
 after reading line =
-    if is_section (trim line) then record { in_core = has_text (trim line) (codes "[core]"); path = reading.path }
+    if is_section (trim line) then record { in_core = has_text (uncommented (trim line)) (codes "[core]"); path = reading.path }
     else with_value reading (value_in (trim line))
 
 -- the lines of a text

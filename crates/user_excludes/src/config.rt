@@ -1,7 +1,7 @@
 //! Lines of git's configuration.
 ghost use Rattle.std.specs.Prelude.{◌≡◌, map, IfOk};
 ghost use Rattle.std.specs.Option.{option_copied, option_map};
-ghost use Rattle.user_excludes.specs.Config.{excludes_named, has_text, is_section, lines_in, reading_of, unquoted, value_in};
+ghost use Rattle.user_excludes.specs.Config.{before_hash, before_semicolon, between_quotes, excludes_named, has_quote, has_text, is_section, lines_in, reading_of, uncommented, unquoted, value_in};
 
 use std::alloc::{AllocError, Global};
 
@@ -27,9 +27,45 @@ fn is_section(line: &str) -> bool
     matches!(line.as_bytes(), [b'[', ..])
 }
 
+/// Returns what is in front of a `#`, or the text if it has none.
+fn before_hash(text: &str) -> &str
+    ensures { result.now ≡ before_hash text.now }
+{
+    match text.split_once('#') {
+        Some((front, _)) => front,
+        None => text,
+    }
+}
+
+/// Returns what is in front of a `;`, or the text if it has none.
+fn before_semicolon(text: &str) -> &str
+    ensures { result.now ≡ before_semicolon text.now }
+{
+    match text.split_once(';') {
+        Some((front, _)) => front,
+        None => text,
+    }
+}
+
+/// Returns what is in front of a comment, without the spaces there.
+fn uncommented(text: &str) -> &str
+    ensures { result.now ≡ uncommented text.now }
+{
+    before_semicolon(before_hash(text)).trim()
+}
+
+fn has_quote(text: &str) -> bool
+    ensures { result ≡ has_quote text.now }
+{
+    match text.split_once('"') {
+        Some(_) => true,
+        None => false,
+    }
+}
+
 /// Returns what is between a text's quotes, or the text if it has none.
-fn unquoted(text: &str) -> &str
-    ensures { result.now ≡ unquoted text.now }
+fn between_quotes(text: &str) -> &str
+    ensures { result.now ≡ between_quotes text.now }
 {
     let Some((_, behind)) = text.split_once('"') else {
         return text;
@@ -37,6 +73,18 @@ fn unquoted(text: &str) -> &str
     match behind.split_once('"') {
         Some((inside, _)) => inside,
         None => behind,
+    }
+}
+
+/// Returns what is between a value's quotes, or the value without a comment behind it if it has none.
+fn unquoted(text: &str) -> &str
+    ensures { result.now ≡ unquoted text.now }
+{
+    let plain = uncommented(text);
+    if has_quote(plain) {
+        between_quotes(text)
+    } else {
+        plain
     }
 }
 
@@ -62,7 +110,7 @@ impl<'t> Reading<'t> {
         let line = line.trim();
         if is_section(line) {
             return Reading {
-                in_core: is_folded(line, "[core]"),
+                in_core: is_folded(uncommented(line), "[core]"),
                 path: self.path,
             };
         }

@@ -24,9 +24,13 @@ pub record Excluded : Type 0 where
 abbrev pub lines_text : List (List ℕ) → List ℕ
 lines_text = flat_map (λ line. line ++ 10 ∷ [])
 
+-- what is left out by a file's bytes, as if it lay in the folder with this path
+abbrev pub excluded_in : List ℕ → List ℕ → Excluded
+excluded_in text folder = record { patterns = patterns_of text; root_len = length folder }
+
 -- what is left out by lines, below a root with this path
 abbrev pub excluded_by : List (List ℕ) → List ℕ → Excluded
-excluded_by lines root = record { patterns = patterns_of (lines_text lines); root_len = length root }
+excluded_by lines = excluded_in (lines_text lines)
 
 -- what a callback leaves out
 abbrev pub excluded_of : Excluding → Excluded

@@ -11,7 +11,7 @@ use Rattle.jwalk.specs.jwalk_model.Error.{io}
 use Rattle.jwalk.specs.jwalk_model.Entry.{Item, is_hidden}
 use Rattle.jwalk_ignore.specs.Rules.Chain.{Chain, below_root, chain_says, entered, is_ignored, may_miss, place_in, with_link}
 use Rattle.jwalk_ignore.specs.Rules.Folder.{Folder, folders_above}
-use Rattle.jwalk_ignore.specs.Rules.Git.{git, git_at, is_git_dir, is_repository}
+use Rattle.jwalk_ignore.specs.Rules.Git.{git, git_at, is_repository}
 use Rattle.jwalk_ignore.specs.Rules.Line.{patterns_of}
 use Rattle.jwalk_ignore.specs.Rules.Matching.{or_else, patterns_say}
 use Rattle.jwalk_ignore.specs.Pattern.{Pattern}
@@ -33,7 +33,7 @@ abbrev pub is_read : Settings → Bool → Option FileType → RulesKind → Boo
 is_read settings in_repository found rules.Fdignore = settings.fdignore
 is_read settings in_repository found rules.Ignore = true
 is_read settings in_repository found rules.Gitignore = settings.version_control && (settings.anywhere || in_repository)
-is_read settings in_repository found rules.Exclude = settings.version_control && is_git_dir found
+is_read settings in_repository found rules.Exclude = settings.version_control && is_repository found
 
 -- the kind of rules that a regular file of this name has
 abbrev pub kind_of_file : List ℕ → Option RulesKind

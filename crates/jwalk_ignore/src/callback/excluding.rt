@@ -146,7 +146,29 @@ fn included<C: ClientState, A: Allocator + Copy>(
 }
 
 impl Excluding {
-    ghost use Rattle.jwalk_ignore.specs.Callback.Excluding.{excluded_by, excluded_of};
+    ghost use Rattle.jwalk_ignore.specs.Callback.Excluding.{excluded_by, excluded_in, excluded_of};
+
+    /// Returns the callback of a file of rules with these bytes, as if it lay in the folder with this path. The walks
+    /// are below that folder. Its path is empty for rules that match what is walked by its whole path.
+    ///
+    /// # Errors
+    ///
+    /// If memory runs out.
+    pub fn of_text(alloc: Global, text: &[u8], folder: &str) -> Result<Self, AllocError>
+        ensures { IfOk result (λ it. excluded_of it ≡ excluded_in text.now folder.now) }
+    {
+        let root_len = folder.len();
+        if text.is_empty() {
+            return Ok(Excluding {
+                rules: None,
+                root_len,
+            });
+        }
+        Ok(Excluding {
+            rules: Some(Rules::parse(alloc, text)?),
+            root_len,
+        })
+    }
 
     /// Returns the callback of these lines, for walks below a root with this path.
     ///
@@ -156,18 +178,8 @@ impl Excluding {
     pub fn new(alloc: Global, lines: &[&str], root: &str) -> Result<Self, AllocError>
         ensures { IfOk result (λ it. excluded_of it ≡ excluded_by (map (λ it. it.now) lines.now) root.now) }
     {
-        let root_len = root.len();
-        if lines.is_empty() {
-            return Ok(Excluding {
-                rules: None,
-                root_len,
-            });
-        }
         let text = text_of(alloc, lines)?;
-        Ok(Excluding {
-            rules: Some(Rules::parse(alloc, text.as_slice())?),
-            root_len,
-        })
+        Excluding::of_text(alloc, text.as_slice(), root)
     }
 }
 

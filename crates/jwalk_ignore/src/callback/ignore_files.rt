@@ -32,7 +32,7 @@ use std::mem;
 /// - `.gitignore` counts in a repository: a directory whose `.git` leads to a directory or a file, and all below it. In
 ///   another repository the rules of the outer one end; those of `.ignore` go on.
 /// - `.fdignore` counts where [`fdignore`](IgnoreFiles::fdignore) asks for it. All such files decide before all others.
-/// - `.git` is dropped, as directory, as file and as link. Where it is a file, no `info/exclude` is read.
+/// - `.git` is dropped, as directory, as file and as link. Where it is a file, `info/exclude` is read only if the texts have one all the same.
 /// - A file of rules is read where the list has a regular file of its name that is no link. If it can't be read, an error
 ///   with its path comes right behind its entry, and it has no rules.
 /// - The rules of folders above the root are read once, for the root's list: those that would be in force if the walk had

@@ -4,7 +4,7 @@ ghost use Rattle.jwalk_ignore.specs.Callback.IgnoreFiles.{goes_on};
 
 use crate::rules::Rules;
 use crate::rules::folder::Folder;
-use crate::rules::git::is_git_dir;
+use crate::rules::git::is_repository;
 use crate::rules::rules_kind::RulesKind;
 use jwalk::file_system::FileType;
 
@@ -54,7 +54,7 @@ impl Settings {
             RulesKind::Fdignore => self.fdignore,
             RulesKind::Ignore => true,
             RulesKind::Gitignore => self.version_control && (self.anywhere || in_repository),
-            RulesKind::Exclude => self.version_control && is_git_dir(git),
+            RulesKind::Exclude => self.version_control && is_repository(git),
         }
     }
 

@@ -1,7 +1,6 @@
 -- What `.git` of a directory leads to.
 use Rattle.std.specs.Prelude.{ℕ, Bool, true, false, List, codes, Option, Some, None, Result, Ok, Err}
 use Rattle.std.specs.declared.io.ErrorKind.{ErrorKind}
-use Rattle.jwalk_model.specs.FileType.{is_dir}
 use Rattle.jwalk_model.specs.Paths.{join}
 use Rattle.jwalk_model.specs.declared.file_type.FileType.{FileType}
 use Rattle.jwalk_model.specs.declared.file_type.FileType.TheVariants as type
@@ -25,8 +24,3 @@ abbrev pub is_repository : Option FileType → Bool
 is_repository (Some type.Dir) = true
 is_repository (Some type.File) = true
 is_repository _ = false
-
--- whether a `.git` that leads to this may hold `info/exclude`
-abbrev pub is_git_dir : Option FileType → Bool
-is_git_dir (Some type) = is_dir type
-is_git_dir None = false

@@ -1,6 +1,6 @@
 //! What `.git` of a directory leads to.
 ghost use Rattle.std.specs.Prelude.{◌≡◌, IfOk};
-ghost use Rattle.jwalk_ignore_rules.specs.Rules.Git.{git_at, is_git_dir, is_repository};
+ghost use Rattle.jwalk_ignore_rules.specs.Rules.Git.{git_at, is_repository};
 
 use crate::rules::texts::Texts;
 use jwalk_fs::fault::Fault;
@@ -29,11 +29,4 @@ pub fn is_repository(git: Option<FileType>) -> bool
     ensures { result ≡ is_repository git }
 {
     matches!(git, Some(FileType::Dir | FileType::File))
-}
-
-/// Returns whether a `.git` that leads to this may hold `info/exclude`.
-pub fn is_git_dir(git: Option<FileType>) -> bool
-    ensures { result ≡ is_git_dir git }
-{
-    matches!(git, Some(FileType::Dir))
 }

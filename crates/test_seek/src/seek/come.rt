@@ -51,6 +51,7 @@ fn wrong_by<S: FileSystem + Send + Sync + 'static, X: Texts + Send + Sync + 'sta
         front: threads,
         words: row.call,
         on_terminal: row.on_terminal,
+        columns: row.columns,
     };
     let status = called_on(rt, disk, texts, call, &mut out, &mut err);
     if row.is(out.written(), err.written(), status) {

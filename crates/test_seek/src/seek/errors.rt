@@ -132,6 +132,7 @@ fn three_hundred_links_in_a_ring(rt: HostRuntime) -> Result<(), AllocError> {
             front: "-j2",
             words,
             on_terminal: false,
+            columns: None,
         };
         let mut out = Output::new(rt.alloc());
         let mut err = Output::new(rt.alloc());

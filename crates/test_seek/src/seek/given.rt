@@ -69,17 +69,36 @@ $ seek --ignore-file=kept --ignore-file=objects .o t
   t/r/s/top
   t/r/top
   t/p/top
-# no ignore files
+# no other ignore files
 $ seek -I --ignore-file=objects . t/p
-  t/p/a.o
   t/p/b.c
+  t/p/top
+$ seek -HI --ignore-file=in/folders . t
+  t/r
+  t/r/.git
+  t/r/a.o
+  t/r/b.c
+  t/r/s
+  t/r/s/b.c
+  t/r/s/top
+  t/r/top
+  t/p
+  t/p/a.o
+  t/p/top
+$ seek -I --ignore-file=in/folders -E=top . ./t/p
+  ./t/p/a.o
+$ seek -I --ignore-file=objects --ignore-file=kept .o t/p
+  t/p/a.o
   t/p/top
 # one that cannot be read
 $ seek --ignore-file none -d1 . t
   t/r
   t/p
 ! seek: none: entity not found
-= 1
+$ seek -I --ignore-file none --ignore-file objects -d1 . t/p
+  t/p/b.c
+  t/p/top
+! seek: none: entity not found
 # named ignore files decide last
 tree
   d t
@@ -174,6 +193,28 @@ $ seek -I . t
   t/p/a.o
   t/p/b.c
   t/p/top
+# where .git is a file
+tree
+  d t
+  f 1 t/.git
+  f 1 t/a.o
+  f 1 t/b.c
+  d t/s
+  f 1 t/s/c.o
+  f 1 t/s/top
+  f 1 t/top
+rules /home/u/.config/git/ignore
+  *.o
+  /top
+$ seek . t
+  t/b.c
+  t/s
+  t/s/top
+$ seek --no-global-ignore-file -d1 . t
+  t/a.o
+  t/b.c
+  t/s
+  t/top
 # the first configuration names the file
 tree
   d t
@@ -193,8 +234,7 @@ rules /home/u/.gitconfig
   [user]
   \texcludesFile = /x
   [Core] ; git
-  [core]
-  \tExcludesFile = \"~/my ignore\"
+  \tExcludesFile = \"~/my ignore\" # mine
   [x]
   excludesfile=/y
 rules /home/u/.config/git/config
@@ -235,7 +275,7 @@ rules /home/u/.gitconfig
   name = u
 rules /home/u/.config/git/config
   [core]
-  excludesfile=/z
+  excludesfile=/z ; all
 rules /z
   *.o
   /top

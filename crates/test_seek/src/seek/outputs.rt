@@ -45,6 +45,7 @@ const ALL: Call<'static> = Call {
     front: "-j1",
     words: ". /r",
     on_terminal: false,
+    columns: None,
 };
 
 /// Returns the length of the standard error, the status, and how often a write failed.

@@ -3,7 +3,7 @@ use crate::seek::output::Output;
 use jwalk::file_system::FileSystem;
 use jwalk_ignore::memory_texts::MemoryTexts;
 use jwalk_ignore::texts::Texts;
-use seek_search::run::run;
+use seek_search::run::Seek;
 use seek_words::screen::Screen;
 use std::alloc::{AllocError, Global};
 use std::time::Clock;
@@ -22,6 +22,8 @@ pub(crate) struct Call<'c> {
     pub(crate) front: &'c str,
     pub(crate) words: &'c str,
     pub(crate) on_terminal: bool,
+    /// The greatest width of lines of help, if it is known.
+    pub(crate) columns: Option<usize>,
 }
 
 fn push_words(words: &mut Vec<String>, text: &str) -> Result<(), AllocError> {
@@ -60,26 +62,24 @@ pub(crate) fn called_by<S: FileSystem + Send + Sync + 'static, X: Texts + Send +
     err: &mut Output,
 ) -> u8 {
     match words_of(rt.alloc(), call) {
-        Ok(words) => run(
+        Ok(words) => Seek {
             rt,
             clock,
-            rt.alloc(),
+            alloc: rt.alloc(),
             disk,
             texts,
-            words.as_slice(),
-            Home {
+            home: Home {
                 home: "/home/u",
                 config: "",
             },
-            Screen {
+            screen: Screen {
                 is_terminal: call.on_terminal,
                 no_color: true,
                 ls_colors: "di=34:*.rs=31",
-                columns: None,
+                columns: call.columns,
             },
-            out,
-            err,
-        ),
+        }
+        .run(words.as_slice(), out, err),
         Err(AllocError) => 255,
     }
 }

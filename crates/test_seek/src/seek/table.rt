@@ -7,6 +7,7 @@
 //! | `rules PATH` | a file of rules of the tree |
 //! | `$ seek WORDS` | a row, which is a call; words are separated by spaces, and one in single quotes may have some in it |
 //! | `tty$ seek WORDS` | a row whose standard output is a terminal |
+//! | `columns NUMBER` | the width that the variable `COLUMNS` says, if it isn't set to nothing |
 //! | two spaces, `TEXT` | a line of the tree, of the file of rules or of the row's standard output |
 //! | `! TEXT` | a line of the row's standard error |
 //! | `~ TEXT` | the row's standard output has this in it, and may have anything else |
@@ -62,6 +63,7 @@ pub(crate) struct Row<'t> {
     /// The words after the program's name, as the table has them.
     pub(crate) call: &'t str,
     pub(crate) on_terminal: bool,
+    pub(crate) columns: Option<usize>,
     out: Wanted,
     err: Wanted,
     status: u8,
@@ -123,6 +125,7 @@ impl<'t> Reader<'t> {
             name: self.name,
             call: call.strip_prefix("seek ")?,
             on_terminal,
+            columns: None,
             out: Wanted::nothing(self.alloc),
             err: Wanted::nothing(self.alloc),
             status: 0,
@@ -157,6 +160,7 @@ impl<'t> Reader<'t> {
             "rules" => self.begin_rules(rest)?,
             "$" => self.begin_row(rest, false)?,
             "tty$" => self.begin_row(rest, true)?,
+            "columns" => self.row()?.columns = Some(rest.parse().ok()?),
             "!" => self.row()?.err.add_line(rest)?,
             "!~" => self.row()?.err.allow_more(rest)?,
             "~" => self.row()?.out.allow_more(rest)?,

@@ -9,9 +9,10 @@ use Rattle.program_walks.specs.Options.{options_for, with_crew}
 use Rattle.program_walks.specs.declared.options.WalkOptions.{WalkOptions}
 use Rattle.program_walks.proofs.CrewFacts.{same_by_crew}
 use Rattle.program_parts.specs.Values.{texts_of}
+use Rattle.jwalk.specs.jwalk_callbacks.Both.{chaining, first_of, second_of}
 use Rattle.jwalk_ignore.specs.Callback.Excluding.{Excluded, excluded_by, excluded_of, excluding}
 use Rattle.jwalk_ignore.specs.Callback.Kept.{given_excluding}
-use Rattle.seek_search.specs.Search.{excluded_asked, lines_of, options_asked}
+use Rattle.seek_search.specs.Search.{excluded_asked, leaving_out, lines_of, named_below, options_asked}
 use Rattle.seek_words.specs.Filter.{sought_of}
 use Rattle.seek_found.specs.Prune.{unpruned}
 use Rattle.seek_found.specs.SoughtTest.{takes_of}
@@ -30,10 +31,13 @@ returns-clause-whole g c =
     let set = c.process_read_dir.ensures in
     let walk = c.process_read_dir.result in
     let excluded = excluded_asked asked c.args.root.now in
-    let given = given_excluding excluded in
+    let named = named_below self.lines.now c.args.root.now in
+    let given = chaining (given_excluding named) (given_excluding excluded) in
     let over : arc_value (file_system_of walk) ≡ arc_value self.disk = ap arc_value (set.file_system ∙ built.file_system) ∙ c.in_ok-disk.ensures.cases in
-    let lines : excluded_of (callback_of walk) ≡ excluded
-    = ap excluded_of set.callback ∙ c.in_ok-excluding.ensures ∙ ap (λ l. excluded_by (flat_map lines_of (texts_of l)) c.args.root.now) c.as_slice.ensures.value in
+    let names : excluded_of (first_of (callback_of walk)) ≡ named
+    = ap (λ it. excluded_of (first_of it)) set.callback ∙ ap excluded_of c.new.ensures.first ∙ c.in_ok-naming.ensures in
+    let lines : excluded_of (second_of (callback_of walk)) ≡ excluded
+    = ap (λ it. excluded_of (second_of it)) set.callback ∙ ap excluded_of c.new.ensures.second ∙ c.in_ok-excluding.ensures ∙ ap (λ l. excluded_by (flat_map lines_of (texts_of l)) c.args.root.now) c.as_slice.ensures.value in
     let options : options_of walk ≡ with_crew (is_some self.crew) (options_asked asked)
     = set.options ∙ built.options ∙ ap (λ (o : WalkOptions). options_for o (is_some self.crew)) c.options.ensures in
     let root : root_of walk ≡ c.args.root.now = set.root ∙ built.root ∙ c.in_ok-root.ensures.ok in
@@ -42,13 +46,21 @@ returns-clause-whole g c =
     let steady : IsSteady _ _ _ _ (file_system_of walk) (callback_of walk) given
     = record {
       file_system = subst g.S.FileSystem.IsFixed (sym over) fixed;
-      callback = λ depth path state list. ap (λ (x : Excluded). excluding x depth path state list) (sym lines);
+      callback = record {
+        first = given_excluding named;
+        second = given_excluding excluded;
+        first_made = λ depth path state list. ap (λ (x : Excluded). excluding x depth path state list) (sym names);
+        second_made = λ depth path state list. ap (λ (x : Excluded). excluding x depth path state list) (sym lines);
+        first_alike = (refl, refl, refl);
+        second_alike = (refl, refl, refl);
+        in_turn = λ depth path state list. refl;
+      };
       clones = λ x y h. refl;
       default = λ x h. refl;
     } in
     printed_as (ap (unpruned (sought_of takes_of c.args.printer.now.filter))
-    (whole_of (excluding excluded) (ap g.S.FileSystem.functions over) options root refl
-    ∙ same_by_crew (excluding excluded) (is_some self.crew) (g.S.FileSystem.functions (arc_value self.disk)) (options_asked asked) c.args.root.now blank))
+    (whole_of (leaving_out named excluded) (ap g.S.FileSystem.functions over) options root refl
+    ∙ same_by_crew (leaving_out named excluded) (is_some self.crew) (g.S.FileSystem.functions (arc_value self.disk)) (options_asked asked) c.args.root.now blank))
     (whole given steady none is))
     c.print_begun.ensures.whole
 
@@ -59,11 +71,12 @@ returns-clause-yielded g c =
     let built = c.in_ok-walk.ensures in
     let set = c.process_read_dir.ensures in
     let walk = c.process_read_dir.result in
-    let plain : IsPlain (arc_value self.disk) asked c.args.root.now walk = record {
+    let plain : IsPlain (arc_value self.disk) self.lines.now asked c.args.root.now walk = record {
       over = ap arc_value (set.file_system ∙ built.file_system) ∙ c.in_ok-disk.ensures.cases;
       below = set.root ∙ built.root ∙ c.in_ok-root.ensures.ok;
       by_crew = is_some self.crew;
       options = set.options ∙ built.options ∙ ap (λ (o : WalkOptions). options_for o (is_some self.crew)) c.options.ensures;
-      excluded = ap excluded_of set.callback ∙ c.in_ok-excluding.ensures ∙ ap (λ l. excluded_by (flat_map lines_of (texts_of l)) c.args.root.now) c.as_slice.ensures.value;
+      named = ap (λ it. excluded_of (first_of it)) set.callback ∙ ap excluded_of c.new.ensures.first ∙ c.in_ok-naming.ensures;
+      excluded = ap (λ it. excluded_of (second_of it)) set.callback ∙ ap excluded_of c.new.ensures.second ∙ c.in_ok-excluding.ensures ∙ ap (λ l. excluded_by (flat_map lines_of (texts_of l)) c.args.root.now) c.as_slice.ensures.value;
     } in
-    IfOk-weaker c.print_begun.result _ _ (λ clean. printed_such (yielded_so _ (λ it is. subst (IsPlain (arc_value self.disk) asked c.args.root.now) (sym is) plain))) c.print_begun.ensures.yielded
+    IfOk-weaker c.print_begun.result _ _ (λ clean. printed_such (yielded_so _ (λ it is. subst (IsPlain (arc_value self.disk) self.lines.now asked c.args.root.now) (sym is) plain))) c.print_begun.ensures.yielded

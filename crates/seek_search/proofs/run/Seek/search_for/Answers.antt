@@ -1,7 +1,7 @@
 use Rattle.std.proofs.Common.{refl, sym, ◌∙◌}
 use Rattle.std.proofs.lemmas.Bool.{true≢false}
 use Rattle.seek_search.proofs.RunFacts.{ok_twice, one_not_none}
-use Rattle.seek_search.proofs.run.search_for.Goals as goal
+use Rattle.seek_search.proofs.run.Seek.search_for.Goals as goal
 
 pub returns-then-asked-clause-done : goal.returns-then-asked-clause-done
 returns-then-asked-clause-done g c = λ zero.

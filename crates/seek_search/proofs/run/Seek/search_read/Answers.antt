@@ -4,7 +4,7 @@ use Rattle.seek_search.specs.Goes.{PrintsYielded}
 use Rattle.seek_search.specs.Run.{PrintsRead}
 use Rattle.seek_search.specs.RulesRead.{excludes_asked, lines_asked}
 use Rattle.seek_search.proofs.RunFacts.{first_true, second_true}
-use Rattle.seek_search.proofs.run.search_read.Goals as goal
+use Rattle.seek_search.proofs.run.Seek.search_read.Goals as goal
 
 pub returns-clause-yielded : goal.returns-clause-yielded
 returns-clause-yielded g c = λ clean.
@@ -16,14 +16,14 @@ returns-clause-found g c = λ quiet full. (c.new-texts.result, c.new-texts.ensur
 
 pub returns-clause-whole : goal.returns-clause-whole
 returns-clause-whole g c = λ none clean fixed told.
-    let disk = g.S.FileSystem.functions c.args.disk in
-    let texts = g.X.Texts.functions c.args.texts in
+    let disk = g.S.FileSystem.functions c.args.self.disk in
+    let texts = g.X.Texts.functions c.args.self.texts in
     let asked = c.args.asked.now in
     let excludes = excludes_of c.new-texts.result in
     let behind = g.X.Texts.functions (texts_behind c.new-texts.result) in
     let lines = c.as_slice.ensures.value ∙ c.in_ok-excludes.ensures.lines told in
-    let same : with_excludes excludes behind ≡ with_excludes (excludes_asked texts c.args.home asked) texts
+    let same : with_excludes excludes behind ≡ with_excludes (excludes_asked texts c.args.self.home asked) texts
     = ap₂ with_excludes (c.new-texts.ensures.excludes ∙ c.in_ok-excludes.ensures.excludes told (second_true _ _ clean)) (ap g.X.Texts.functions c.new-texts.ensures.texts) in
-    subst (λ t. PrintsRead disk t (lines_asked texts asked) c.args.screen asked c.args.sought.now (g.W.Write.contents c.args.out.now) (g.W.Write.contents c.search_asked.new.out)) same
-    (subst (λ l. PrintsRead disk (with_excludes excludes behind) l c.args.screen asked c.args.sought.now (g.W.Write.contents c.args.out.now) (g.W.Write.contents c.search_asked.new.out)) lines
+    subst (λ t. PrintsRead disk t (lines_asked texts asked) c.args.self.screen asked c.args.sought.now (g.W.Write.contents c.args.out.now) (g.W.Write.contents c.search_asked.new.out)) same
+    (subst (λ l. PrintsRead disk (with_excludes excludes behind) l c.args.self.screen asked c.args.sought.now (g.W.Write.contents c.args.out.now) (g.W.Write.contents c.search_asked.new.out)) lines
     (c.in_ok-ended.ensures.whole none (first_true _ _ clean) fixed (subst g.X.Texts.IsFixed (sym c.new-texts.ensures.texts) told)))

@@ -1,10 +1,10 @@
-use Rattle.std.proofs.Common.{inl, inr, ap, ap₂, map, string_bytes, subst, sym}
+use Rattle.std.proofs.Common.{◌≡◌, true, inl, inr, ap, ap₂, map, string_bytes, subst, sym}
 use Rattle.seek_found.proofs.EndFacts.{bad_ends, ends_most, searched_ends}
 use Rattle.seek_found.proofs.ShownFacts.{shown_for}
 use Rattle.seek_words.proofs.AsksFacts.{shown_ask_for}
-use Rattle.seek_search.specs.Based.{functions_based, texts_based}
+use Rattle.seek_search.specs.Based.{functions_based, has_folder, texts_based}
 use Rattle.seek_search.proofs.RunFacts.{searches_as}
-use Rattle.seek_search.proofs.run.run_words.Goals as goal
+use Rattle.seek_search.proofs.run.Seek.search_words.Goals as goal
 
 pub returns-in-Err-clause-status : goal.returns-in-Err-clause-status
 returns-in-Err-clause-status g c = ends_most _ _ c.in-Err.ensures.ended.ends
@@ -41,6 +41,8 @@ returns-clause-done g c = λ zero.
       is_over = record { of = over.of; from = over.from };
       from = c.in-Ok-Ok.texts;
       is_from = record { of = from.of; from = from.from };
+      folder = λ both. subst (λ fs. has_folder fs c.in-Ok.read.0 ≡ true) (ap₂ functions_based over.from (ap g.S.FileSystem.functions over.of))
+          (c.has_folder.ensures (subst g.S.FileSystem.IsFixed (sym over.of) both.0) c.if-not-has_folder.false);
       searches = searches_as _ _ (λ both. (subst g.S.FileSystem.IsFixed (sym over.of) both.0, subst g.X.Texts.IsFixed (sym from.of) both.1))
           (ap₂ functions_based over.from (ap g.S.FileSystem.functions over.of)) (ap₂ texts_based from.from (ap g.X.Texts.functions from.of)) c.in-Ok.ensures.unwritten done.2;
     })
