@@ -19,7 +19,7 @@ use std::{io, str};
 const MOST_OPENS: usize = 100;
 
 /// How many bytes of names are asked for at once: room for many names, of which none has more than 255 bytes.
-const BUFFER: usize = 8192;
+const BUFFER: usize = 4096;
 
 /// A listing under way: room for the path of an entry.
 #[derive(Drop)]
