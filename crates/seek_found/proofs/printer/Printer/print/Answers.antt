@@ -1,4 +1,4 @@
-use Rattle.std.proofs.Common.{◌∙◌, true, false, append-nil, ap, subst, sym}
+use Rattle.std.proofs.Common.{◌∙◌, append-nil, ap, subst, sym}
 use Rattle.std.specs.Prelude.{if◌then◌else◌}
 use Rattle.std.specs.Io.KnownBytes.{Appends, append_known}
 use Rattle.std.specs.List.{list_all}
@@ -8,7 +8,7 @@ use Rattle.seek_words.specs.Filter.{sought_of}
 use Rattle.seek_words.specs.Lines.{form_of, gathered_of}
 use Rattle.seek_found.specs.Found.{found_line, found_lines, is_clean}
 use Rattle.seek_found.specs.Limit.{left_after}
-use Rattle.seek_found.specs.Prune.{below_after, is_below}
+use Rattle.seek_found.specs.Prune.{below_after}
 use Rattle.seek_found.proofs.FoundFacts.{and_true, appends_none}
 use Rattle.seek_found.proofs.LimitFacts.{left_as_before}
 use Rattle.seek_found.proofs.PruneFacts.{kept, left_out}
