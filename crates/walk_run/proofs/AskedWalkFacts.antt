@@ -1,14 +1,11 @@
 -- What is written of answers and whether they are entries, whatever their states count as.
 use Rattle.std.proofs.Common.{◌≡◌, ℕ, ◌++◌, ◌∙◌, List, [], ◌∷◌, map, Bool, true, false, Option, Some, None, Result, Ok, Err, is_ok, if◌then◌else◌, ap, ap₂, sym, subst, refl}
-use Rattle.std.specs.Prelude.{option_map, IfOk}
+use Rattle.std.specs.Prelude.{IfOk}
 use Rattle.std.specs.List.{list_all}
 use Rattle.std.specs.Io.KnownBytes.{Appends}
 use Rattle.jwalk_model.specs.Entry.{Item}
 use Rattle.jwalk_model.specs.Lines.{line_of, lines_of}
-use Rattle.jwalk_model.specs.Options.{Parallelism, Options, with_parallelism}
 use Rattle.walk_text.specs.declared.asked.Asked.{Asked}
-use Rattle.walk_text.specs.declared.read_by.ReadBy.{ReadBy}
-use Rattle.walk_text.specs.Asked.{parallelism_by, where_named, with_read_by}
 use Rattle.walk_run.specs.Answers.{PrintsAll}
 use Rattle.walk_run.specs.Totals.{usage_line, totals_line}
 use Rattle.walk_run.specs.AskedWalk.{written}
@@ -54,8 +51,3 @@ module _ {R E : Type 0} (asked : Asked) where
   -- A text that is what is asked for was printed.
   pub printed_as : {S C A : Type 0} (text : List (Item R E) → List ℕ) (steps : S → Option (Result (DirEntry C A R E) (Error A)) → S → Type 0) (answers : S) (old new : Option (List ℕ)) (clean : Bool) → ((l : List (Item R E)) → text l ≡ written asked l) → PrintsAll text steps answers old new clean → PrintsAll (written asked) steps answers old new clean
   printed_as text steps answers old new clean same all = (all.0, all.1, all.2, subst (λ l. Appends old new l) (same (map item all.0)) all.3)
-
--- What is read by is set where it is named, and is what the words say.
-pub read_by_named : (by : Option ReadBy) (parallelism : Option Parallelism) → parallelism ≡ option_map parallelism_by by → (options : Options) → where_named with_parallelism parallelism options ≡ where_named with_read_by by options
-read_by_named None parallelism is options = ap (λ p. where_named with_parallelism p options) is
-read_by_named (Some by) parallelism is options = ap (λ p. where_named with_parallelism p options) is

@@ -15,13 +15,13 @@ use Rattle.jwalk_model.specs.Entry.{Item}
 use Rattle.jwalk_model.specs.Walk.{stateless_walk}
 use Rattle.jwalk_model.specs.Lines.{lines_of}
 use Rattle.walk_text.specs.declared.asked.Asked.{Asked}
-use Rattle.walk_text.specs.Asked.{options_for}
+use Rattle.walk_text.specs.Asked.{options_asked}
 use Rattle.walk_run.specs.Answers.{PrintsAll}
 use Rattle.walk_run.specs.Totals.{totals_line}
 
 -- all that a walk from a root yields, as is asked for, over a file system that always returns the same; for totals its entries keep their metadata
 abbrev pub answers_over : Functions → Asked → List ℕ → List (Item Worth Worth)
-answers_over fs asked root = stateless_walk fs (options_for asked) root
+answers_over fs asked root = stateless_walk fs (options_asked asked) root
 
 -- what is written of all answers: the line of their totals if that is asked for, and a line for each otherwise
 abbrev pub written : {R E : Type 0} → Asked → List (Item R E) → List ℕ
@@ -46,7 +46,7 @@ module _ {T C S P A R E : Type 0} (calls : CrewCalls T C S P A R E) where
     pub walk : WalkDirGeneric C S P A (Crew T) R E
     pub file_system : file_system_of walk ≡ fs
     pub root_of_it : root_of walk ≡ root
-    pub options : options_of walk ≡ options_for asked
+    pub options : options_of walk ≡ options_asked asked
     pub it : CrewWalk T C S P A R E
     pub starts : Starts walk it
     pub one : length (held it) ≡ 1

@@ -1,11 +1,12 @@
 //! The walk that is asked for, over any file system, with its answers printed or their totals.
-ghost use Rattle.std.specs.Prelude.{◌≡◌, ◌≤◌, option_map, string_bytes, IfOk, IfErr, OnErr};
-ghost use Rattle.jwalk_model.specs.Options.{with_max_depth, with_min_depth, with_parallelism};
+ghost use Rattle.std.specs.Prelude.{◌≡◌, ◌≤◌, string_bytes, IfOk, IfErr, OnErr};
+ghost use Rattle.jwalk_model.specs.Options.{with_parallelism};
 ghost use Rattle.jwalk_job.specs.Job.{callback};
+ghost use Rattle.jwalk_job.specs.Options.{options_value};
 ghost use Rattle.jwalk.specs.DirEntryIter.{job_of};
 ghost use Rattle.jwalk.specs.Parallelism.{parallelism_value};
 ghost use Rattle.jwalk.specs.WalkDir.{file_system_of, root_of, options_of};
-ghost use Rattle.walk_text.specs.Asked.{parallelism_by, options_for, where_named};
+ghost use Rattle.walk_text.specs.Asked.{options_asked, parallelism_named};
 ghost use Rattle.walk_text.specs.Failure.{status_of};
 ghost use Rattle.walk_run.specs.Answers.{PrintsAll};
 ghost use Rattle.walk_run.specs.AskedWalk.{written, PrintsBegun, PrintsOver};
@@ -16,7 +17,7 @@ use crate::walk_printed::print_walked;
 use jwalk::crew::Session;
 use jwalk::file_system::FileSystem;
 use jwalk::read_dir::{NoProcess, ProcessReadDir};
-use jwalk::{ClientState, Crew, DirEntryIter, Host, Parallelism, Readers, WalkDirGeneric};
+use jwalk::{ClientState, Crew, DirEntryIter, Host, Options, Parallelism, Readers, WalkDirGeneric};
 use std::alloc::{AllocError, Allocator};
 use std::io::Write;
 use std::sync::{Arc, Wait};
@@ -41,49 +42,36 @@ fn parallelism_of<T: Wait + Clock + Clone + Drop, A: Allocator + Copy>(
     rt: &T,
     alloc: A,
     by: Option<ReadBy>,
-) -> Result<Option<Parallelism<Crew<T>, A>>, AllocError>
-    ensures { IfOk result (λ it. option_map parallelism_value it ≡ option_map parallelism_by by) }
+) -> Result<Parallelism<Crew<T>, A>, AllocError>
+    ensures { IfOk result (λ it. parallelism_value it ≡ parallelism_named by) }
 {
     match by {
-        None => Ok(None),
-        Some(ReadBy::Batch(width)) => Ok(Some(Parallelism::RayonNewPool(width))),
+        None => Ok(Parallelism::Serial),
+        Some(ReadBy::Batch(width)) => Ok(Parallelism::RayonNewPool(width)),
         Some(ReadBy::Crew(workers)) => {
             let crew = Crew::new(rt.clone()?, 1, workers);
-            Ok(Some(Parallelism::RayonExistingPool {
+            Ok(Parallelism::RayonExistingPool {
                 pool: Arc::new(alloc, crew)?,
                 busy_timeout: None,
-            }))
+            })
         }
     }
 }
 
-fn with_named<C: ClientState, S: FileSystem, A: Allocator + Copy, W: Drop>(
-    walk: WalkDirGeneric<C, S, NoProcess, A, W>,
-    least: Option<usize>,
-    greatest: Option<usize>,
-    parallelism: Option<Parallelism<W, A>>,
-) -> WalkDirGeneric<C, S, NoProcess, A, W>
-    ensures file_system { file_system_of result ≡ file_system_of walk }
-    ensures root { root_of result ≡ root_of walk }
-    ensures options { options_of result ≡ where_named with_parallelism (option_map parallelism_value parallelism)
-        (where_named with_max_depth greatest (where_named with_min_depth least (options_of walk))) }
+/// How directories are read isn't set. Metadata is kept for totals.
+fn options_of(asked: Asked) -> Options
+    ensures { with_parallelism (parallelism_named asked.read_by) (options_value result) ≡ options_asked asked }
 {
-    let mut walk = walk;
-    if let Some(depth) = least {
-        walk = walk.min_depth(depth);
-    }
-    if let Some(depth) = greatest {
-        walk = walk.max_depth(depth);
-    }
-    if let Some(parallelism) = parallelism {
-        walk = walk.parallelism(parallelism);
-    }
-    walk
+    Options::new()
+        .with_sort(asked.sort)
+        .with_skip_hidden(!asked.hidden)
+        .with_follow_links(asked.follow)
+        .with_keep_metadata(asked.usage)
+        .with_min_depth(asked.min.unwrap_or(0))
+        .with_max_depth(asked.max.unwrap_or(usize::MAX))
 }
 
-/// Returns the walk that is asked for, without a callback. Its options are set one after another: the order, hidden
-/// names, links, metadata, the least depth, the greatest, and last what directories are read by. Metadata is kept for
-/// totals.
+/// Returns the walk that is asked for, without a callback. How directories are read is set last.
 pub fn walk_of<
     C: ClientState,
     T: Wait + Threads + Clock + Clone + Drop,
@@ -97,15 +85,14 @@ pub fn walk_of<
 ) -> Result<WalkDirGeneric<C, S, NoProcess, A, Crew<T>>, AllocError>
     ensures file_system { IfOk result (λ walk. file_system_of walk ≡ fs) }
     ensures root { IfOk result (λ walk. root_of walk ≡ string_bytes root) }
-    ensures options { IfOk result (λ walk. options_of walk ≡ options_for asked) }
+    ensures options { IfOk result (λ walk. options_of walk ≡ options_asked asked) }
 {
     let parallelism = parallelism_of(rt, *root.allocator(), asked.read_by)?;
-    let walk = WalkDirGeneric::with_crew(fs, root)
-        .sort(asked.sort)
-        .skip_hidden(!asked.hidden)
-        .follow_links(asked.follow)
-        .keep_metadata(asked.usage);
-    Ok(with_named(walk, asked.min, asked.max, parallelism))
+    Ok(
+        WalkDirGeneric::with_crew(fs, root)
+            .with_options(options_of(asked))
+            .parallelism(parallelism),
+    )
 }
 
 /// Returns whether no answer was an error.

@@ -1,6 +1,6 @@
 -- What the options of a call ask for.
-use Rattle.std.specs.Prelude.{true, false, not, Option, Some, None, is_some, if◌then◌else◌}
-use Rattle.jwalk_model.specs.Options.{Parallelism, crew, Options, defaults, with_sort, with_skip_hidden, with_follow_links, with_keep_metadata, with_min_depth, with_max_depth, with_parallelism}
+use Rattle.std.specs.Prelude.{◌-◌, ◌^◌, true, false, not, Option, Some, None, is_some, unwrap_or, if◌then◌else◌}
+use Rattle.jwalk_model.specs.Options.{Parallelism, serial, crew, Options, defaults, with_min_depth, with_max_depth, with_parallelism}
 use Rattle.jwalk_job.specs.Options.{mode_value}
 use Rattle.jwalk_job.specs.declared.mode.Mode.TheVariants.{Batches}
 use Rattle.walk_text.specs.declared.asked.Asked.{Asked}
@@ -24,21 +24,18 @@ also (Min depth) asked = if is_some asked.min then None else Some (record asked 
 also (Max depth) asked = if is_some asked.max then None else Some (record asked { max = Some depth })
 also (Read by) asked = if is_some asked.read_by then None else Some (record asked { read_by = Some by })
 
--- a step of the builder, if its value was named
-abbrev pub where_named : {X : Type 0} → (X → Options → Options) → Option X → Options → Options
-where_named step None options = options
-where_named step (Some x) options = step x options
+-- how directories are read: in batches of a width, where 0 means 8, by a crew, or one at a time if neither is named
+abbrev pub parallelism_named : Option ReadBy → Parallelism
+parallelism_named None = serial
+parallelism_named (Some (Batch width)) = mode_value (Batches width)
+parallelism_named (Some (Crew workers)) = crew
 
--- directories are read in batches of a width, where 0 means 8, or by a crew
-abbrev pub parallelism_by : ReadBy → Parallelism
-parallelism_by (Batch width) = mode_value (Batches width)
-parallelism_by (Crew workers) = crew
-
--- the step that sets how directories are read
-abbrev pub with_read_by : ReadBy → Options → Options
-with_read_by by = with_parallelism (parallelism_by by)
-
--- the options of the walk that is asked for, by the builder's steps one after another: metadata is kept for totals
-abbrev pub options_for : Asked → Options
-options_for asked =
-    where_named with_read_by asked.read_by (where_named with_max_depth asked.max (where_named with_min_depth asked.min (with_keep_metadata asked.usage (with_follow_links asked.follow (with_skip_hidden (not asked.hidden) (with_sort asked.sort defaults))))))
+-- the options of the walk that is asked for: metadata is kept for totals
+abbrev pub options_asked : Asked → Options
+options_asked asked =
+    with_parallelism (parallelism_named asked.read_by) (with_max_depth (unwrap_or asked.max (2 ^ 64 - 1)) (with_min_depth (unwrap_or asked.min 0) (record defaults {
+      sort = asked.sort;
+      skip_hidden = not asked.hidden;
+      follow_links = asked.follow;
+      keep_metadata = asked.usage;
+    })))

@@ -6,7 +6,7 @@ use Rattle.jwalk_job.specs.Job.{IsSteady}
 use Rattle.jwalk.specs.WalkDir.{file_system_of, callback_of, stateless}
 use Rattle.jwalk.proofs.CleanFacts.{clean_whole}
 use Rattle.jwalk.proofs.WholeFacts.{steady_begun, stateless_of}
-use Rattle.walk_text.specs.Asked.{options_for}
+use Rattle.walk_text.specs.Asked.{options_asked}
 use Rattle.walk_run.specs.AskedWalk.{written}
 use Rattle.walk_run.proofs.AskedWalkFacts.{all_entries, of_known, same_written}
 use Rattle.walk_run.proofs.asked_walk.print_asked.Goals as goal
@@ -37,7 +37,7 @@ returns-clause-printed g c = λ clean fixed.
     = record { file_system = subst (g.S.FileSystem.IsFixed) (sym built.file_system) fixed; callback = λ depth path state list. refl; clones = λ x y is. refl; default = λ x is. refl } in
     let steadily = steady_begun _ _ _ _ _ stateless walk c.into_iter-answers.result begun.steady begun.starts steady in
     let listed = clean_whole _ _ _ _ _ stateless walk c.into_iter-answers.result all.0 begun.begins.0 begun.begins.1.holds steadily begun.starts steady all.1 (sym all.2) in
-    let asked = listed ∙ stateless_of g.S.FileSystem.functions walk c.args.fs (options_for request.asked) request.root.now built.file_system built.options (built.root ∙ c.in_ok-root.ensures.ok) in
+    let asked = listed ∙ stateless_of g.S.FileSystem.functions walk c.args.fs (options_asked request.asked) request.root.now built.file_system built.options (built.root ∙ c.in_ok-root.ensures.ok) in
     record {
       prints = subst (λ l. Appends (g.W.Write.contents c.args.out.now) (g.W.Write.contents c.print_answers.new.out) l) (sym (same_written stateless request.asked (map item all.0)) ∙ ap (written request.asked) asked) all.3;
       clean = ap (list_all is_ok) (sym asked) ∙ (all_entries stateless all.0 ∙ sym all.2);
