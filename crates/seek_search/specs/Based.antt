@@ -3,7 +3,7 @@ use Rattle.std.specs.Prelude.{◌≡◌, ℕ, List, Option, None, Some, option_m
 use Rattle.jwalk.specs.jwalk_model.FileSystem.{Functions}
 use Rattle.jwalk.specs.jwalk_model.Paths.{join}
 use Rattle.jwalk_ignore.specs.Rules.Texts.{Texts}
-use Rattle.seek_words.specs.Paths.{without_here}
+use Rattle.program_parts.specs.Paths.{without_here}
 use Rattle.seek_words.specs.declared.asked.Asked.{Asked}
 use Rattle.seek_search.specs.declared.based.Based.{Based}
 
