@@ -1,5 +1,8 @@
 pub mod Gathered
 pub mod Masked
+pub mod Matches
+pub mod Paths
+pub mod Refusal
 pub mod Rules
 pub mod Status
 pub mod Values

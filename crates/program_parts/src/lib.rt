@@ -1,9 +1,11 @@
-//! What the programs `seek` and `tally` share: words and their refusal, masked texts, and output that is gathered.
+//! What the programs `seek` and `tally` share: words and their refusal, the written form of paths, masked texts, and output
+//! that is gathered.
 #![tactic(auto)]
 
 pub mod gathered;
 pub mod halt;
 pub mod masked;
 pub mod options;
+pub mod paths;
 pub mod refusal;
 pub mod values;

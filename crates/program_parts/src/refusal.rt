@@ -2,9 +2,23 @@
 ghost use Rattle.std.specs.Prelude.{◌≡◌, ◌<◌, ◌≤◌};
 ghost use Rattle.program_parts.specs.Status.{status_of_kind};
 
+use clap::Error;
 use clap::error::ErrorKind;
+use std::alloc::AllocError;
+use std::fmt;
 use std::fmt::Display;
 use std::io::Write;
+
+/// The reason why words are refused, of those that all programs have.
+#[derive(Debug, Drop)]
+pub enum CommonRefusal {
+    /// The words are bad, or ask for help or the version. The error has the text.
+    Words(Error),
+    /// These two options exclude each other.
+    Conflict(&'static str, &'static str),
+    /// Memory ran out.
+    Memory,
+}
 
 /// Returns the status of an error of the parser: 0 for help and the version, 1 if memory ran out, and 2 for bad words.
 pub fn status_of_kind(kind: ErrorKind) -> u8
@@ -14,6 +28,66 @@ pub fn status_of_kind(kind: ErrorKind) -> u8
         ErrorKind::DisplayHelp | ErrorKind::DisplayVersion => 0,
         ErrorKind::OutOfMemory => 1,
         _ => 2,
+    }
+}
+
+impl CommonRefusal {
+    ghost use Rattle.program_parts.specs.Refusal.{status_of};
+
+    /// Returns the status of the program: 0 if the words ask for help or for the version, 1 if memory ran out, and 2
+    /// for bad words.
+    pub fn status(&self) -> u8
+        ensures { result ≡ status_of self.now }
+    {
+        match self {
+            CommonRefusal::Words(error) => status_of_kind(error.kind()),
+            CommonRefusal::Conflict(_, _) => 2,
+            CommonRefusal::Memory => 1,
+        }
+    }
+}
+
+impl From<AllocError> for CommonRefusal {
+    ghost use Rattle.program_parts.specs.declared.refusal.CommonRefusal.TheVariants.{Memory};
+
+    ghost from_gives = { λ _ refusal. refusal ≡ Memory };
+
+    fn from(_refused: AllocError) -> CommonRefusal {
+        CommonRefusal::Memory
+    }
+}
+
+impl From<Error> for CommonRefusal {
+    ghost use Rattle.program_parts.specs.declared.refusal.CommonRefusal.TheVariants.{Words};
+
+    ghost from_gives = { λ error refusal. refusal ≡ Words error };
+
+    fn from(error: Error) -> CommonRefusal {
+        CommonRefusal::Words(error)
+    }
+}
+
+/// A refusal in the name of a program.
+#[derive(Clone, Copy)]
+pub struct RefusalBy<'a> {
+    /// The name of the program.
+    pub program: &'a str,
+    /// The refusal.
+    pub refusal: &'a CommonRefusal,
+}
+
+/// Writes lines, each ended by a line feed.
+impl<'a> Display for RefusalBy<'a> {
+    fn fmt<W: fmt::Write>(&self, f: &mut fmt::Formatter<W>) -> fmt::Result {
+        let program = self.program;
+        match self.refusal {
+            CommonRefusal::Words(error) => write!(f, "{error}"),
+            CommonRefusal::Conflict(one, other) => writeln!(
+                f,
+                "{program}: the options --{one} and --{other} exclude each other"
+            ),
+            CommonRefusal::Memory => writeln!(f, "{program}: memory refused"),
+        }
     }
 }
 

@@ -1,10 +1,28 @@
 //! The values that words give to options.
-ghost use Rattle.std.specs.Prelude.{◌≡◌, IfOk};
-ghost use Rattle.clap.specs.Words.{found_of, rows_of, one_of};
+ghost use Rattle.std.specs.Prelude.{◌≡◌, true, map, IfErr, IfOk};
+ghost use Rattle.clap.specs.Words.{app_of, fault_of, found_of, is_simple_and_free, rows_of, one_of, HasKind};
+ghost use Rattle.program_parts.specs.Matches.{GiveValues};
 ghost use Rattle.program_parts.specs.Values.{is_named, has_value, values_in, texts_of, IsNumberOf};
 
-use clap::ArgMatches;
+use clap::{ArgMatches, Command, Error};
 use std::alloc::{AllocError, Global};
+use std::convert::AsStr;
+
+/// Returns the values that words give to the options of a command. The first word is the program's name.
+///
+/// # Errors
+///
+/// If the words are bad, or ask for help or the version.
+pub fn matches_of<'w, S: AsStr>(
+    command: Command<'w>,
+    words: &'w [S],
+) -> Result<ArgMatches<'w>, Error>
+    requires { is_simple_and_free (app_of command) ≡ true }
+    ensures read { IfOk result (λ found. GiveValues (app_of command.entry) (map S.text words.entry.now) (rows_of (found_of found))) }
+    ensures refused { IfErr result (HasKind (fault_of (app_of command.entry) (map S.text words.entry.now))) }
+{
+    command.try_get_matches_from(words)
+}
 
 /// Returns whether an option of one word was named.
 pub fn is_named(found: &ArgMatches<'_>, id: &str) -> bool

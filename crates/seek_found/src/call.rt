@@ -6,7 +6,7 @@ ghost use Rattle.seek_found.specs.Call.{succeeds, AskToSearch, EndsUnsearched};
 use crate::sought::Sought;
 use program_help::help_text;
 use program_parts::halt::Halt;
-use program_parts::refusal::refuse;
+use program_parts::refusal::{CommonRefusal, refuse};
 use seek_words::asked::Asked;
 use seek_words::refusal::Refusal;
 use seek_words::words::read_words;
@@ -24,7 +24,9 @@ fn starts_program(word: &str) -> bool {
 /// Returns whether bad words ask to start a program.
 fn asks_to_start(refusal: &Refusal<'_>, words: &[String]) -> bool {
     match refusal {
-        Refusal::Words(_) => words.iter().any(|word| starts_program(word.as_str())),
+        Refusal::Common(CommonRefusal::Words(_)) => words
+            .iter()
+            .any(|word| starts_program(word.as_str())),
         _ => false,
     }
 }

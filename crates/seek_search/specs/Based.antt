@@ -8,7 +8,7 @@ use Rattle.jwalk.specs.jwalk_model.Metadata.{type_of}
 use Rattle.jwalk.specs.jwalk_model.declared.metadata.Metadata.{Metadata}
 use Rattle.jwalk.specs.jwalk_model.Paths.{dot, join}
 use Rattle.jwalk_ignore.specs.Rules.Texts.{Texts}
-use Rattle.seek_words.specs.Paths.{without_here}
+use Rattle.program_parts.specs.Paths.{without_here}
 use Rattle.seek_words.specs.declared.asked.Asked.{Asked}
 use Rattle.seek_search.specs.declared.based.Based.{Based}
 

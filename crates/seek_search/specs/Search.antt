@@ -22,7 +22,7 @@ use Rattle.seek_words.specs.Layout.{Form}
 use Rattle.seek_found.specs.Prune.{unpruned}
 use Rattle.seek_words.specs.Paint.{Painting}
 use Rattle.seek_words.specs.declared.screen.Screen.{Screen}
-use Rattle.seek_words.specs.declared.paths.Style.{Style}
+use Rattle.program_parts.specs.declared.paths.Style.{Style}
 use Rattle.program_walks.specs.Options.{options_for}
 use Rattle.program_walks.specs.declared.options.WalkOptions.{WalkOptions}
 use Rattle.seek_words.specs.Metadata.{needs_metadata}

@@ -11,6 +11,7 @@ ghost use Rattle.seek_search.specs.Search.{form_before, front_if, limit_asked, p
 use crate::based::copied;
 use jwalk::file_system::Fault;
 use jwalk_ignore::texts::Texts;
+use program_parts::paths::Style;
 use seek_colors::palette::Palette;
 use seek_found::printer::Printer;
 use seek_found::sought::Sought;
@@ -20,7 +21,6 @@ use seek_words::filter::Filter;
 use seek_words::layout::Layout;
 use seek_words::lines::Lines;
 use seek_words::paint::Paint;
-use seek_words::paths::Style;
 use seek_words::screen::Screen;
 use seek_words::subject::AbsolutePath;
 use seek_words::wanted::Wanted;

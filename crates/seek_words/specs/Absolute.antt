@@ -1,7 +1,7 @@
 -- Absolute paths.
 use Rattle.std.specs.Prelude.{ℕ, List, [], ◌++◌, if◌then◌else◌}
 use Rattle.jwalk_model.specs.Paths.{join, starts_with_slash}
-use Rattle.seek_words.specs.Paths.{without_here}
+use Rattle.program_parts.specs.Paths.{without_here}
 
 -- the text in front of a path: nothing if it is absolute
 abbrev pub front_before : List ℕ → List ℕ → List ℕ

@@ -1,8 +1,9 @@
 -- The meaning of the words of a call.
-use Rattle.std.specs.Prelude.{◌≡◌, ◌⊎◌, false, List, []}
+use Rattle.std.specs.Prelude.{◌≡◌, false, List}
 use Rattle.std.specs.List.{list_any}
-use Rattle.clap.specs.Words.{App, IsAmong, Kinds, Row, Text, fault_of, matches_of}
-use Rattle.clap.specs.declared.error.kind.ErrorKind.TheVariants.{DisplayHelp, DisplayVersion}
+use Rattle.clap.specs.Words.{App, Row, Text}
+use Rattle.program_parts.specs.Matches as command
+use Rattle.program_parts.specs.Refusal as refusal
 use Rattle.seek_words.specs.Asks.{Asks, is_slash}
 use Rattle.seek_words.specs.Command.{IsSeek}
 use Rattle.seek_words.specs.Conflict.{has_conflict}
@@ -12,8 +13,7 @@ use Rattle.seek_words.specs.declared.asked.Asked.{Asked}
 pub record GiveValues (words : List Text) (rows : List Row) : Type 0 where
   pub app : App
   pub is_seek : IsSeek app
-  pub good : let faults : Kinds = fault_of app words in faults ≡ []
-  pub values : rows ≡ matches_of app words
+  pub gives : command.GiveValues app words rows
 
 -- The words ask for this. They are those of the command line, no two options exclude each other, the values of options
 -- ask for this, and a pattern for names has no slash.
@@ -26,4 +26,4 @@ pub record AskFor (words : List Text) (asked : Asked) : Type 0 where
 
 -- The words ask for help or for the version.
 abbrev pub AskForText : List Text → Type 0
-AskForText words = (app : App) × IsSeek app × (IsAmong DisplayHelp (fault_of app words) ⊎ IsAmong DisplayVersion (fault_of app words))
+AskForText words = (app : App) × IsSeek app × refusal.AskForText app words

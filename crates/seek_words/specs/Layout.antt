@@ -7,10 +7,10 @@ use Rattle.seek_details.specs.Details.{details_text}
 use Rattle.seek_words.specs.Absolute.{absolute_path}
 use Rattle.seek_words.specs.Asks.{is_slash}
 use Rattle.seek_words.specs.Paint.{Painting, painted, painting_of}
-use Rattle.seek_words.specs.Paths.{line_of, shown_folder, shown_text, text_line}
+use Rattle.program_parts.specs.Paths.{line_of, shown_folder, shown_text, text_line}
 use Rattle.seek_words.specs.Subject.{front_of}
 use Rattle.seek_words.specs.declared.layout.Layout.{Layout}
-use Rattle.seek_words.specs.declared.paths.Style.{Style}
+use Rattle.program_parts.specs.declared.paths.Style.{Style}
 
 -- The form of printed lines: the style of paths, the text in front of a relative path where absolute paths are printed,
 -- whether details are in front, the colors, if paths have some, and the text in place of each slash, if one is named.

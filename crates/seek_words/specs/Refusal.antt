@@ -1,8 +1,10 @@
 -- The refusals of words.
 use Rattle.std.specs.Prelude.{◌≡◌, ◌⊎◌, ℕ, true, false, codes, List, Option, None, Some}
 use Rattle.std.specs.List.{list_any, Contains}
-use Rattle.clap.specs.Words.{App, HasKind, Row, Text, fault_of, first_of, kind_of, matches_of}
+use Rattle.clap.specs.Words.{App, Row, Text, first_of, matches_of}
+use Rattle.program_parts.specs.Refusal.{IsRefusedBy, status_of as status_of_common}
 use Rattle.program_parts.specs.Values.{values_in}
+use Rattle.program_parts.specs.declared.refusal.CommonRefusal.TheVariants.{Memory}
 use Rattle.seek_words.specs.Asks.{Asks, is_slash}
 use Rattle.seek_words.specs.Command.{IsSeek}
 use Rattle.seek_words.specs.Color.{color_in}
@@ -12,19 +14,16 @@ use Rattle.seek_words.specs.Size.{size_in}
 use Rattle.seek_words.specs.Time.{time_in}
 use Rattle.seek_words.specs.declared.asked.Asked.{Asked}
 use Rattle.seek_words.specs.declared.refusal.Refusal.{Refusal}
-use Rattle.seek_words.specs.declared.refusal.Refusal.TheVariants.{Words, Conflict, NoSize, NoOwner, NoTime, NoColor, Slash, Memory}
-use Rattle.program_parts.specs.Status.{status_of_kind}
+use Rattle.seek_words.specs.declared.refusal.Refusal.TheVariants.{Common, NoSize, NoOwner, NoTime, NoColor, Slash}
 
 -- the status of the program
 abbrev pub status_of : Refusal → ℕ
-status_of (Words error) = status_of_kind (kind_of error)
-status_of (Conflict one other) = 2
+status_of (Common refusal) = status_of_common refusal
 status_of (NoSize text) = 2
 status_of (NoOwner text) = 2
 status_of (NoTime text) = 2
 status_of (NoColor text) = 2
 status_of (Slash pattern) = 2
-status_of Memory = 1
 
 -- A pattern has a slash, and is compared with names.
 pub record NamesSlash (asked : Asked) : Type 0 where
@@ -34,7 +33,7 @@ pub record NamesSlash (asked : Asked) : Type 0 where
 -- The refusal of sizes: one of their texts isn't a size, or memory ran out.
 abbrev pub IsRefusedSize : List Text → Refusal → Type 0
 IsRefusedSize texts (NoSize text) = Contains texts text.now × (size_in text.now ≡ None)
-IsRefusedSize texts Memory = Unit {0}
+IsRefusedSize texts (Common refusal) = refusal ≡ Memory
 IsRefusedSize texts _ = ⊥
 
 -- The refusal of a time: the text that is named isn't a time.
@@ -63,14 +62,12 @@ IsRefusedValue rows refusal =
 -- The refusal of words: they aren't those of the command line, or ask for help or the version; options exclude each
 -- other; a value is bad; the pattern has a slash and is compared with names; or memory ran out.
 abbrev pub IsRefusedFor : List Text → Refusal → Type 0
-IsRefusedFor words (Words error) = (app : App) × IsSeek app × HasKind (fault_of app words) error
-IsRefusedFor words (Conflict one other) = (app : App) × IsSeek app × (has_conflict (matches_of app words) ≡ true)
+IsRefusedFor words (Common refusal) = (refusal ≡ Memory) ⊎ ((app : App) × IsSeek app × IsRefusedBy app has_conflict words refusal)
 IsRefusedFor words (NoSize text) = (app : App) × IsSeek app × IsRefusedValue (matches_of app words) (NoSize text)
 IsRefusedFor words (NoOwner text) = (app : App) × IsSeek app × IsRefusedValue (matches_of app words) (NoOwner text)
 IsRefusedFor words (NoTime text) = (app : App) × IsSeek app × IsRefusedValue (matches_of app words) (NoTime text)
 IsRefusedFor words (NoColor text) = (app : App) × IsSeek app × IsRefusedValue (matches_of app words) (NoColor text)
 IsRefusedFor words (Slash pattern) = (app : App) × IsSeek app × (asked : Asked) × Asks (matches_of app words) asked × NamesSlash asked
-IsRefusedFor words Memory = Unit {0}
 
 -- Words are bad: they are refused, and not as memory ran out.
 abbrev pub AreBad : List Text → Type 0

@@ -5,9 +5,9 @@ ghost use Rattle.seek_words.specs.Layout.{folder_text, plain_line, slashed};
 ghost use Rattle.seek_words.specs.Subject.{front_of};
 
 use crate::paint::Paint;
-use crate::paths::Style;
 use crate::shown::Shown;
 use crate::subject::AbsolutePath;
+use program_parts::paths::Style;
 use seek_details::details::push_details;
 use std::alloc::{AllocError, Global};
 

@@ -17,7 +17,6 @@ pub mod lines;
 pub mod name_test;
 pub mod owner;
 pub mod paint;
-pub mod paths;
 pub mod refusal;
 pub mod screen;
 pub mod seen;

@@ -2,17 +2,15 @@
 ghost use Rattle.std.specs.Prelude.{◌≡◌};
 
 use clap::Error;
-use program_parts::refusal::status_of_kind;
+use program_parts::refusal::{CommonRefusal, RefusalBy};
 use std::alloc::AllocError;
 use std::fmt;
 
 /// The reason why words are refused.
 #[derive(Debug, Drop)]
 pub enum Refusal<'w> {
-    /// The words are bad, or ask for help or the version. The error has the text.
-    Words(Error),
-    /// These two options exclude each other.
-    Conflict(&'static str, &'static str),
+    /// A reason that all programs have.
+    Common(CommonRefusal),
     /// This isn't a size.
     NoSize(&'w str),
     /// This isn't an owner.
@@ -23,8 +21,6 @@ pub enum Refusal<'w> {
     NoColor(&'w str),
     /// This pattern has a slash, and isn't compared with paths.
     Slash(&'w str),
-    /// Memory ran out.
-    Memory,
 }
 
 impl<'w> Refusal<'w> {
@@ -36,20 +32,31 @@ impl<'w> Refusal<'w> {
         ensures { result ≡ status_of self.now }
     {
         match self {
-            Refusal::Words(error) => status_of_kind(error.kind()),
-            Refusal::Memory => 1,
+            Refusal::Common(refusal) => refusal.status(),
             _ => 2,
         }
     }
 }
 
 impl<'w> From<AllocError> for Refusal<'w> {
-    ghost use Rattle.seek_words.specs.declared.refusal.Refusal.TheVariants.{Memory};
+    ghost use Rattle.program_parts.specs.declared.refusal.CommonRefusal.TheVariants.{Memory};
+    ghost use Rattle.seek_words.specs.declared.refusal.Refusal.TheVariants.{Common};
 
-    ghost from_gives = { λ _ refusal. refusal ≡ Memory };
+    ghost from_gives = { λ _ refusal. refusal ≡ Common Memory };
 
     fn from(_refused: AllocError) -> Refusal<'w> {
-        Refusal::Memory
+        Refusal::Common(CommonRefusal::Memory)
+    }
+}
+
+impl<'w> From<Error> for Refusal<'w> {
+    ghost use Rattle.program_parts.specs.declared.refusal.CommonRefusal.TheVariants.{Words};
+    ghost use Rattle.seek_words.specs.declared.refusal.Refusal.TheVariants.{Common};
+
+    ghost from_gives = { λ error refusal. refusal ≡ Common (Words error) };
+
+    fn from(error: Error) -> Refusal<'w> {
+        Refusal::Common(CommonRefusal::Words(error))
     }
 }
 
@@ -57,12 +64,9 @@ impl<'w> From<AllocError> for Refusal<'w> {
 impl<'w> fmt::Display for Refusal<'w> {
     fn fmt<W: fmt::Write>(&self, f: &mut fmt::Formatter<W>) -> fmt::Result {
         match self {
-            Refusal::Words(error) => write!(f, "{error}"),
-            Refusal::Conflict(one, other) => {
-                writeln!(
-                    f,
-                    "seek: the options --{one} and --{other} exclude each other"
-                )
+            Refusal::Common(refusal) => {
+                let program = "seek";
+                write!(f, "{}", RefusalBy { program, refusal })
             }
             Refusal::NoSize(text) => writeln!(
                 f,
@@ -84,7 +88,6 @@ impl<'w> fmt::Display for Refusal<'w> {
                 f,
                 "seek: no name has a slash, and the pattern '{pattern}' has one: write `seek . {pattern}` to list that folder, or add --full-path"
             ),
-            Refusal::Memory => f.write_str("seek: memory refused\n"),
         }
     }
 }

@@ -3,8 +3,8 @@ ghost use Rattle.std.specs.Prelude.{◌≡◌, [], IfOk, OnOk};
 ghost use Rattle.jwalk_model.specs.Paths.{join, starts_with_slash};
 ghost use Rattle.seek_words.specs.Absolute.{front_before};
 
-use crate::paths::without_here;
 use jwalk_fs::path_text::{self, join_parts};
+use program_parts::paths::without_here;
 use std::alloc::{AllocError, Global};
 
 /// The absolute path of an entry. The paths of many entries use the same memory, one after another.

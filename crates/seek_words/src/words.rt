@@ -4,7 +4,7 @@ ghost use Rattle.std.specs.List.{list_any};
 ghost use Rattle.clap.specs.Words.{found_of, rows_of, first_of};
 ghost use Rattle.program_parts.specs.Values.{is_named, values_in, texts_of};
 ghost use Rattle.seek_words.specs.Asks.{is_either_named, ChoosesOne, IsCaseIn, IsColorIn, AreReadingsIn, roots_in, depths_by, AreDepthsIn, names_one, kinds_in, is_slash, AreResultsIn, Asks};
-ghost use Rattle.seek_words.specs.AsksFor.{AskFor, GiveValues};
+ghost use Rattle.seek_words.specs.AsksFor.{AskFor};
 ghost use Rattle.seek_words.specs.Conflict.{has_conflict};
 ghost use Rattle.seek_words.specs.Refusal.{IsRefusedFor, IsRefusedColor, IsRefusedOwner, IsRefusedSize, IsRefusedTime, IsRefusedValue};
 ghost use Rattle.seek_words.specs.Owner.{owner_in};
@@ -23,7 +23,8 @@ use crate::size::Size;
 use crate::time::Time;
 use crate::times::Times;
 use clap::ArgMatches;
-use program_parts::values::{has_value, is_named, number_of, values_of};
+use program_parts::refusal::CommonRefusal;
+use program_parts::values::{has_value, is_named, matches_of, number_of, values_of};
 use std::alloc::{AllocError, Global};
 use std::convert::AsStr;
 
@@ -304,16 +305,6 @@ fn conflict_of(found: &ArgMatches<'_>) -> Option<(&'static str, &'static str)>
     None
 }
 
-fn matches_of<'w, S: AsStr>(alloc: Global, words: &'w [S]) -> Result<ArgMatches<'w>, Refusal<'w>>
-    ensures read { IfOk result (λ found. GiveValues (map S.text words.entry.now) (rows_of (found_of found))) }
-    ensures refused { IfErr result (IsRefusedFor (map S.text words.entry.now)) }
-{
-    match command(alloc)?.try_get_matches_from(words) {
-        Ok(found) => Ok(found),
-        Err(error) => Err(Refusal::Words(error)),
-    }
-}
-
 /// Reads the words of a call. The first word is the program's name.
 ///
 /// # Errors
@@ -324,9 +315,9 @@ pub fn read_words<'w, S: AsStr>(alloc: Global, words: &'w [S]) -> Result<Asked<'
     ensures asked { IfOk result (AskFor (map S.text words.entry.now)) }
     ensures refused { IfErr result (IsRefusedFor (map S.text words.entry.now)) }
 {
-    let found = matches_of(alloc, words)?;
+    let found = matches_of(command(alloc)?, words)?;
     if let Some((one, other)) = conflict_of(&found) {
-        return Err(Refusal::Conflict(one, other));
+        return Err(Refusal::Common(CommonRefusal::Conflict(one, other)));
     }
     let asked = asked_of(alloc, &found)?;
     if !asked.full_path && has_slash(asked.pattern) {

@@ -1,7 +1,7 @@
 -- Lines of a size and a path.
 use Rattle.std.specs.Prelude.{ℕ, List, ◌∷◌, ◌++◌}
-use Rattle.seek_words.specs.declared.paths.Style.{Style}
-use Rattle.seek_words.specs.Paths.{line_of as path_line}
+use Rattle.program_parts.specs.declared.paths.Style.{Style}
+use Rattle.program_parts.specs.Paths.{line_of as path_line}
 use Rattle.tally_text.specs.declared.scale.Scale.{Scale}
 use Rattle.tally_text.specs.Scale.{size_text}
 

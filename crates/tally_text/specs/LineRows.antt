@@ -1,7 +1,7 @@
 -- Lines and rows of a table, row by row: lines as `du -k` writes them.
 use Rattle.std.specs.Prelude.{◌≡◌, false, [], ◌∷◌, ◌++◌, codes, refl}
 use Rattle.std.specs.Fmt.{digits}
-use Rattle.seek_words.specs.declared.paths.Style.{Style}
+use Rattle.program_parts.specs.declared.paths.Style.{Style}
 use Rattle.tally_text.specs.declared.layout.Layout.{Layout}
 use Rattle.tally_text.specs.declared.scale.Scale.TheVariants.{Human, Kibibytes, Bytes}
 use Rattle.tally_text.specs.Layout.{row_text}

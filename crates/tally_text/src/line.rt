@@ -3,7 +3,7 @@ ghost use Rattle.std.specs.Prelude.{◌≡◌, ◌++◌, OnOk};
 ghost use Rattle.tally_text.specs.Line.{line_of};
 
 use crate::scale::Scale;
-use seek_words::paths::Style;
+use program_parts::paths::Style;
 use std::alloc::{AllocError, Global};
 
 /// Appends the line of a size and of the path of a name in a folder to `out`.

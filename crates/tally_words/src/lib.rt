@@ -4,5 +4,4 @@
 pub mod asked;
 mod command;
 pub mod form;
-pub mod refusal;
 pub mod words;

@@ -2,16 +2,16 @@
 ghost use Rattle.std.specs.Prelude.{◌≡◌, is_some, map, IfOk, IfErr};
 ghost use Rattle.clap.specs.Words.{found_of, rows_of};
 ghost use Rattle.tally_words.specs.Asks.{form_in, IsDepthIn, Asks};
-ghost use Rattle.tally_words.specs.AsksFor.{AskFor, GiveValues};
+ghost use Rattle.tally_words.specs.AsksFor.{AskFor};
 ghost use Rattle.tally_words.specs.Conflict.{asks_lines, has_form_conflict, has_total_conflict, has_conflict};
 ghost use Rattle.tally_words.specs.Refusal.{IsRefusedFor};
 
 use crate::asked::Asked;
 use crate::command::command;
 use crate::form::Form;
-use crate::refusal::Refusal;
 use clap::ArgMatches;
-use program_parts::values::{has_value, is_named, number_of, values_of};
+use program_parts::refusal::CommonRefusal;
+use program_parts::values::{has_value, is_named, matches_of, number_of, values_of};
 use std::alloc::{AllocError, Global};
 use std::convert::AsStr;
 
@@ -118,28 +118,18 @@ fn conflict_of(found: &ArgMatches<'_>) -> Option<(&'static str, &'static str)>
     }
 }
 
-fn matches_of<'w, S: AsStr>(alloc: Global, words: &'w [S]) -> Result<ArgMatches<'w>, Refusal>
-    ensures read { IfOk result (λ found. GiveValues (map S.text words.entry.now) (rows_of (found_of found))) }
-    ensures refused { IfErr result (IsRefusedFor (map S.text words.entry.now)) }
-{
-    match command(alloc)?.try_get_matches_from(words) {
-        Ok(found) => Ok(found),
-        Err(error) => Err(Refusal::Words(error)),
-    }
-}
-
 /// Reads the words of a call, of which the first is the program's name.
 ///
 /// # Errors
 ///
 /// If the words are bad or ask for help or the version; if two options exclude each other; or if memory runs out.
-pub fn read_words<'w, S: AsStr>(alloc: Global, words: &'w [S]) -> Result<Asked<'w>, Refusal>
+pub fn read_words<'w, S: AsStr>(alloc: Global, words: &'w [S]) -> Result<Asked<'w>, CommonRefusal>
     ensures asked { IfOk result (AskFor (map S.text words.entry.now)) }
     ensures refused { IfErr result (IsRefusedFor (map S.text words.entry.now)) }
 {
-    let found = matches_of(alloc, words)?;
+    let found = matches_of(command(alloc)?, words)?;
     match conflict_of(&found) {
-        Some((one, other)) => Err(Refusal::Conflict(one, other)),
+        Some((one, other)) => Err(CommonRefusal::Conflict(one, other)),
         None => Ok(asked_of(alloc, &found)?),
     }
 }

@@ -2,10 +2,10 @@
 ghost use Rattle.std.specs.Prelude.{◌≡◌, ◌++◌, ◌∷◌, [], string_bytes, IfOk, OnOk};
 ghost use Rattle.std.specs.Io.KnownBytes.{Appends};
 ghost use Rattle.jwalk_model.specs.Paths.{join};
-ghost use Rattle.seek_words.specs.Paths.{without_here, line_of, text_line};
+ghost use Rattle.program_parts.specs.Paths.{without_here, line_of, text_line};
 
+use crate::masked::masked;
 use jwalk_fs::path_text::join_parts;
-use program_parts::masked::masked;
 use std::alloc::{AllocError, Allocator};
 
 /// The written form of the path of an entry.
@@ -43,9 +43,10 @@ fn push_path<A: Allocator>(folder: &str, name: &str, out: &mut Vec<u8, A>) -> Re
 }
 
 impl Style {
-    ghost use Rattle.seek_words.specs.Paths.{shown_folder, shown_text};
+    ghost use Rattle.program_parts.specs.Paths.{shown_folder, shown_text};
 
-    pub(crate) fn folder(self, folder: &str) -> &str
+    /// Returns the written form of the path of a folder, before control characters are replaced.
+    pub fn folder(self, folder: &str) -> &str
         ensures { result.now ≡ shown_folder self folder.now }
     {
         if self.here {
@@ -60,11 +61,7 @@ impl Style {
     /// # Errors
     ///
     /// If memory runs out.
-    pub(crate) fn shown_text<A: Allocator>(
-        self,
-        alloc: A,
-        text: &str,
-    ) -> Result<String<A>, AllocError>
+    pub fn shown_text<A: Allocator>(self, alloc: A, text: &str) -> Result<String<A>, AllocError>
         ensures { IfOk result (λ shown. string_bytes shown ≡ shown_text self text.now) }
     {
         if self.to_terminal {

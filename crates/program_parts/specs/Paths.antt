@@ -2,7 +2,7 @@
 use Rattle.std.specs.Prelude.{ℕ, List, [], ◌∷◌, ◌++◌, take, drop, bytes_eq, codes, if◌then◌else◌}
 use Rattle.jwalk_model.specs.Paths.{join, dot}
 use Rattle.program_parts.specs.Masked.{masked}
-use Rattle.seek_words.specs.declared.paths.Style.{Style}
+use Rattle.program_parts.specs.declared.paths.Style.{Style}
 
 -- the path of a folder without the `.` or the `./` that it begins with
 abbrev pub without_here : List ℕ → List ℕ

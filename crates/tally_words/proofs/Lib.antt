@@ -1,2 +1,0 @@
-pub mod CommandFacts
-pub mod EndFacts
