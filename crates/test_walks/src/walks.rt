@@ -1,18 +1,7 @@
-//! Counts and paths of walks over trees in memory.
-use jwalk::file_system::{BuildError, MemoryFs};
-use jwalk::{WalkDirGeneric, path_text};
+//! The paths of a walk over a tree in memory.
+use jwalk::WalkDirGeneric;
+use jwalk::file_system::MemoryFs;
 use std::alloc::Global;
-use test_fixtures::builders::over_tree;
-use test_fixtures::trees::SMALL;
-
-fn count(alloc: Global) -> Result<usize, BuildError> {
-    Ok(over_tree(alloc, SMALL, "/r")?.into_iter().count())
-}
-
-#[test]
-fn a_walk_counted(rt: HostRuntime) {
-    assert!(rt; matches!(count(rt.alloc()), Ok(5)));
-}
 
 /// The paths are one on each line.
 fn paths_in_memory(alloc: Global) -> anyhow::Result<String> {
@@ -33,12 +22,4 @@ fn paths_in_memory(alloc: Global) -> anyhow::Result<String> {
 fn a_tree_built_in_memory(rt: HostRuntime) {
     let paths = paths_in_memory(rt.alloc());
     assert!(rt; matches!(&paths, Ok(paths) if paths.as_str() == "/photos\n/photos/sea.jpg\n"));
-}
-
-#[test]
-fn paths_through_the_library(rt: HostRuntime) {
-    let path = path_text::join(rt.alloc(), "a", "b");
-    assert!(rt; matches!(&path, Ok(path) if path.as_str() == "a/b"));
-    assert!(rt; path_text::parent("a/b/") == Some("a"));
-    assert!(rt; path_text::file_name("a/b/") == Some("b"));
 }
