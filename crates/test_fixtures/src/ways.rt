@@ -1,13 +1,16 @@
 //! The ways to read one and the same walk.
 ghost use Rattle.std.specs.Iterator.{IsFinite};
-ghost use Rattle.jwalk.specs.DirEntryIter.{job_of};
+ghost use Rattle.jwalk.specs.DirEntryIter.{job_of, reads_of};
+ghost use Rattle.jwalk.specs.WalkDir.{callback_of};
 ghost use Rattle.jwalk.specs.jwalk_job.Job.{callback};
 
 use crate::answers::{Answer, are_lines};
 use crate::plain_walk::plain_answers;
 use crate::width::Width;
+use jwalk::entries::Entries;
 use jwalk::file_system::FileSystem;
 use jwalk::read_dir::{Job, NoProcess, ProcessReadDir};
+use jwalk::readings::Readings;
 use jwalk::{ClientState, DirEntryIter, Readers, WalkDirGeneric};
 use jwalk_job::options::Options;
 use std::alloc::{AllocError, Global};
@@ -49,7 +52,9 @@ impl Way {
     fn width(self) -> Width {
         match self {
             Way::Plain => Width::Serial,
-            Way::InTurn(width) | Way::OnThreads(width) | Way::Looped(width) => width,
+            Way::InTurn(width) => width,
+            Way::OnThreads(width) => width,
+            Way::Looped(width) => width,
         }
     }
 }
@@ -178,15 +183,9 @@ impl<'a, S: FileSystem + Send + Sync> Asked<'a, S> {
         C::DirEntryState: Send,
         requires { P.IsLawful process }
     {
-        let alloc = rt.alloc();
-        let walk = self.builder(alloc)?.parallelism(way.width().parallelism());
-        let mut walk = walk.process_read_dir(process).into_iter();
-        let mut found = Vec::new(alloc);
-        if way.add_all(rt, &mut walk, &mut found) {
-            Ok(found)
-        } else {
-            Err(AllocError)
-        }
+        let walk = self.builder(rt.alloc())?;
+        let walk = walk.parallelism(way.width().parallelism());
+        way.all_of(rt, walk.process_read_dir(process))
     }
 
     /// Returns whether the walk yields these lines.
@@ -204,6 +203,27 @@ impl<'a, S: FileSystem + Send + Sync> Asked<'a, S> {
 }
 
 impl Way {
+    /// Returns all that a walk yields.
+    fn all_of<
+        R: Threads + AllocGlobal + Sync,
+        C: ClientState + Send,
+        S: FileSystem + Send + Sync,
+        P: ProcessReadDir<C, Global> + Send + Sync,
+    >(self, rt: &R, walk: WalkDirGeneric<C, S, P>) -> Result<Vec<Answer<C>>, AllocError>
+    where
+        C::ReadDirState: Send,
+        C::DirEntryState: Send,
+        requires { P.IsLawful (callback_of walk) }
+    {
+        let mut walk = walk.into_iter();
+        let mut found = Vec::new(rt.alloc());
+        if self.add_all(rt, &mut walk, &mut found) {
+            Ok(found)
+        } else {
+            Err(AllocError)
+        }
+    }
+
     /// Returns whether there was memory for the answers.
     fn add_all<
         R: Threads + Sync,
@@ -219,20 +239,31 @@ impl Way {
     {
         match self {
             Way::OnThreads(_) => add_on_threads(rt, walk, found),
+            Way::Plain | Way::InTurn(_) | Way::Looped(_) => self.add_alone(walk, found),
+        }
+    }
+
+    /// Uses no threads.
+    fn add_alone<C: ClientState, B: Readings<C, Global>>(
+        self,
+        walk: &mut Entries<C, Global, B>,
+        found: &mut Vec<Answer<C>>,
+    ) -> bool
+        requires { B.can_read (B.base (reads_of walk.old)) }
+    {
+        match self {
             Way::Looped(_) => add_rest(walk, found).is_ok(),
-            Way::Plain | Way::InTurn(_) => add_in_turn(walk, found),
+            _ => add_in_turn(walk, found),
         }
     }
 }
 
 /// Adds all answers of a walk under way, by calls that use no threads. Returns whether there was memory for them.
-pub fn add_in_turn<
-    C: ClientState,
-    S: FileSystem,
-    P: ProcessReadDir<C, Global>,
-    L: Readers<C, S, P, Global>,
->(walk: &mut DirEntryIter<C, S, P, Global, L>, found: &mut Vec<Answer<C>>) -> bool
-    requires { P.IsLawful (callback (job_of walk.old)) }
+pub fn add_in_turn<C: ClientState, B: Readings<C, Global>>(
+    walk: &mut Entries<C, Global, B>,
+    found: &mut Vec<Answer<C>>,
+) -> bool
+    requires { B.can_read (B.base (reads_of walk.old)) }
 {
     let is_filled = walk.fill(usize::MAX, found).is_ok();
     // Nothing comes after the end.
@@ -272,13 +303,11 @@ pub fn add_rest<C: ClientState, I: Iterator<Item = Answer<C>>>(
 }
 
 /// Returns all answers of a walk under way, by calls that use no threads.
-pub fn all_of<
-    C: ClientState,
-    S: FileSystem,
-    P: ProcessReadDir<C, Global>,
-    L: Readers<C, S, P, Global>,
->(alloc: Global, mut walk: DirEntryIter<C, S, P, Global, L>) -> Result<Vec<Answer<C>>, AllocError>
-    requires { P.IsLawful (callback (job_of walk)) }
+pub fn all_of<C: ClientState, B: Readings<C, Global>>(
+    alloc: Global,
+    mut walk: Entries<C, Global, B>,
+) -> Result<Vec<Answer<C>>, AllocError>
+    requires { B.can_read (B.base (reads_of walk)) }
 {
     let mut found = Vec::new(alloc);
     if add_in_turn(&mut walk, &mut found) {

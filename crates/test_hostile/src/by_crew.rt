@@ -1,28 +1,30 @@
-//! Walks that a crew reads for, over a file system that the tests look at too.
-ghost use Rattle.jwalk.specs.DirEntryIter.{job_of};
+//! Walks that are lent, and walks that a crew reads for, over a file system that the tests look at too.
+ghost use Rattle.jwalk.specs.DirEntryIter.{reads_of};
 ghost use Rattle.jwalk.specs.WalkDir.{callback_of};
-ghost use Rattle.jwalk.specs.jwalk_job.Job.{callback};
 
+use jwalk::entries::Entries;
 use jwalk::file_system::FileSystem;
 use jwalk::read_dir::{NoProcess, ProcessReadDir};
-use jwalk::{Crew, DirEntryIter, Parallelism, Readers, WalkDirGeneric};
+use jwalk::readings::Readings;
+use jwalk::{Crew, Parallelism, WalkDirGeneric};
 use std::alloc::{AllocError, Global};
 use std::sync::Arc;
 use test_fixtures::answers::{Answer, are_lines};
+use test_fixtures::builders::Builder;
 use test_fixtures::host::Host;
 use test_fixtures::ways::{Asked, Setting, WAYS, add_in_turn, with_all};
 
 /// A walk that has not begun, for which a crew will read.
 pub type CrewWalk<R, S, P = NoProcess> = WalkDirGeneric<((), ()), Arc<S>, P, Global, Crew<R>>;
 
-/// A walk under way that some readers read for.
-pub type WalkBy<S, L, P = NoProcess> = DirEntryIter<((), ()), Arc<S>, P, Global, L>;
+/// A walk under way, whoever reads for it.
+pub type Walk<B> = Entries<((), ()), Global, B>;
 
 /// What a test does with a walk under way, whoever reads for it.
-pub trait Visit<S: FileSystem, P: ProcessReadDir<((), ()), Global>> {
+pub trait Visit {
     /// Returns whether the walk went as it must.
-    fn visit<L: Readers<((), ()), Arc<S>, P, Global>>(&mut self, walk: &mut WalkBy<S, L, P>) -> bool
-        requires { P.IsLawful (callback (job_of walk.old)) };
+    fn visit<B: Readings<((), ()), Global>>(&mut self, walk: &mut Walk<B>) -> bool
+        requires { B.can_read (B.base (reads_of walk.old)) };
 }
 
 /// Begins a walk, lends it and drops it. A walk over a crew has a long type, so this is the one function that owns one.
@@ -30,10 +32,15 @@ pub fn lend<
     R: Host,
     S: FileSystem + Send + Sync + 'static,
     P: ProcessReadDir<((), ()), Global> + Send + Sync + 'static,
-    V: Visit<S, P>,
->(walk: CrewWalk<R, S, P>, visit: &mut V) -> bool
+>(walk: CrewWalk<R, S, P>, visit: &mut impl Visit) -> bool
     requires { P.IsLawful (callback_of walk) }
 {
+    let mut walk = walk.into_iter();
+    visit.visit(&mut walk)
+}
+
+/// Begins a walk that no crew reads for, lends it and drops it.
+pub fn lend_alone<S: FileSystem>(walk: Builder<S>, visit: &mut impl Visit) -> bool {
     let mut walk = walk.into_iter();
     visit.visit(&mut walk)
 }
@@ -44,11 +51,8 @@ struct All {
     found: Vec<Answer>,
 }
 
-impl<S: FileSystem, P: ProcessReadDir<((), ()), Global>> Visit<S, P> for All {
-    fn visit<L: Readers<((), ()), Arc<S>, P, Global>>(
-        &mut self,
-        walk: &mut WalkBy<S, L, P>,
-    ) -> bool {
+impl Visit for All {
+    fn visit<B: Readings<((), ()), Global>>(&mut self, walk: &mut Walk<B>) -> bool {
         add_in_turn(walk, &mut self.found)
     }
 }
@@ -62,11 +66,8 @@ pub struct First {
     pub found: Vec<Answer>,
 }
 
-impl<S: FileSystem> Visit<S, NoProcess> for First {
-    fn visit<L: Readers<((), ()), Arc<S>, NoProcess, Global>>(
-        &mut self,
-        walk: &mut WalkBy<S, L>,
-    ) -> bool {
+impl Visit for First {
+    fn visit<B: Readings<((), ()), Global>>(&mut self, walk: &mut Walk<B>) -> bool {
         walk.fill(self.count, &mut self.found).is_ok()
     }
 }
@@ -103,7 +104,7 @@ impl<'a, S: FileSystem + Send + Sync + 'static> ByCrew<'a, S> {
         &self,
         alloc: Global,
         pool: Arc<Crew<R>>,
-        visit: &mut impl Visit<S, NoProcess>,
+        visit: &mut impl Visit,
     ) -> Result<bool, AllocError> {
         Ok(lend(self.builder(alloc, pool)?, visit))
     }

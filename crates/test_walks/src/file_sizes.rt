@@ -11,7 +11,7 @@ use test_fixtures::host::Host;
 use test_fixtures::meeting::{Meeting, Place};
 use test_fixtures::trees::{GROUPED, Step, tree};
 use test_fixtures::watched::{Failing, Watched};
-use test_fixtures::ways::{Asked, Setting, WAYS, Way};
+use test_fixtures::ways::{Asked, Setting, WAYS, Way, all_of};
 
 /// The state of an entry is its size.
 type States = ((), Size);
@@ -38,7 +38,7 @@ fn sizes_of(alloc: Global, found: &[Answer<States>]) -> Result<String, AllocErro
     Ok(text)
 }
 
-/// Walks by name in a `for` loop, and asks another file system for the sizes.
+/// Walks by name, and asks another file system for the sizes.
 fn walked<S: FileSystem, T: FileSystem>(
     alloc: Global,
     fs: S,
@@ -47,14 +47,11 @@ fn walked<S: FileSystem, T: FileSystem>(
     follow: bool,
 ) -> Result<String, AllocError> {
     let root = String::from_str(alloc, root)?;
-    let mut found = Vec::new(alloc);
     let walk = WalkDirGeneric::<((), Size), _, _, _>::new(fs, root)
         .sort(true)
         .follow_links(follow)
         .process_read_dir(WithSizes::new(asked));
-    for answer in walk.into_iter() {
-        found.push(answer)?;
-    }
+    let found = all_of(alloc, walk.into_iter())?;
     sizes_of(alloc, found.as_slice())
 }
 

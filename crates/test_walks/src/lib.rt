@@ -5,8 +5,6 @@
 #[cfg(test)]
 mod callers;
 #[cfg(test)]
-mod collected;
-#[cfg(test)]
 mod error_texts;
 #[cfg(test)]
 mod errors;
@@ -14,8 +12,6 @@ mod errors;
 mod file_sizes;
 #[cfg(test)]
 mod getters;
-#[cfg(test)]
-mod readings;
 #[cfg(test)]
 mod rows;
 #[cfg(test)]

@@ -1,26 +1,11 @@
 //! Walks over large trees.
 use crate::wide::{FILES, name, scrambled, wide_directory};
-use jwalk::file_system::{BuildError, FileSystem, MemoryFs};
+use jwalk::file_system::{BuildError, MemoryFs};
 use std::alloc::{AllocError, Global};
 use test_fixtures::answers::{Answer, are_lines};
-use test_fixtures::builders::{Builder, builder};
+use test_fixtures::builders::builder;
 use test_fixtures::watched::{Failing, Watched};
-
-/// Collects the outcome of a number of calls of `next`.
-fn called<S: FileSystem>(
-    alloc: Global,
-    walk: Builder<S>,
-    calls: usize,
-) -> Result<Vec<Answer>, AllocError> {
-    let mut walk = walk.into_iter();
-    let mut found = Vec::new(alloc);
-    for _ in 0..calls {
-        if let Some(answer) = walk.next() {
-            found.push(answer)?;
-        }
-    }
-    Ok(found)
-}
+use test_fixtures::ways::all_of;
 
 /// The files are by name, or in the order in which they were made.
 fn wide_lines(alloc: Global, by_name: bool) -> Result<String, AllocError> {
@@ -36,7 +21,7 @@ fn wide_lines(alloc: Global, by_name: bool) -> Result<String, AllocError> {
 fn has_all_files(alloc: Global, by_name: bool) -> Result<bool, BuildError> {
     let fs = Watched::new(wide_directory(alloc)?, Failing::Never);
     let walk = builder(alloc, &fs, "/d")?.sort(by_name);
-    let found = called(alloc, walk, FILES + 3)?;
+    let found = all_of(alloc, walk.into_iter())?;
     let lines = wide_lines(alloc, by_name)?;
     Ok(are_lines(alloc, found.as_slice(), lines.as_str()) && fs.lists() == 1)
 }
@@ -49,27 +34,6 @@ fn many_files_as_they_were_made(rt: HostRuntime) {
 #[test]
 fn many_files_by_name(rt: HostRuntime) {
     assert!(rt; matches!(has_all_files(rt.alloc(), true), Ok(true)));
-}
-
-/// Returns how many answers a first and a second call for all append, and how many there are at last.
-fn filled<S: FileSystem>(
-    alloc: Global,
-    walk: Builder<S>,
-) -> Result<(usize, usize, usize), AllocError> {
-    let mut walk = walk.into_iter();
-    let mut found = Vec::new(alloc);
-    let first = walk.fill(usize::MAX, &mut found)?;
-    let second = walk.fill(usize::MAX, &mut found)?;
-    Ok((first, second, found.len()))
-}
-
-fn filled_from_wide(alloc: Global) -> Result<(usize, usize, usize), BuildError> {
-    Ok(filled(alloc, builder(alloc, wide_directory(alloc)?, "/d")?)?)
-}
-
-#[test]
-fn all_answers_by_one_call(rt: HostRuntime) {
-    assert!(rt; matches!(filled_from_wide(rt.alloc()), Ok((5_001, 0, 5_001))));
 }
 
 /// Each directory has one directory, down to a depth of 30.
@@ -96,8 +60,7 @@ fn go_down(found: &[Answer]) -> bool {
 /// Each directory must be listed once.
 fn goes_down_once(alloc: Global) -> Result<bool, BuildError> {
     let fs = Watched::new(chain(alloc)?, Failing::Never);
-    let walk = builder(alloc, &fs, "/c")?;
-    let found = called(alloc, walk, 34)?;
+    let found = all_of(alloc, builder(alloc, &fs, "/c")?.into_iter())?;
     Ok(found.len() == 31 && go_down(found.as_slice()) && fs.lists() == 31)
 }
 

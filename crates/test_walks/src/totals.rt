@@ -1,11 +1,9 @@
-//! Totals over walks and over other iterators.
+//! Totals over walks.
 use jwalk::file_system::{BuildError, FileSystem, MemoryFs};
 use jwalk::read_dir::{NoProcess, Size, WithSizes};
 use jwalk::{ClientState, WalkDirGeneric};
-use jwalk_usage::sums::plus;
-use jwalk_usage::{Usage, UsageFault, usage, usage_kept, usage_of_rest, usage_sized};
+use jwalk_usage::{Usage, UsageFault, usage, usage_kept, usage_sized};
 use std::alloc::{AllocError, Global};
-use test_fixtures::answers::Answer;
 use test_fixtures::trees::{GROUPED, tree};
 use test_fixtures::watched::{Failing, Watched};
 
@@ -18,13 +16,6 @@ const WHOLE: Usage = Usage {
     errors: 0,
     bytes: 18,
 };
-
-#[test]
-fn a_sum_past_the_greatest_number_is_too_many(rt: HostRuntime) {
-    assert_eq!(rt; plus(u128::MAX, 1), Err(UsageFault::TooMany));
-    assert_eq!(rt; plus(u128::MAX - 1, 1), Ok(u128::MAX));
-    assert_eq!(rt; plus(u128::MAX, 0), Ok(u128::MAX));
-}
 
 /// The time at which files are asked for their sizes.
 #[derive(Clone, Copy)]
@@ -209,29 +200,4 @@ fn files_without_metadata_are_errors(rt: HostRuntime) {
 fn files_that_keep_metadata_are_not_asked(rt: HostRuntime) {
     let ways = [Asking::Kept, Asking::KeptAndCounted];
     assert!(rt; matches!(has_totals_of_missing(rt.alloc(), ways, WHOLE), Ok(true)));
-}
-
-/// The iterator must be left behind the error of memory that ran out, which ends the count.
-fn leaves_the_rest(alloc: Global) -> Result<bool, AllocError> {
-    let answers: [Answer; 3] = [
-        Err(jwalk::Error::busy()),
-        Err(jwalk::Error::memory()),
-        Err(jwalk::Error::lost()),
-    ];
-    let fs = MemoryFs::new(alloc);
-    let mut rest = Vec::from_array(alloc, answers)?.into_iter();
-    let stopped = usage_of_rest(&fs, &mut rest) == Err(UsageFault::Memory);
-    let one = Usage {
-        files: 0,
-        dirs: 0,
-        errors: 1,
-        bytes: 0,
-        ..WHOLE
-    };
-    Ok(stopped && usage_of_rest(&fs, &mut rest) == Ok(one))
-}
-
-#[test]
-fn an_iterator_that_is_lent_is_left_where_the_counting_ended(rt: HostRuntime) {
-    assert!(rt; matches!(leaves_the_rest(rt.alloc()), Ok(true)));
 }

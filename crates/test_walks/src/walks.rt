@@ -1,18 +1,9 @@
-//! Counts and paths of walks over trees in memory.
-use jwalk::file_system::{BuildError, MemoryFs};
-use jwalk::{Options, WalkDirGeneric, path_text};
+//! The paths of walks over trees in memory.
+use jwalk::file_system::MemoryFs;
+use jwalk::{Options, WalkDirGeneric};
 use std::alloc::Global;
 use test_fixtures::builders::over_tree;
-use test_fixtures::trees::{GROUPED, SMALL};
-
-fn count(alloc: Global) -> Result<usize, BuildError> {
-    Ok(over_tree(alloc, SMALL, "/r")?.into_iter().count())
-}
-
-#[test]
-fn a_walk_counted(rt: HostRuntime) {
-    assert!(rt; matches!(count(rt.alloc()), Ok(5)));
-}
+use test_fixtures::trees::GROUPED;
 
 /// The paths are one on each line.
 fn paths_in_memory(alloc: Global) -> anyhow::Result<String> {
@@ -53,12 +44,4 @@ fn options_set_together(rt: HostRuntime) {
     let wanted = "/t/group 1/d.txt\n/t/group 2/.hidden_file.txt\n/t/group 2/e.txt\n";
     let paths = paths_by_options(rt.alloc());
     assert!(rt; matches!(&paths, Ok(paths) if paths.as_str() == wanted));
-}
-
-#[test]
-fn paths_through_the_library(rt: HostRuntime) {
-    let path = path_text::join(rt.alloc(), "a", "b");
-    assert!(rt; matches!(&path, Ok(path) if path.as_str() == "a/b"));
-    assert!(rt; path_text::parent("a/b/") == Some("a"));
-    assert!(rt; path_text::file_name("a/b/") == Some("b"));
 }

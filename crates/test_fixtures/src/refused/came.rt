@@ -1,14 +1,16 @@
 //! The outcomes of walks.
 ghost use Rattle.std.specs.Prelude.{IfOk};
-ghost use Rattle.jwalk.specs.DirEntryIter.{job_of};
+ghost use Rattle.jwalk.specs.DirEntryIter.{job_of, reads_of};
 ghost use Rattle.jwalk.specs.WalkDir.{callback_of};
 ghost use Rattle.jwalk.specs.jwalk_job.Job.{callback};
 
 use crate::refused::lines::{Given, Met, Shown, are_first, is_refusal, what_came};
 use crate::width::Width;
+use jwalk::entries::Entries;
 use jwalk::file_system::FileSystem;
 use jwalk::read_dir::ProcessReadDir;
-use jwalk::{ClientState, DirEntryIter, Error, Readers, WalkDirGeneric};
+use jwalk::readings::Readings;
+use jwalk::{ClientState, DirEntryIter, Error, WalkDirGeneric};
 use std::alloc::{Allocator, Global};
 
 /// The outcome of a walk.
@@ -53,14 +55,11 @@ pub const WAYS: &[(Width, Taken)] = &[
 ];
 
 /// Returns `came` if nothing follows, and else that it is wrong.
-pub(crate) fn if_over<
-    C: ClientState,
-    S: FileSystem,
-    P: ProcessReadDir<C, A>,
-    A: Allocator + Copy,
-    L: Readers<C, S, P, A>,
->(walk: &mut DirEntryIter<C, S, P, A, L>, came: Came) -> Came
-    requires { P.IsLawful (callback (job_of walk.old)) }
+pub(crate) fn if_over<C: ClientState, A: Allocator + Copy, B: Readings<C, A>>(
+    walk: &mut Entries<C, A, B>,
+    came: Came,
+) -> Came
+    requires { B.can_read (B.base (reads_of walk.old)) }
 {
     let is_over = walk.next().is_none();
     if is_over && walk.next().is_none() {
@@ -71,16 +70,15 @@ pub(crate) fn if_over<
 }
 
 /// The walk must yield these lines, after `before` of them.
-pub(crate) fn goes_on<
-    C: ClientState,
-    S: FileSystem,
-    P: ProcessReadDir<C, A>,
-    A: Allocator + Copy,
-    L: Readers<C, S, P, A>,
->(alloc: Global, walk: &mut DirEntryIter<C, S, P, A, L>, lines: &[&str], before: usize) -> Came
+pub(crate) fn goes_on<C: ClientState, A: Allocator + Copy, B: Readings<C, A>>(
+    alloc: Global,
+    walk: &mut Entries<C, A, B>,
+    lines: &[&str],
+    before: usize,
+) -> Came
 where
     C::DirEntryState: Shown,
-    requires { P.IsLawful (callback (job_of walk.old)) }
+    requires { B.can_read (B.base (reads_of walk.old)) }
 {
     let mut came = before;
     'lines: for line in lines {
@@ -95,18 +93,16 @@ where
 }
 
 /// Returns the outcome of a walk under way that must yield these lines, taken one after another.
-pub fn goes<
-    C: ClientState,
-    S: FileSystem,
-    P: ProcessReadDir<C, A>,
-    A: Allocator + Copy,
-    L: Readers<C, S, P, A>,
->(alloc: Global, mut walk: DirEntryIter<C, S, P, A, L>, lines: &[&str]) -> Came
+pub fn goes<C: ClientState, A: Allocator + Copy, B: Readings<C, A>>(
+    alloc: Global,
+    walk: &mut Entries<C, A, B>,
+    lines: &[&str],
+) -> Came
 where
     C::DirEntryState: Shown,
-    requires { P.IsLawful (callback (job_of walk)) }
+    requires { B.can_read (B.base (reads_of walk.old)) }
 {
-    goes_on(alloc, &mut walk, lines, 0)
+    goes_on(alloc, walk, lines, 0)
 }
 
 /// Removes the last answer if it reports that memory ran out, and returns whether it does.
@@ -119,21 +115,15 @@ fn take_refusal<C: ClientState, A: Allocator + Copy>(found: &mut Vec<Given<C, A>
 }
 
 /// The walk must yield these lines. `found` are the first answers, which came at once.
-pub(crate) fn goes_after<
-    C: ClientState,
-    S: FileSystem,
-    P: ProcessReadDir<C, A>,
-    A: Allocator + Copy,
-    L: Readers<C, S, P, A>,
->(
+pub(crate) fn goes_after<C: ClientState, A: Allocator + Copy, B: Readings<C, A>>(
     alloc: Global,
-    walk: &mut DirEntryIter<C, S, P, A, L>,
+    walk: &mut Entries<C, A, B>,
     found: &mut Vec<Given<C, A>, A>,
     lines: &[&str],
 ) -> Came
 where
     C::DirEntryState: Shown,
-    requires { P.IsLawful (callback (job_of walk.old)) }
+    requires { B.can_read (B.base (reads_of walk.old)) }
 {
     let is_refused = take_refusal(found);
     let came = found.len();
@@ -146,16 +136,15 @@ where
 }
 
 /// Asks for all answers at once, and then for those that didn't come, one after another.
-fn is_filled<
-    C: ClientState,
-    S: FileSystem,
-    P: ProcessReadDir<C, A>,
-    A: Allocator + Copy,
-    L: Readers<C, S, P, A>,
->(alloc: Global, memory: A, walk: &mut DirEntryIter<C, S, P, A, L>, lines: &[&str]) -> Came
+fn is_filled<C: ClientState, A: Allocator + Copy, B: Readings<C, A>>(
+    alloc: Global,
+    memory: A,
+    walk: &mut Entries<C, A, B>,
+    lines: &[&str],
+) -> Came
 where
     C::DirEntryState: Shown,
-    requires { P.IsLawful (callback (job_of walk.old)) }
+    requires { B.can_read (B.base (reads_of walk.old)) }
 {
     let mut found: Vec<Given<C, A>, A> = Vec::new(memory);
     // If memory runs out for the vector, it doesn't have all answers.
@@ -185,6 +174,42 @@ pub(crate) fn not_begun<A: Allocator + Copy>(error: &Error<A>) -> Came {
     }
 }
 
+/// Returns the outcome of a walk under way that must yield these lines, with this memory.
+fn goes_as<C: ClientState, A: Allocator + Copy, B: Readings<C, A>>(
+    alloc: Global,
+    memory: A,
+    walk: &mut Entries<C, A, B>,
+    taken: Taken,
+    lines: &[&str],
+) -> Came
+where
+    C::DirEntryState: Shown,
+    requires { B.can_read (B.base (reads_of walk.old)) }
+{
+    match taken {
+        Taken::Filled => is_filled(alloc, memory, walk, lines),
+        Taken::Tried | Taken::Begun => goes_on(alloc, walk, lines, 0),
+    }
+}
+
+/// Returns the outcome of the start of a walk that must yield these lines, with this memory.
+fn goes_if_begun<C: ClientState, A: Allocator + Copy, B: Readings<C, A>>(
+    alloc: Global,
+    memory: A,
+    begun: Result<Entries<C, A, B>, Error<A>>,
+    taken: Taken,
+    lines: &[&str],
+) -> Came
+where
+    C::DirEntryState: Shown,
+    requires { IfOk begun (λ walk. B.can_read (B.base (reads_of walk))) }
+{
+    match begun {
+        Ok(mut walk) => goes_as(alloc, memory, &mut walk, taken, lines),
+        Err(error) => not_begun(&error),
+    }
+}
+
 /// Returns the outcome of a walk that has not begun and must yield these lines, with this memory.
 pub fn comes<C: ClientState, S: FileSystem, P: ProcessReadDir<C, A>, A: Allocator + Copy>(
     alloc: Global,
@@ -197,11 +222,5 @@ where
     C::DirEntryState: Shown,
     requires { P.IsLawful (callback_of walk) }
 {
-    match begin(walk, taken) {
-        Ok(mut walk) => match taken {
-            Taken::Filled => is_filled(alloc, memory, &mut walk, lines),
-            Taken::Tried | Taken::Begun => goes_on(alloc, &mut walk, lines, 0),
-        },
-        Err(error) => not_begun(&error),
-    }
+    goes_if_begun(alloc, memory, begin(walk, taken), taken, lines)
 }

@@ -1,4 +1,6 @@
 //! Walks that a crew reads for, where each request for memory is refused, or all from each on.
+ghost use Rattle.jwalk.specs.WalkDir.{callback_of};
+
 use crate::refused::rows::{GROUPS, HANDED_ON, MOVED, Row};
 use jwalk::file_system::{FileSystem, MemoryFs};
 use jwalk::read_dir::{NoProcess, ProcessReadDir};
@@ -27,6 +29,25 @@ fn not_begun<A: Allocator + Copy>(error: &Error<A>) -> Came {
     }
 }
 
+/// Returns how a walk comes out that must yield these lines.
+fn comes_out<
+    R: Host,
+    C: ClientState + Send + 'static,
+    S: FileSystem + Send + Sync + 'static,
+    P: ProcessReadDir<C, A> + Send + Sync + 'static,
+    A: Allocator + Copy + Send + Sync + 'static,
+>(alloc: Global, walk: WalkDirGeneric<C, S, P, A, Crew<R>>, lines: &[&str]) -> Came
+where
+    C::ReadDirState: Send + 'static,
+    C::DirEntryState: Shown + Send + 'static,
+    requires { P.IsLawful (callback_of walk) }
+{
+    match walk.try_into_iter() {
+        Ok(mut walk) => goes(alloc, &mut walk, lines),
+        Err(error) => not_begun(&error),
+    }
+}
+
 /// Returns how the walk of the row comes out with this callback. It waits until the crew has a place.
 fn comes_with<
     R: Host,
@@ -51,10 +72,7 @@ where
         .sort(true)
         .follow_links(row.follow)
         .parallelism(by_crew);
-    match walk.process_read_dir(process).try_into_iter() {
-        Ok(walk) => goes(alloc, walk, row.lines),
-        Err(error) => not_begun(&error),
-    }
+    comes_out(alloc, walk.process_read_dir(process), row.lines)
 }
 
 /// Returns how the walk of the row comes out with its callback.
@@ -89,6 +107,18 @@ struct Refusals {
     many: usize,
 }
 
+fn comes_refused<R: Host>(
+    rt: &R,
+    memory: Memory,
+    fs: Arc<MemoryFs>,
+    pool: Arc<Crew<R>, Memory>,
+    row: &Row,
+    refusals: Refusals,
+) -> Came {
+    memory.refuse(refusals.first, refusals.many);
+    comes(rt.alloc(), memory, fs, pool, row)
+}
+
 /// Returns how many requests were refused. Returns `None` if the walk came out wrong, if it left a place in use, or if
 /// pieces stayed out.
 fn refused<R: Host>(
@@ -101,9 +131,8 @@ fn refused<R: Host>(
 ) -> Option<usize> {
     memory.refuse(0, 0);
     let before = memory.pieces();
-    let (fs, own) = (fs.clone().ok()?, pool.clone().ok()?);
-    memory.refuse(refusals.first, refusals.many);
-    let came = comes(rt.alloc(), memory, fs, own, row);
+    let own = pool.clone().ok()?;
+    let came = comes_refused(rt, memory, fs.clone().ok()?, own, row, refusals);
     let is_free = pool.in_use() == 0;
     let is_right = came != Came::Wrong && is_free && are_back(rt, memory, before);
     let refused = memory.refused();

@@ -3,7 +3,7 @@ ghost use Rattle.std.specs.Prelude.{◌≡◌, IfSome};
 ghost use Rattle.jwalk.specs.WalkDir.{callback_of};
 
 use crate::refused::rows::Row;
-use jwalk::file_system::MemoryFs;
+use jwalk::file_system::{FileSystem, MemoryFs};
 use jwalk::read_dir::{NoProcess, ProcessReadDir};
 use jwalk::{ClientState, WalkDirGeneric};
 use std::alloc::{Allocator, Global};
@@ -35,12 +35,23 @@ impl<'f> Play<'f> {
     ) -> Option<Builder<'f, C, P, A>>
         ensures { IfSome result (λ walk. callback_of walk ≡ process) }
     {
-        let root = String::from_str(memory, self.row.root).ok()?;
-        let walk = WalkDirGeneric::new(self.fs, root)
-            .sort(true)
+        match String::from_str(memory, self.row.root) {
+            Ok(root) => Some(self.with_options(WalkDirGeneric::new(self.fs, root), process)),
+            Err(_) => None,
+        }
+    }
+
+    fn with_options<C: ClientState, S: FileSystem, P: ProcessReadDir<C, A>, A: Allocator + Copy>(
+        &self,
+        walk: WalkDirGeneric<C, S, NoProcess, A>,
+        process: P,
+    ) -> WalkDirGeneric<C, S, P, A>
+        ensures { callback_of result ≡ process }
+    {
+        walk.sort(true)
             .follow_links(self.row.follow)
-            .parallelism(self.width.parallelism());
-        Some(walk.process_read_dir(process))
+            .parallelism(self.width.parallelism())
+            .process_read_dir(process)
     }
 
     /// Returns how the walk comes out with this memory and this callback.

@@ -1,7 +1,7 @@
 //! Requests for memory that are refused within a callback.
 use crate::refused::goes::Play;
 use crate::refused::rows::HANDED_ON;
-use std::alloc::Global;
+use std::alloc::{Allocator, Global};
 use std::sync::atomic::{AtomicUsize, Ordering};
 use test_fixtures::refused::callbacks::{Callback, Texts};
 use test_fixtures::refused::came::{Came, WAYS};
@@ -11,10 +11,10 @@ use test_fixtures::refusing_alloc::Refusing;
 use test_fixtures::trees::tree;
 
 /// Returns also how often the callback ran out of memory.
-fn comes(alloc: Global, memory: &Refusing<Global>, play: Play<'_>) -> (Came, usize) {
+fn comes<A: Allocator + Copy>(alloc: Global, memory: A, play: Play<'_>) -> (Came, usize) {
     let within = AtomicUsize::new(0);
     let counting = Counting::new(Callback::HandsOnNames, &within);
-    let came = play.comes_with::<Texts<&Refusing<Global>>, _, _>(alloc, memory, counting);
+    let came = play.comes_with::<Texts<A>, _, _>(alloc, memory, counting);
     (came, within.load(Ordering::SeqCst))
 }
 

@@ -1,7 +1,7 @@
 //! Directories without end: each has one directory.
 ghost use Rattle.jwalk.specs.jwalk_model.Tree.{functions_of, only_root};
 
-use crate::by_crew::{ByCrew, First};
+use crate::by_crew::{ByCrew, First, lend_alone};
 use jwalk::Crew;
 use jwalk::file_system::{Fault, FileSystem, FileType, Listed, Metadata};
 use jwalk::read_dir::NoProcess;
@@ -117,10 +117,12 @@ fn are_a_hundred(found: &[Answer]) -> bool {
 
 fn gives_a_hundred(alloc: Global) -> Result<bool, AllocError> {
     let fs = Endless::new();
-    let mut walk = builder(alloc, &fs, "/")?.into_iter();
-    let mut found = Vec::new(alloc);
-    let count = walk.fill(100, &mut found)?;
-    Ok(count == 100 && are_a_hundred(found.as_slice()))
+    let mut first = First {
+        count: 100,
+        found: Vec::new(alloc),
+    };
+    let are_taken = lend_alone(builder(alloc, &fs, "/")?, &mut first);
+    Ok(are_taken && are_a_hundred(first.found.as_slice()))
 }
 
 #[test]

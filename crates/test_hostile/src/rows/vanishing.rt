@@ -1,9 +1,11 @@
 //! A directory that is gone from some moment on.
-use crate::by_crew::{ByCrew, Visit, WalkBy};
+ghost use Rattle.jwalk.specs.DirEntryIter.{reads_of};
+
+use crate::by_crew::{ByCrew, Visit, Walk, lend_alone};
 use crate::gated::{Gate, Gated};
+use jwalk::Crew;
 use jwalk::file_system::{BuildError, Fault, FileSystem};
-use jwalk::read_dir::NoProcess;
-use jwalk::{Crew, Readers};
+use jwalk::readings::Readings;
 use std::alloc::{AllocError, Global};
 use std::io;
 use std::io::ErrorKind;
@@ -13,7 +15,7 @@ use test_fixtures::answers::{Answer, are_lines};
 use test_fixtures::builders::builder;
 use test_fixtures::host::Host;
 use test_fixtures::trees::{GROUPED, tree};
-use test_fixtures::ways::Setting;
+use test_fixtures::ways::{Setting, with_all};
 use test_fixtures::width::Width;
 
 /// A gate that the second group can't pass once it is gone.
@@ -72,10 +74,12 @@ struct Vanishes<'a> {
 
 impl Vanishes<'_> {
     /// The second group vanishes between them.
-    fn found<S: FileSystem, L: Readers<((), ()), Arc<S>, NoProcess, Global>>(
+    fn found<B: Readings<((), ()), Global>>(
         &self,
-        walk: &mut WalkBy<S, L>,
-    ) -> Result<Vec<Answer>, AllocError> {
+        walk: &mut Walk<B>,
+    ) -> Result<Vec<Answer>, AllocError>
+        requires { B.can_read (B.base (reads_of walk.old)) }
+    {
         let mut found = Vec::new(self.alloc);
         walk.fill(self.count, &mut found)?;
         self.fs.gate.vanish();
@@ -84,11 +88,8 @@ impl Vanishes<'_> {
     }
 }
 
-impl<S: FileSystem> Visit<S, NoProcess> for Vanishes<'_> {
-    fn visit<L: Readers<((), ()), Arc<S>, NoProcess, Global>>(
-        &mut self,
-        walk: &mut WalkBy<S, L>,
-    ) -> bool {
+impl Visit for Vanishes<'_> {
+    fn visit<B: Readings<((), ()), Global>>(&mut self, walk: &mut Walk<B>) -> bool {
         let Ok(found) = self.found(walk) else {
             return false;
         };
@@ -102,15 +103,17 @@ impl<S: FileSystem> Visit<S, NoProcess> for Vanishes<'_> {
 
 fn shows(alloc: Global, width: Width, count: usize, wanted: &str) -> Result<bool, BuildError> {
     let fs = groups(alloc)?;
-    let walk = builder(alloc, fs.clone()?, "/t")?.sort(true);
     let mut vanishes = Vanishes {
         alloc,
         fs: &*fs,
         count,
         wanted: &[wanted],
     };
-    let mut walk = walk.parallelism(width.parallelism()).into_iter();
-    Ok(vanishes.visit(&mut walk))
+    let walk = with_all(
+        builder(alloc, fs.clone()?, "/t")?,
+        &[Setting::Sort, Setting::By(width)],
+    );
+    Ok(lend_alone(walk, &mut vanishes))
 }
 
 #[test]

@@ -1,8 +1,8 @@
 //! A thousand walks on one crew, and two crews at once.
-use crate::by_crew::{ByCrew, CrewWalk, Visit, WalkBy};
+use crate::by_crew::{ByCrew, CrewWalk, First};
 use jwalk::file_system::{FileSystem, MemoryFs, RealFs};
 use jwalk::read_dir::NoProcess;
-use jwalk::{Crew, Readers};
+use jwalk::{Crew, DirEntryIter, Readers};
 use std::alloc::Global;
 use std::fs::Files;
 use std::sync::Arc;
@@ -27,31 +27,27 @@ fn threads<R: Files + Drop>(alloc: Global, disk: &RealFs<R>) -> Option<usize> {
     Some(disk.read_dir(alloc, "/proc/self/task").ok()?.len())
 }
 
-/// A visit that takes this number of answers.
-#[derive(Drop)]
-struct Takes(usize);
-
-impl<S: FileSystem> Visit<S, NoProcess> for Takes {
-    fn visit<L: Readers<((), ()), Arc<S>, NoProcess, Global>>(
-        &mut self,
-        walk: &mut WalkBy<S, L>,
-    ) -> bool {
-        for _ in 0..self.0 {
-            if !matches!(walk.next(), Some(Ok(_))) {
-                return false;
-            }
+/// Returns whether these are so many entries.
+fn are_entries(found: &[Answer], count: usize) -> bool {
+    for answer in found {
+        if answer.is_err() {
+            return false;
         }
-        true
     }
+    found.len() == count
 }
 
-/// The walks follow one another on one crew.
+/// The walks follow one another on one crew. Each is dropped after 0 to 7 answers.
 fn begin_and_drop<R: Host>(rt: &R, walks: usize) -> Option<bool> {
     let asked = forked(rt.alloc())?;
     let pool = Arc::new(rt.alloc(), Crew::new(rt.clone().ok()?, 1, 2)).ok()?;
     for number in 0..walks {
-        let mut takes = Takes(number % 8);
-        if !asked.lend(rt.alloc(), pool.clone().ok()?, &mut takes).ok()? {
+        let mut first = First {
+            count: number % 8,
+            found: Vec::new(rt.alloc()),
+        };
+        let are_taken = asked.lend(rt.alloc(), pool.clone().ok()?, &mut first).ok()?;
+        if !are_taken || !are_entries(first.found.as_slice(), first.count) {
             return Some(false);
         }
     }
@@ -80,6 +76,9 @@ fn leave_no_thread<R: Host + Files>(rt: &R) -> Option<bool> {
 fn a_thousand_walks_on_one_crew_leave_no_thread(rt: HostRuntime) {
     assert!(rt; leave_no_thread(&rt) == Some(true));
 }
+
+/// A walk under way that some readers read for.
+type WalkBy<S, L> = DirEntryIter<((), ()), Arc<S>, NoProcess, Global, L>;
 
 /// Takes the answers of two walks in turn. Returns whether there was memory for them.
 fn take_in_turn<

@@ -1,9 +1,9 @@
 //! A call of a worker that doesn't return while its walk is dropped.
-use crate::by_crew::{ByCrew, Visit, WalkBy};
+use crate::by_crew::{ByCrew, Visit, Walk};
 use crate::gated::{Gate, Gated};
-use jwalk::file_system::{Fault, FileSystem};
-use jwalk::read_dir::NoProcess;
-use jwalk::{Crew, Readers};
+use jwalk::Crew;
+use jwalk::file_system::Fault;
+use jwalk::readings::Readings;
 use std::alloc::Global;
 use std::sync::Arc;
 use std::sync::atomic::{AtomicBool, Ordering};
@@ -51,11 +51,8 @@ struct Sticks<'a, R: Drop> {
     gate: &'a Stuck<R>,
 }
 
-impl<R: Clock + Drop, S: FileSystem> Visit<S, NoProcess> for Sticks<'_, R> {
-    fn visit<L: Readers<((), ()), Arc<S>, NoProcess, Global>>(
-        &mut self,
-        walk: &mut WalkBy<S, L>,
-    ) -> bool {
+impl<R: Clock + Drop> Visit for Sticks<'_, R> {
+    fn visit<B: Readings<((), ()), Global>>(&mut self, walk: &mut Walk<B>) -> bool {
         let is_begun = matches!(walk.next(), Some(Ok(_)));
         is_begun && is_set(&self.gate.clock, &self.gate.is_stuck)
     }

@@ -1,8 +1,13 @@
 //! The number of directories that are read together, and the moment of it.
+ghost use Rattle.jwalk.specs.DirEntryIter.{reads_of};
+
 use crate::rows::courses::{Course, Seen, all_take};
+use jwalk::entries::Entries;
 use jwalk::file_system::{BuildError, FileSystem};
+use jwalk::readings::Readings;
 use jwalk::{Options, Parallelism};
 use std::alloc::{AllocError, Global};
+use test_fixtures::answers::Answer;
 use test_fixtures::builders::{Builder, over_tree};
 use test_fixtures::trees::{FORKED, GROUPED, Step};
 use test_fixtures::watched::Failing;
@@ -173,14 +178,21 @@ fn groups_of_files(rt: HostRuntime) {
     all_take(&rt, &(GROUPED, Failing::Never, "/t"), COURSES);
 }
 
+fn ahead_after_five<B: Readings<((), ()), Global>>(
+    walk: &mut Entries<((), ()), Global, B>,
+    found: &mut Vec<Answer>,
+) -> Result<usize, AllocError>
+    requires { B.can_read (B.base (reads_of walk.old)) }
+{
+    walk.fill(5, found)?;
+    Ok(walk.ahead())
+}
+
 fn ahead_at_first_group<S: FileSystem>(
     alloc: Global,
     walk: Builder<S>,
 ) -> Result<usize, AllocError> {
-    let mut walk = walk.sort(true).into_iter();
-    let mut found = Vec::new(alloc);
-    walk.fill(5, &mut found)?;
-    Ok(walk.ahead())
+    ahead_after_five(&mut walk.sort(true).into_iter(), &mut Vec::new(alloc))
 }
 
 /// The first walk has a clone of a width, set before its greatest depth of 1. The second has the width itself, set

@@ -1,7 +1,7 @@
 use Rattle.std.proofs.Common.{◌≡◌}
-use Rattle.jwalk.specs.DirEntryIter.{job_of}
+use Rattle.jwalk.specs.DirEntryIter.{reads_of}
 use Rattle.test_fixtures.proofs.refused.came.goes_on.Given as goal
 
--- the walk keeps its callback
+-- the walk keeps whatever says that it can be read
 abbrev pub invariant-lines : goal.invariant-lines
-invariant-lines g l = job_of l.walk ≡ job_of l.fn.walk
+invariant-lines g l = g.B.Readings.base (reads_of l.walk) ≡ g.B.Readings.base (reads_of l.fn.walk)
