@@ -3,7 +3,7 @@ use Rattle.std.proofs.Common.{◌≡◌, ◌∙◌, ℕ, List, [], ◌∷◌, �
 use Rattle.std.specs.Io.KnownBytes.{Appends, append_known}
 use Rattle.std.proofs.KnownBytes.{Appends-nil, Appends-trans}
 use Rattle.std.proofs.lemmas.Grind.{flat_map-append}
-use Rattle.seek_words.specs.declared.paths.Style.{Style}
+use Rattle.program_parts.specs.declared.paths.Style.{Style}
 use Rattle.tally_text.specs.Nodes.{IsPushed, largest_of, trees_of}
 use Rattle.tally_text.specs.declared.node.Node.{Node}
 use Rattle.tally_text.specs.declared.scale.Scale.{Scale}

@@ -4,7 +4,7 @@ use Rattle.std.specs.Io.KnownBytes.{Appends}
 use Rattle.jwalk.specs.jwalk_model.FileSystem.{Functions}
 use Rattle.jwalk_ignore.specs.Rules.Texts.{Texts}
 use Rattle.program_parts.proofs.GatheredFacts.{gathered_written}
-use Rattle.seek_words.specs.declared.paths.Style.{Style}
+use Rattle.program_parts.specs.declared.paths.Style.{Style}
 use Rattle.tally_text.specs.Nodes.{largest_of, trees_of}
 use Rattle.tally_text.specs.declared.node.Node.{Node}
 use Rattle.tally_text.specs.declared.scale.Scale.{Scale}

@@ -5,7 +5,7 @@ use Rattle.jwalk.specs.jwalk_model.Entry.{Entry}
 use Rattle.jwalk.specs.jwalk_model.Paths.{join}
 use Rattle.jwalk_subtotals.specs.Subtotals.{Yielded}
 use Rattle.jwalk_subtotals.specs.declared.subtotal.Subtotal.{Subtotal}
-use Rattle.seek_words.specs.declared.paths.Style.{Style}
+use Rattle.program_parts.specs.declared.paths.Style.{Style}
 use Rattle.tally_text.specs.Line.{line_of}
 use Rattle.tally_text.specs.Nodes.{IsPushed, largest_of, trees_of}
 use Rattle.tally_text.specs.declared.node.Node.{Node}

@@ -9,7 +9,7 @@ use jwalk::ClientState;
 use jwalk_subtotals::{Subtotal, WithSubtotal};
 use program_parts::gathered::Gathered;
 use program_parts::halt::Halt;
-use seek_words::paths::Style;
+use program_parts::paths::Style;
 use std::alloc::{AllocError, Allocator, Global};
 use std::io::Write;
 use tally_text::line::push_line;
