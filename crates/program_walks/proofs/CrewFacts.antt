@@ -6,7 +6,7 @@ use Rattle.jwalk.specs.jwalk_model.Job.{Processing}
 use Rattle.jwalk.specs.jwalk_model.Options.{Options, with_skip_hidden}
 use Rattle.jwalk.specs.jwalk_model.Walk.{whole_walk}
 use Rattle.jwalk_ignore.specs.Callback.Kept.{job_with}
-use Rattle.program_walks.specs.Options.{with_crew}
+use Rattle.program_walks.specs.Crew.{with_crew}
 
 module _ (processed : Processing Worth Worth) where
   pub same_by_crew : (by_crew : Bool) (fs : Functions) (options : Options) (root : List ℕ) (state : Worth)

@@ -1,11 +1,20 @@
 //! The crew that reads directories.
-ghost use Rattle.std.specs.Prelude.{◌≡◌, ℕ, Some, is_some, nat_lt, IfOk};
+ghost use Rattle.std.specs.Prelude.{◌≡◌, ℕ, Some, is_some, nat_lt, string_bytes, IfOk};
+ghost use Rattle.jwalk.specs.jwalk_job.Options.{options_value};
+ghost use Rattle.jwalk.specs.WalkDir.{file_system_of, root_of, state_of, options_of};
+ghost use Rattle.program_walks.specs.Crew.{with_crew};
 
-use jwalk::Crew;
-use std::alloc::{AllocError, Global};
+use jwalk::file_system::FileSystem;
+use jwalk::read_dir::NoProcess;
+use jwalk::{ClientState, Crew, Options, Parallelism, WalkDirGeneric};
+use jwalk_ignore::kept_rules::KeptStates;
+use std::alloc::{AllocError, Allocator, Global};
 use std::sync::{Arc, Wait};
 use std::thread::{Threads, available_parallelism};
 use std::time::Clock;
+
+/// A walk that has not begun, with the states of ignore files.
+pub type Plain<T, S> = WalkDirGeneric<KeptStates, Arc<S>, NoProcess, Global, Crew<T>>;
 
 fn threads_of<T: Threads>(rt: &T, asked: Option<usize>) -> usize
     ensures { (threads : ℕ) → asked ≡ Some threads → result ≡ threads }
@@ -36,4 +45,39 @@ pub fn crew_of<T: Wait + Threads + Clock + Clone + Drop>(
         return Ok(None);
     }
     Ok(Some(Arc::new(alloc, Crew::new(rt.clone()?, 1, threads))?))
+}
+
+/// Returns the walk below a root with these options, without a callback. If there is a crew, it reads the directories.
+///
+/// # Errors
+///
+/// If memory runs out.
+pub fn walk_below<
+    C: ClientState,
+    T: Wait + Threads + Clock + Clone + Drop,
+    S: FileSystem,
+    A: Allocator + Copy,
+>(
+    fs: S,
+    root: String<A>,
+    options: Options,
+    crew: &Option<Arc<Crew<T>, A>>,
+) -> Result<WalkDirGeneric<C, S, NoProcess, A, Crew<T>>, AllocError>
+    ensures file_system { IfOk result (λ walk. file_system_of walk ≡ fs) }
+    ensures root { IfOk result (λ walk. root_of walk ≡ string_bytes root) }
+    ensures state { IfOk result (λ walk. C.ReadDirState.is_default (state_of walk)) }
+    ensures options { IfOk result (λ walk. options_of walk ≡ with_crew (is_some crew.now) (options_value options)) }
+{
+    let parallelism = match crew {
+        Some(crew) => Parallelism::RayonExistingPool {
+            pool: crew.clone()?,
+            busy_timeout: None,
+        },
+        None => Parallelism::Serial,
+    };
+    Ok(
+        WalkDirGeneric::with_crew(fs, root)
+            .with_options(options)
+            .parallelism(parallelism),
+    )
 }

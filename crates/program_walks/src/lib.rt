@@ -1,5 +1,4 @@
-//! What the walks of `seek` and `tally` begin with: their crew, and their options.
+//! What the walks of `seek` and `tally` begin with: their crew.
 #![tactic(auto)]
 
 pub mod crew;
-pub mod options;

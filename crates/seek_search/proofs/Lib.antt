@@ -1,2 +1,3 @@
+pub mod OptionFacts
 pub mod SearchFacts
 pub mod RunFacts

@@ -26,7 +26,7 @@ use Rattle.seek_words.specs.Sought.{Sought}
 use Rattle.seek_found.specs.Limit.{is_hit}
 use Rattle.seek_found.specs.Prune.{unpruned}
 use Rattle.seek_found.specs.Roots.{AreBelow, Below, PrintsSuch}
-use Rattle.program_walks.specs.Options.{with_crew}
+use Rattle.program_walks.specs.Crew.{with_crew}
 use Rattle.jwalk.specs.jwalk_callbacks.Both.{first_of, second_of}
 use Rattle.jwalk.specs.jwalk_callbacks.declared.both.Both.{Both}
 use Rattle.jwalk_ignore.specs.Callback.Excluding.{excluded_of}

@@ -1,10 +1,10 @@
 -- The walks of a search, and its finds.
-use Rattle.std.specs.Prelude.{ℕ, zero, suc, ◌==◌, Bool, true, false, not, List, [], ◌∷◌, bytes_eq, codes, flat_map, length, take, Option, None, Some, Result, Ok, Err, option_map, unwrap_or, if◌then◌else◌}
+use Rattle.std.specs.Prelude.{ℕ, zero, suc, ◌-◌, ◌^◌, ◌==◌, Bool, true, not, List, [], ◌∷◌, bytes_eq, codes, flat_map, length, take, Option, None, Some, Result, Ok, Err, option_map, unwrap_or, if◌then◌else◌}
 use Rattle.std.specs.declared.io.ErrorKind.{ErrorKind}
 use Rattle.jwalk.specs.jwalk_model.Counted.{Worth, blank}
 use Rattle.jwalk.specs.jwalk_model.Entry.{Item}
 use Rattle.jwalk.specs.jwalk_model.FileSystem.{Functions}
-use Rattle.jwalk.specs.jwalk_model.Options.{Options}
+use Rattle.jwalk.specs.jwalk_model.Options.{Options, defaults}
 use Rattle.jwalk.specs.jwalk_model.Paths.{join, dot}
 use Rattle.jwalk.specs.jwalk_model.Job.{Processing}
 use Rattle.jwalk.specs.jwalk_model.Walk.{whole_walk}
@@ -23,8 +23,6 @@ use Rattle.seek_found.specs.Prune.{unpruned}
 use Rattle.seek_words.specs.Paint.{Painting}
 use Rattle.seek_words.specs.declared.screen.Screen.{Screen}
 use Rattle.program_parts.specs.declared.paths.Style.{Style}
-use Rattle.program_walks.specs.Options.{options_for}
-use Rattle.program_walks.specs.declared.options.WalkOptions.{WalkOptions}
 use Rattle.seek_words.specs.Metadata.{needs_metadata}
 use Rattle.program_parts.specs.Values.{texts_of}
 use Rattle.seek_words.specs.declared.asked.Asked.{Asked}
@@ -35,20 +33,16 @@ positive None = None
 positive (Some zero) = None
 positive (Some (suc n)) = Some (suc n)
 
--- the options of the walks, by what is asked for
-abbrev pub walk_options : Asked → WalkOptions
-walk_options asked = record {
-  sort = asked.sort;
-  hidden = asked.hidden;
-  follow = asked.follow;
-  metadata = needs_metadata asked;
-  one_file_system = asked.one_file_system;
-  greatest = asked.depths.greatest;
-}
-
--- the options of walks; whether a crew reads makes no difference to their answers
+-- the options of walks, by what is asked for; whether a crew reads makes no difference to their answers
 abbrev pub options_asked : Asked → Options
-options_asked asked = options_for (walk_options asked) false
+options_asked asked = record defaults {
+  sort = asked.sort;
+  skip_hidden = not asked.hidden;
+  follow_links = asked.follow;
+  same_file_system = asked.one_file_system;
+  keep_metadata = needs_metadata asked;
+  max_depth = unwrap_or asked.depths.greatest (2 ^ 64 - 1);
+}
 
 -- the greatest number of finds, if there is a limit; it is one if only the status is asked for
 abbrev pub limit_asked : Asked → Option ℕ

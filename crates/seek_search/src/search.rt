@@ -5,6 +5,7 @@ ghost use Rattle.program_parts.specs.Values.{texts_of as texts_now};
 ghost use Rattle.seek_words.specs.Filter.{sought_of};
 ghost use Rattle.seek_words.specs.Lines.{form_of};
 ghost use Rattle.jwalk.specs.jwalk_model.Options.{with_skip_hidden};
+ghost use Rattle.jwalk.specs.jwalk_job.Options.{options_value};
 ghost use Rattle.jwalk.specs.WalkDir.{callback_of, described, file_system_of, options_of, root_of, state_of, with_callback, Sets};
 ghost use Rattle.jwalk_ignore.specs.Callback.Given.{no_rules_yet, rules_alone};
 ghost use Rattle.jwalk_ignore.specs.Callback.IgnoreViews.{next_of, settings_of, texts_of};
@@ -12,7 +13,7 @@ ghost use Rattle.jwalk_ignore.specs.Callback.Excluding.{excluded_of};
 ghost use Rattle.jwalk_ignore.specs.Callback.Kept.{ignoring_walk};
 ghost use Rattle.seek_search.specs.Goes.{IsHonouring, IsPlain, Yielded, YieldedBelow};
 ghost use Rattle.seek_search.specs.Printed.{PrintsAll, PrintsThose, PrintsWalk};
-ghost use Rattle.seek_search.specs.Search.{all_below, excluded_asked, kept_below, roots_asked, settings_asked, unpruned_below, walk_options, yielded_by};
+ghost use Rattle.seek_search.specs.Search.{all_below, excluded_asked, kept_below, options_asked, roots_asked, settings_asked, unpruned_below, yielded_by};
 ghost use Rattle.seek_found.specs.Prune.{unpruned};
 ghost use Rattle.seek_found.specs.Roots.{AreBelow};
 ghost use Rattle.seek_found.specs.SoughtTest.{takes_of};
@@ -21,7 +22,7 @@ use crate::excluded::{excluding_of, naming_of};
 use jwalk::crew::Session;
 use jwalk::file_system::FileSystem;
 use jwalk::read_dir::{Both, ProcessReadDir};
-use jwalk::{ClientState, Crew, DirEntryIter, WalkDirGeneric};
+use jwalk::{ClientState, Crew, DirEntryIter, Options, WalkDirGeneric};
 use jwalk_ignore::builder::with_hidden_shown;
 use jwalk_ignore::excluding::Excluding;
 use jwalk_ignore::ignore_files::IgnoreFiles;
@@ -29,7 +30,7 @@ use jwalk_ignore::kept_rules::{KeptRules, KeptStates};
 use jwalk_ignore::rules::Rules;
 use jwalk_ignore::texts::Texts;
 use program_parts::halt::Halt;
-use program_walks::options::{Plain, WalkOptions};
+use program_walks::crew::{Plain, walk_below};
 use seek_found::found::print_found;
 use seek_found::printer::Printer;
 use seek_found::sought_test::SoughtTest;
@@ -161,17 +162,16 @@ impl<
     S: FileSystem + Send + Sync + 'static,
     X: Texts + Send + Sync + 'static,
 > Search<'a, 'w, T, K, S, X> {
-    fn options(&self) -> WalkOptions
-        ensures { result ≡ walk_options self.now.asked.now }
+    fn options(&self) -> Options
+        ensures { options_value result ≡ options_asked self.now.asked.now }
     {
-        WalkOptions {
-            sort: self.asked.sort,
-            hidden: self.asked.hidden,
-            follow: self.asked.follow,
-            one_file_system: self.asked.one_file_system,
-            metadata: self.asked.needs_metadata(),
-            greatest: self.asked.depths.greatest,
-        }
+        Options::new()
+            .with_sort(self.asked.sort)
+            .with_skip_hidden(!self.asked.hidden)
+            .with_follow_links(self.asked.follow)
+            .with_same_file_system(self.asked.one_file_system)
+            .with_keep_metadata(self.asked.needs_metadata())
+            .with_max_depth(self.asked.depths.greatest.unwrap_or(usize::MAX))
     }
 
     /// Ignores ignore files.
@@ -197,9 +197,7 @@ impl<
         let excluding = excluding_of(alloc, self.asked.excludes.as_slice(), root)?;
         let root = String::from_str(alloc, root)?;
         let disk = self.disk.clone()?;
-        let walk = self
-            .options()
-            .walk_of::<((), ()), _, _, _>(disk, root, &self.crew)?;
+        let walk = walk_below::<((), ()), _, _, _>(disk, root, self.options(), &self.crew)?;
         print_begun(
             walk.process_read_dir(Both::new(naming, excluding)),
             printer,
@@ -234,9 +232,7 @@ impl<
         let rules = rules_of(alloc, self.asked, self.lines, texts)?.then(excluding);
         let root = String::from_str(alloc, root)?;
         let disk = self.disk.clone()?;
-        let walk = self
-            .options()
-            .walk_of::<KeptStates, _, _, _>(disk, root, &self.crew)?;
+        let walk = walk_below::<KeptStates, _, _, _>(disk, root, self.options(), &self.crew)?;
         search_walk(walk, KeptRules { rules }, printer, self.clock, out, err)
     }
 

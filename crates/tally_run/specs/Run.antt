@@ -6,11 +6,12 @@ use Rattle.jwalk.specs.jwalk_model.Entry.{Item}
 use Rattle.jwalk.specs.jwalk_model.FileSystem.{Functions}
 use Rattle.jwalk.specs.jwalk_model.Paths.{dot}
 use Rattle.jwalk_ignore.specs.Rules.Texts.{Texts}
+use Rattle.program_parts.specs.Refusal.{status_of}
 use Rattle.program_parts.specs.Values.{texts_of}
+use Rattle.program_parts.specs.declared.refusal.CommonRefusal.{CommonRefusal}
 use Rattle.tally_words.specs.AsksFor.{AskFor}
-use Rattle.tally_words.specs.Refusal.{status_of, IsRefusedFor}
+use Rattle.tally_words.specs.Refusal.{IsRefusedFor}
 use Rattle.tally_words.specs.declared.asked.Asked.{Asked}
-use Rattle.tally_words.specs.declared.refusal.Refusal.{Refusal}
 use Rattle.tally_run.specs.Counting.{is_clean}
 use Rattle.tally_run.specs.Results.{rows_of}
 use Rattle.tally_run.specs.Roots.{LeavesOut, all_subtotals}
@@ -21,7 +22,7 @@ use Rattle.tally_run.specs.declared.screen.Screen.{Screen}
 
 -- There is nothing to count for this reason, and the call ends with its status; where a text is asked for, with 0, or with 1 if it can't be written.
 pub record EndsUncounted (words : List (List ℕ)) (status : ℕ) : Type 0 where
-  pub refusal : Refusal
+  pub refusal : CommonRefusal
   pub is_for : IsRefusedFor words refusal
   pub refused : 0 < status_of refusal → status ≡ status_of refusal
   pub text : status_of refusal ≡ 0 → status ≤ 1

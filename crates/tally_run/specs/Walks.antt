@@ -1,5 +1,5 @@
 -- What is counted below a root, and how.
-use Rattle.std.specs.Prelude.{◌≡◌, ℕ, ◌-◌, ◌^◌, true, false, not, List, map, Option, None, Result, if◌then◌else◌}
+use Rattle.std.specs.Prelude.{◌≡◌, ℕ, ◌-◌, ◌^◌, true, not, List, map, Option, Result, if◌then◌else◌}
 use Rattle.std.specs.Iterator.{Drains}
 use Rattle.std.specs.List.{list_all}
 use Rattle.std.specs.declared.clone.Clone as Clone
@@ -8,7 +8,7 @@ use Rattle.jwalk.specs.jwalk_model.Counted.{Worth, blank}
 use Rattle.jwalk.specs.jwalk_model.declared.metadata.Identity.{Identity}
 use Rattle.jwalk.specs.jwalk_model.Entry.{Item}
 use Rattle.jwalk.specs.jwalk_model.FileSystem.{Functions}
-use Rattle.jwalk.specs.jwalk_model.Options.{Options}
+use Rattle.jwalk.specs.jwalk_model.Options.{Options, defaults}
 use Rattle.jwalk.specs.jwalk_model.Walk.{whole_walk}
 use Rattle.jwalk.specs.jwalk_fs.declared.file_system.FileSystem as FileSystem
 use Rattle.jwalk.specs.jwalk_job.declared.process_read_dir.ProcessReadDir as ProcessReadDir
@@ -32,8 +32,6 @@ use Rattle.jwalk_subtotals.specs.Files.{files_of}
 use Rattle.jwalk_subtotals.specs.Subtotals.{subtotals_beside}
 use Rattle.jwalk_subtotals.specs.declared.options.SubtotalOptions.{SubtotalOptions}
 use Rattle.program_parts.specs.Values.{texts_of}
-use Rattle.program_walks.specs.Options.{options_for}
-use Rattle.program_walks.specs.declared.options.WalkOptions.{WalkOptions}
 use Rattle.tally_words.specs.declared.asked.Asked.{Asked}
 use Rattle.tally_run.specs.Counting.{is_clean}
 use Rattle.tally_run.specs.Results.{Takes, rows_of}
@@ -49,20 +47,15 @@ subtotals_asked asked = record { apparent = asked.apparent; each_name = asked.ea
 abbrev pub subtotals_taken : Asked → SubtotalOptions
 subtotals_taken asked = record (subtotals_asked asked) { all = asked.all }
 
--- the options of the walks, by what is asked for
-abbrev pub walk_options : Asked → WalkOptions
-walk_options asked = record {
-  sort = asked.sort;
-  hidden = not asked.exclude_hidden;
-  follow = asked.follow;
-  one_file_system = asked.one_file_system;
-  metadata = true;
-  greatest = None;
-}
-
--- the options of walks. Whether a crew reads makes no difference to what they yield.
+-- the options of walks, by what is asked for. Whether a crew reads makes no difference to what they yield.
 abbrev pub options_asked : Asked → Options
-options_asked asked = options_for (walk_options asked) false
+options_asked asked = record defaults {
+  sort = asked.sort;
+  skip_hidden = asked.exclude_hidden;
+  follow_links = asked.follow;
+  same_file_system = asked.one_file_system;
+  keep_metadata = true;
+}
 
 -- what is left out below a root
 abbrev pub excluded_asked : Asked → List ℕ → Excluded

@@ -1,33 +1,24 @@
 //! A call of the program.
 ghost use Rattle.std.specs.Prelude.{◌≡◌, ◌<◌, ◌≤◌, ◌⊎◌, true, flat_map, map, string_bytes, Ok, IfOk, OnOk};
-ghost use Rattle.std.specs.Arc.{arc_value};
 ghost use Rattle.std.specs.Io.KnownBytes.{Appends};
-ghost use Rattle.jwalk_subtotals.specs.Files.{files_of};
 ghost use Rattle.tally_text.specs.Nodes.{trees_of};
-ghost use Rattle.program_parts.specs.Values.{texts_of};
 ghost use Rattle.tally_words.specs.AsksFor.{AskForText};
-ghost use Rattle.tally_run.specs.Roots.{CountsRoot, CountsRoots};
-ghost use Rattle.tally_run.specs.Run.{roots_asked, Ends, Counts, WritesAsked};
-ghost use Rattle.tally_run.specs.Walks.{counted_below};
+ghost use Rattle.tally_run.specs.Run.{Ends, Counts, WritesAsked};
 ghost use Rattle.tally_run.specs.Written.{are_lines, scale_asked, separator_of, style_asked, table_of, width_of};
 ghost use Rattle.tally_run.specs.Written.{document_text, trees_text, AreNone, Finishes};
 
-use crate::counting::Counted;
 use crate::failure::Failure;
 use crate::progress::{Progress, Report};
-use crate::report::report_root;
 use crate::results::{Lines, Results};
-use crate::roots::Roots;
 use crate::screen::Screen;
 use crate::walks::Walks;
 use jwalk::Host;
 use jwalk::file_system::FileSystem;
 use jwalk_ignore::texts::Texts;
-use jwalk_subtotals::Files;
 use program_parts::gathered::Gathered;
 use program_parts::halt::Halt;
 use program_parts::paths::Style;
-use program_parts::refusal::refuse;
+use program_parts::refusal::{RefusalBy, refuse};
 use std::alloc::{AllocError, Global};
 use std::io::Write;
 use tally_text::document::document;
@@ -89,92 +80,6 @@ fn results_of(alloc: Global, asked: &Asked<'_>, screen: Screen) -> Result<Result
         return Ok(Results::Lines(lines));
     }
     Ok(Results::Trees(Nodes::new(alloc, asked.largest)))
-}
-
-/// A root that lies below one of those that are known is left out, and that is reported.
-fn count_root<
-    T: Host,
-    S: FileSystem + Send + Sync + 'static,
-    X: Texts + Send + Sync + 'static,
-    W: Write,
-    E: Report,
->(
-    alloc: Global,
-    walks: &Walks<'_, '_, T, S, X>,
-    known: &mut Roots,
-    files: Files<Global>,
-    root: &str,
-    results: &mut Results,
-    out: &mut W,
-    err: &mut E,
-) -> Result<Counted, Failure>
-    ensures { IfOk result (CountsRoot (S.IsFixed (arc_value walks.now.disk) × X.IsFixed (arc_value walks.now.texts))
-        (counted_below (S.functions (arc_value walks.now.disk)) (X.functions (arc_value walks.now.texts))
-        walks.now.asked.now root.now) walks.now.asked.now (files_of files)
-        results.old (W.contents out.old) results.new (W.contents out.new)) }
-{
-    if !known.add(alloc, walks.disk(), root)? {
-        report_root(alloc, walks.screen().shows_errors, root, err)?;
-        return Ok(Counted { files, clean: true });
-    }
-    walks.count_below(alloc, files, root, results, out, err)
-}
-
-/// Returns whether there was no error.
-fn count_roots<
-    T: Host,
-    S: FileSystem + Send + Sync + 'static,
-    X: Texts + Send + Sync + 'static,
-    W: Write,
-    E: Report,
->(
-    alloc: Global,
-    walks: &Walks<'_, '_, T, S, X>,
-    roots: &[&str],
-    results: &mut Results,
-    out: &mut W,
-    err: &mut E,
-) -> Result<bool, Failure>
-    ensures { IfOk result (CountsRoots (S.IsFixed (arc_value walks.now.disk) × X.IsFixed (arc_value walks.now.texts))
-        (counted_below (S.functions (arc_value walks.now.disk)) (X.functions (arc_value walks.now.texts))
-        walks.now.asked.now) walks.now.asked.now (texts_of roots.now)
-        results.old (W.contents out.old) results.new (W.contents out.new)) }
-{
-    let mut known = Roots::new(alloc, walks.asked().one_file_system);
-    let mut files = Files::new(alloc);
-    let mut clean = true;
-    for root in roots {
-        let counted = count_root(alloc, walks, &mut known, files, root, results, out, err)?;
-        files = counted.files;
-        clean &= counted.clean;
-    }
-    Ok(clean)
-}
-
-/// Returns whether there was no error.
-fn count_asked<
-    T: Host,
-    S: FileSystem + Send + Sync + 'static,
-    X: Texts + Send + Sync + 'static,
-    W: Write,
-    E: Report,
->(
-    alloc: Global,
-    walks: &Walks<'_, '_, T, S, X>,
-    results: &mut Results,
-    out: &mut W,
-    err: &mut E,
-) -> Result<bool, Failure>
-    ensures { IfOk result (CountsRoots (S.IsFixed (arc_value walks.now.disk) × X.IsFixed (arc_value walks.now.texts))
-        (counted_below (S.functions (arc_value walks.now.disk)) (X.functions (arc_value walks.now.texts))
-        walks.now.asked.now) walks.now.asked.now (roots_asked walks.now.asked.now)
-        results.old (W.contents out.old) results.new (W.contents out.new)) }
-{
-    let roots = walks.asked().roots.as_slice();
-    if roots.is_empty() {
-        return count_roots(alloc, walks, &["."], results, out, err);
-    }
-    count_roots(alloc, walks, roots, results, out, err)
 }
 
 /// Returns how wide the bars of a table may be, if it has some: those for a terminal do.
@@ -286,7 +191,7 @@ fn tally<
 {
     let walks = Walks::new(rt, alloc, asked, screen, disk, texts)?;
     let mut results = results_of(alloc, asked, screen)?;
-    let clean = count_asked(alloc, &walks, &mut results, out, err)?;
+    let clean = walks.count_asked(alloc, &mut results, out, err)?;
     err.wipe();
     finish(alloc, asked, screen, results, out)?;
     Ok(clean)
@@ -341,6 +246,12 @@ pub fn run<
             told.wipe();
             status_of(ended, err)
         }
-        Err(refusal) => refuse(&refusal, refusal.status(), out, err),
+        Err(refusal) => {
+            let named = RefusalBy {
+                program: "tally",
+                refusal: &refusal,
+            };
+            refuse(&named, refusal.status(), out, err)
+        }
     }
 }

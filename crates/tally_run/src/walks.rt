@@ -1,29 +1,34 @@
 //! The walks below roots.
 ghost use Rattle.std.specs.Prelude.{◌≡◌, IfOk};
 ghost use Rattle.std.specs.Arc.{arc_value};
+ghost use Rattle.jwalk.specs.jwalk_job.Options.{options_value};
 ghost use Rattle.jwalk.specs.WalkDir.{file_system_of, options_of, root_of, state_of};
 ghost use Rattle.jwalk_ignore.specs.Callback.Excluding.{excluded_of};
 ghost use Rattle.jwalk_ignore.specs.Callback.Given.{no_rules_yet, rules_alone};
 ghost use Rattle.jwalk_ignore.specs.Callback.IgnoreViews.{next_of, settings_of, texts_of};
 ghost use Rattle.jwalk_ignore.specs.Callback.Kept.{ignoring_walk};
 ghost use Rattle.jwalk_subtotals.specs.Files.{files_of};
-ghost use Rattle.tally_run.specs.Walks.{all_below, counted_below, kept_below, walk_options, CountsBelow};
+ghost use Rattle.program_parts.specs.Values.{texts_of as words_of};
+ghost use Rattle.tally_run.specs.Roots.{CountsRoot, CountsRoots};
+ghost use Rattle.tally_run.specs.Run.{roots_asked};
+ghost use Rattle.tally_run.specs.Walks.{all_below, counted_below, kept_below, options_asked, CountsBelow};
 
 use crate::counting::{Counted, count_walk};
 use crate::failure::Failure;
 use crate::progress::Report;
+use crate::report::report_root;
 use crate::results::Results;
+use crate::roots::Roots;
 use crate::screen::Screen;
 use jwalk::file_system::FileSystem;
-use jwalk::{Crew, Host};
+use jwalk::{Crew, Host, Options};
 use jwalk_ignore::builder::with_hidden_shown;
 use jwalk_ignore::excluding::Excluding;
 use jwalk_ignore::ignore_files::IgnoreFiles;
 use jwalk_ignore::kept_rules::{KeptRules, KeptStates};
 use jwalk_ignore::texts::Texts;
 use jwalk_subtotals::Files;
-use program_walks::crew::crew_of;
-use program_walks::options::{Plain, WalkOptions};
+use program_walks::crew::{Plain, crew_of, walk_below};
 use std::alloc::{AllocError, Global};
 use std::io::Write;
 use std::sync::Arc;
@@ -100,34 +105,16 @@ impl<
         })
     }
 
-    pub(crate) fn asked(&self) -> &Asked<'w>
-        ensures { result.now ≡ self.now.asked.now }
-    {
-        self.asked
-    }
-
-    pub(crate) fn screen(&self) -> Screen {
-        self.screen
-    }
-
-    pub(crate) fn disk(&self) -> &S
-        ensures { result.now ≡ arc_value self.now.disk }
-    {
-        &self.disk
-    }
-
     /// Entries keep their metadata.
-    fn options(&self) -> WalkOptions
-        ensures { result ≡ walk_options self.now.asked.now }
+    fn options(&self) -> Options
+        ensures { options_value result ≡ options_asked self.now.asked.now }
     {
-        WalkOptions {
-            sort: self.asked.sort,
-            hidden: !self.asked.exclude_hidden,
-            follow: self.asked.follow,
-            one_file_system: self.asked.one_file_system,
-            metadata: true,
-            greatest: None,
-        }
+        Options::new()
+            .with_sort(self.asked.sort)
+            .with_skip_hidden(self.asked.exclude_hidden)
+            .with_follow_links(self.asked.follow)
+            .with_same_file_system(self.asked.one_file_system)
+            .with_keep_metadata(true)
     }
 
     fn count_all<W: Write, E: Report>(
@@ -147,9 +134,7 @@ impl<
         let excluding = Excluding::new(alloc, self.asked.excludes.as_slice(), root)?;
         let root = String::from_str(alloc, root)?;
         let disk = self.disk.clone()?;
-        let walk = self
-            .options()
-            .walk_of::<((), ()), _, _, _>(disk, root, &self.crew)?;
+        let walk = walk_below::<((), ()), _, _, _>(disk, root, self.options(), &self.crew)?;
         let walk = walk.process_read_dir(excluding);
         count_walk(
             alloc,
@@ -183,9 +168,7 @@ impl<
             .then(excluding);
         let root = String::from_str(alloc, root)?;
         let disk = self.disk.clone()?;
-        let walk = self
-            .options()
-            .walk_of::<KeptStates, _, _, _>(disk, root, &self.crew)?;
+        let walk = walk_below::<KeptStates, _, _, _>(disk, root, self.options(), &self.crew)?;
         count_ruled(
             alloc,
             self.screen,
@@ -199,7 +182,7 @@ impl<
         )
     }
 
-    pub(crate) fn count_below<W: Write, E: Report>(
+    fn count_below<W: Write, E: Report>(
         &self,
         alloc: Global,
         files: Files<Global>,
@@ -217,5 +200,73 @@ impl<
             return self.count_kept(alloc, files, root, results, out, err);
         }
         self.count_all(alloc, files, root, results, out, err)
+    }
+
+    /// A root that lies below one of those that are known is left out, and that is reported.
+    fn count_root<W: Write, E: Report>(
+        &self,
+        alloc: Global,
+        known: &mut Roots,
+        files: Files<Global>,
+        root: &str,
+        results: &mut Results,
+        out: &mut W,
+        err: &mut E,
+    ) -> Result<Counted, Failure>
+        ensures { IfOk result (CountsRoot (S.IsFixed (arc_value self.now.disk) × X.IsFixed (arc_value self.now.texts))
+            (counted_below (S.functions (arc_value self.now.disk)) (X.functions (arc_value self.now.texts))
+            self.now.asked.now root.now) self.now.asked.now (files_of files)
+            results.old (W.contents out.old) results.new (W.contents out.new)) }
+    {
+        if !known.add(alloc, &self.disk, root)? {
+            report_root(alloc, self.screen.shows_errors, root, err)?;
+            return Ok(Counted { files, clean: true });
+        }
+        self.count_below(alloc, files, root, results, out, err)
+    }
+
+    /// Returns whether there was no error.
+    fn count_roots<W: Write, E: Report>(
+        &self,
+        alloc: Global,
+        roots: &[&str],
+        results: &mut Results,
+        out: &mut W,
+        err: &mut E,
+    ) -> Result<bool, Failure>
+        ensures { IfOk result (CountsRoots (S.IsFixed (arc_value self.now.disk) × X.IsFixed (arc_value self.now.texts))
+            (counted_below (S.functions (arc_value self.now.disk)) (X.functions (arc_value self.now.texts))
+            self.now.asked.now) self.now.asked.now (words_of roots.now)
+            results.old (W.contents out.old) results.new (W.contents out.new)) }
+    {
+        let mut known = Roots::new(alloc, self.asked.one_file_system);
+        let mut files = Files::new(alloc);
+        let mut clean = true;
+        for root in roots {
+            let counted = self.count_root(alloc, &mut known, files, root, results, out, err)?;
+            files = counted.files;
+            clean &= counted.clean;
+        }
+        Ok(clean)
+    }
+
+    /// Returns whether there was no error.
+    pub(crate) fn count_asked<W: Write, E: Report>(
+        &self,
+        alloc: Global,
+        results: &mut Results,
+        out: &mut W,
+        err: &mut E,
+    ) -> Result<bool, Failure>
+        ensures { IfOk result (CountsRoots (S.IsFixed (arc_value self.now.disk) × X.IsFixed (arc_value self.now.texts))
+            (counted_below (S.functions (arc_value self.now.disk)) (X.functions (arc_value self.now.texts))
+            self.now.asked.now) self.now.asked.now (roots_asked self.now.asked.now)
+            results.old (W.contents out.old) results.new (W.contents out.new)) }
+    {
+        let roots = self.asked.roots.as_slice();
+        if roots.is_empty() {
+            return self.count_roots(alloc, &["."], results, out, err);
+        }
+        self.count_roots(alloc, roots, results, out, err)
     }
 }

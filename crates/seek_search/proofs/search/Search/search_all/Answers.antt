@@ -5,8 +5,7 @@ use Rattle.std.proofs.lemmas.Result.{IfOk-weaker}
 use Rattle.jwalk.specs.jwalk_model.Counted.{blank}
 use Rattle.jwalk.specs.jwalk_job.Job.{IsSteady}
 use Rattle.jwalk.specs.WalkDir.{file_system_of, callback_of, options_of, root_of}
-use Rattle.program_walks.specs.Options.{options_for, with_crew}
-use Rattle.program_walks.specs.declared.options.WalkOptions.{WalkOptions}
+use Rattle.program_walks.specs.Crew.{with_crew}
 use Rattle.program_walks.proofs.CrewFacts.{same_by_crew}
 use Rattle.program_parts.specs.Values.{texts_of}
 use Rattle.jwalk.specs.jwalk_callbacks.Both.{chaining, first_of, second_of}
@@ -39,7 +38,7 @@ returns-clause-whole g c =
     let lines : excluded_of (second_of (callback_of walk)) ≡ excluded
     = ap (λ it. excluded_of (second_of it)) set.callback ∙ ap excluded_of c.new.ensures.second ∙ c.in_ok-excluding.ensures ∙ ap (λ l. excluded_by (flat_map lines_of (texts_of l)) c.args.root.now) c.as_slice.ensures.value in
     let options : options_of walk ≡ with_crew (is_some self.crew) (options_asked asked)
-    = set.options ∙ built.options ∙ ap (λ (o : WalkOptions). options_for o (is_some self.crew)) c.options.ensures in
+    = set.options ∙ built.options ∙ ap (with_crew (is_some self.crew)) c.options.ensures in
     let root : root_of walk ≡ c.args.root.now = set.root ∙ built.root ∙ c.in_ok-root.ensures.ok in
     IfOk-weaker c.print_begun.result _ _
     (λ clean whole. λ fixed none is.
@@ -75,7 +74,7 @@ returns-clause-yielded g c =
       over = ap arc_value (set.file_system ∙ built.file_system) ∙ c.in_ok-disk.ensures.cases;
       below = set.root ∙ built.root ∙ c.in_ok-root.ensures.ok;
       by_crew = is_some self.crew;
-      options = set.options ∙ built.options ∙ ap (λ (o : WalkOptions). options_for o (is_some self.crew)) c.options.ensures;
+      options = set.options ∙ built.options ∙ ap (with_crew (is_some self.crew)) c.options.ensures;
       named = ap (λ it. excluded_of (first_of it)) set.callback ∙ ap excluded_of c.new.ensures.first ∙ c.in_ok-naming.ensures;
       excluded = ap (λ it. excluded_of (second_of it)) set.callback ∙ ap excluded_of c.new.ensures.second ∙ c.in_ok-excluding.ensures ∙ ap (λ l. excluded_by (flat_map lines_of (texts_of l)) c.args.root.now) c.as_slice.ensures.value;
     } in

@@ -8,8 +8,7 @@ use Rattle.jwalk.specs.WalkDir.{file_system_of, options_of, state_of}
 use Rattle.jwalk_ignore.specs.Rules.ChainWorth.{chain_worth}
 use Rattle.jwalk_ignore.specs.Callback.Given.{no_rules_yet, rules_alone}
 use Rattle.jwalk_ignore.specs.Callback.IgnoreViews.{ignoring, next_of, settings_of, texts_of as texts_in}
-use Rattle.program_walks.specs.Options.{options_for, with_crew}
-use Rattle.program_walks.specs.declared.options.WalkOptions.{WalkOptions}
+use Rattle.program_walks.specs.Crew.{with_crew}
 use Rattle.program_walks.proofs.CrewFacts.{hidden_by_crew}
 use Rattle.seek_words.specs.Filter.{sought_of}
 use Rattle.seek_found.specs.Prune.{unpruned}
@@ -40,7 +39,7 @@ returns-clause-whole g c =
     let lines : excluded_of (next_of rules) ≡ excluded
     = ap excluded_of c.then-rules.ensures.next ∙ c.in_ok-excluding.ensures ∙ ap (λ l. excluded_by (flat_map lines_of (texts_of l)) c.args.root.now) c.as_slice.ensures.value in
     let options : options_of walk ≡ with_crew (is_some self.crew) (options_asked asked)
-    = built.options ∙ ap (λ (o : WalkOptions). options_for o (is_some self.crew)) c.options.ensures in
+    = built.options ∙ ap (with_crew (is_some self.crew)) c.options.ensures in
     let state : rules_alone (state_of walk) ≡ no_rules_yet = ap (λ chain. both (chain_worth chain) blank) built.state.0 in
     IfOk-weaker c.search_walk.result _ _
     (λ clean whole. λ fixed told none is.
@@ -61,7 +60,7 @@ returns-clause-yielded g c =
       over = ap arc_value (is.file_system ∙ built.file_system) ∙ c.in_ok-disk.ensures.cases;
       below = is.root ∙ built.root ∙ c.in_ok-root.ensures.ok;
       by_crew = is_some self.crew;
-      options = is.options ∙ ap (with_skip_hidden false) (built.options ∙ ap (λ (o : WalkOptions). options_for o (is_some self.crew)) c.options.ensures);
+      options = is.options ∙ ap (with_skip_hidden false) (built.options ∙ ap (with_crew (is_some self.crew)) c.options.ensures);
       texts_read = ap (λ x. arc_value (texts_in x.rules)) is.callback ∙ ap arc_value (set.texts ∙ c.in_ok-rules_of.ensures.texts) ∙ c.in_ok-texts.ensures.cases;
       settings = ap (λ x. settings_of x.rules) is.callback ∙ set.settings ∙ c.in_ok-rules_of.ensures.settings;
       excluded = ap (λ x. excluded_of (next_of x.rules)) is.callback ∙ ap excluded_of set.next ∙ c.in_ok-excluding.ensures ∙ ap (λ l. excluded_by (flat_map lines_of (texts_of l)) c.args.root.now) c.as_slice.ensures.value;

@@ -8,8 +8,7 @@ use Rattle.jwalk_ignore.specs.Callback.Excluding.{Excluded, excluded_by, exclude
 use Rattle.jwalk_ignore.specs.Callback.Kept.{given_excluding}
 use Rattle.jwalk_ignore.proofs.KeptFacts.{whole_of}
 use Rattle.program_parts.specs.Values.{texts_of}
-use Rattle.program_walks.specs.Options.{options_for, with_crew}
-use Rattle.program_walks.specs.declared.options.WalkOptions.{WalkOptions}
+use Rattle.program_walks.specs.Crew.{with_crew}
 use Rattle.program_walks.proofs.CrewFacts.{same_by_crew}
 use Rattle.tally_run.specs.Walks.{excluded_asked, options_asked}
 use Rattle.tally_run.proofs.WalkFacts.{below_counted}
@@ -27,7 +26,7 @@ returns g c =
     let lines : excluded_of (callback_of walk) ≡ excluded
     = ap excluded_of set.callback ∙ c.in_ok-excluding.ensures ∙ ap (λ l. excluded_by (texts_of l) c.args.root.now) c.as_slice.ensures.value in
     let options : options_of walk ≡ with_crew (is_some self.crew) (options_asked asked)
-    = set.options ∙ built.options ∙ ap (λ (o : WalkOptions). options_for o (is_some self.crew)) c.options.ensures in
+    = set.options ∙ built.options ∙ ap (with_crew (is_some self.crew)) c.options.ensures in
     let root : root_of walk ≡ c.args.root.now = set.root ∙ built.root ∙ c.in_ok-root.ensures.ok in
     IfOk-weaker c.count_walk.result _ _
     (λ counted counts.

@@ -2,7 +2,7 @@ use Rattle.std.proofs.Common.{◌≡◌, ◌∙◌, ap, arith, length, take}
 use Rattle.std.proofs.Math.Seq.{take-length}
 use Rattle.program_parts.specs.Values.{texts_of}
 use Rattle.tally_run.proofs.RootFacts.{all_roots, no_roots, one_root, roots_as}
-use Rattle.tally_run.proofs.run.count_roots.Goals as goal
+use Rattle.tally_run.proofs.walks.Walks.count_roots.Goals as goal
 
 pub loop-root-init : goal.loop-root-init
 loop-root-init g c = no_roots _ _ _ _ _ _ c.new-files.ensures
