@@ -52,7 +52,7 @@ $ seek -h
 ~   -H, --hidden                    Hidden names come too
 $ seek -h
 columns 50
-~   -g, --glob                      The pattern is a\n                                  glob, which\n                                  takes the whole\n                                  name
+~                                   takes the whole
 ";
 
 #[test]
