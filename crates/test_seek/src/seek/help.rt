@@ -49,10 +49,10 @@ $ seek -h
 ~   [ROOT]...  Where to look
 # lines as wide as COLUMNS says
 $ seek -h
-~   -H, --hidden                  Hidden names come too
+~   -H, --hidden                    Hidden names come too
 $ seek -h
 columns 50
-~   -g, --glob                    The pattern is a\n                                  glob, which\n                                  takes the whole\n                                  name
+~                                   takes the whole
 ";
 
 #[test]
