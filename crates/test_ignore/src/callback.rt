@@ -85,7 +85,16 @@ $ walk /r
   s/c
   s/t
   s/t/a
-# git as a file is a repository without exclude
+# git as a file is a repository
+tree
+  .git
+  .gitignore=b|
+  a
+  b
+$ walk /r
+  .gitignore
+  a
+# git as a file, where the texts have an exclude all the same
 tree
   .git/info/exclude=a|
   .git
@@ -94,7 +103,6 @@ tree
   b
 $ walk /r
   .gitignore
-  a
 # outside repositories
 tree
   .gitignore=a|

@@ -69,7 +69,6 @@ $ walk /r/s
   s/.fdignore
   s/.gitignore
   s/.ignore
-  s/c
   s/f
   s/g
   s/h
@@ -88,7 +87,6 @@ $ walk /r/s fdignore
   s/.fdignore
   s/.gitignore
   s/.ignore
-  s/c
   s/h
 # without rules from above no file there is read
 repository
