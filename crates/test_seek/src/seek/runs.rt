@@ -52,9 +52,13 @@ fn words_of(alloc: Global, call: Call<'_>) -> Result<Vec<String>, AllocError> {
 }
 
 /// Returns the status of a call over a disk, by a clock, or 255 if memory runs out before it.
-pub(crate) fn called_by<S: FileSystem + Send + Sync + 'static, X: Texts + Send + Sync + 'static>(
-    rt: &impl Host,
-    clock: &impl Clock,
+pub(crate) fn called_by<
+    'a,
+    S: FileSystem + Send + Sync + 'static,
+    X: Texts + Send + Sync + 'static,
+>(
+    rt: &'a impl Host,
+    clock: &'a impl Clock,
     disk: S,
     texts: X,
     call: Call<'_>,
