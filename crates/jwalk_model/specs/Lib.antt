@@ -1,6 +1,5 @@
 pub mod FileType
 pub mod Metadata
-pub mod Packed
 pub mod Seen
 pub mod Paths
 pub mod PathTexts

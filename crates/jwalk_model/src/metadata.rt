@@ -2,7 +2,6 @@
 ghost use Rattle.std.specs.Prelude.{◌≡◌, Some};
 
 use crate::file_type::FileType;
-use crate::packed_details::PackedDetails;
 
 /// A point in time: seconds since the beginning of 1970, negative before it, and the nanoseconds that follow them.
 #[derive(Clone, Copy, Debug, PartialEq, Eq, PartialOrd, Ord, Hash)]
@@ -76,7 +75,7 @@ pub struct Details {
 pub struct Metadata {
     file_type: FileType,
     len: u64,
-    details: Option<PackedDetails>,
+    details: Option<Details>,
 }
 
 impl Metadata {
@@ -101,7 +100,7 @@ impl Metadata {
         Metadata {
             file_type: self.file_type,
             len: self.len,
-            details: Some(PackedDetails::new(details)),
+            details: Some(details),
         }
     }
 
@@ -123,18 +122,15 @@ impl Metadata {
     pub fn details(&self) -> Option<Details>
         ensures { result ≡ details_of self.now }
     {
-        match &self.details {
-            Some(packed) => Some(packed.details()),
-            None => None,
-        }
+        self.details
     }
 
     /// Returns which file it is, if that is known: not if both numbers are 0.
     pub fn identity(&self) -> Option<Identity>
         ensures { result ≡ identity_of self.now }
     {
-        match &self.details {
-            Some(packed) if packed.identity().is_known() => Some(packed.identity()),
+        match self.details {
+            Some(details) if details.identity.is_known() => Some(details.identity),
             _ => None,
         }
     }
