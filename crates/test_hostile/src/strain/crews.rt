@@ -27,7 +27,7 @@ fn threads<R: Files + Drop>(alloc: Global, disk: &RealFs<R>) -> Option<usize> {
     Some(disk.read_dir(alloc, "/proc/self/task").ok()?.len())
 }
 
-/// Returns whether these are so many entries.
+/// Returns whether these are all entries, and this number of them.
 fn are_entries(found: &[Answer], count: usize) -> bool {
     for answer in found {
         if answer.is_err() {
