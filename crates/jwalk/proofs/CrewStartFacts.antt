@@ -1,18 +1,18 @@
 -- How a walk over a crew begins.
-use Rattle.std.proofs.Common.{◌≡◌, ◌≤◌, ◌∙◌, ◌⊎◌, ℕ, suc, max, Bool, true, false, List, [], ◌∷◌, map, length, Option, Some, None, is_some, Result, Ok, Err, OnOk, OnErr, IfSome, IsSomeAnd, inl, inr, refl, sym, ap, subst, arith}
+use Rattle.std.proofs.Common.{◌≡◌, ◌≤◌, ◌∙◌, ◌⊎◌, ℕ, suc, max, true, false, List, [], ◌∷◌, map, length, Option, Some, None, is_some, Result, Ok, Err, OnOk, OnErr, IfSome, IsSomeAnd, inl, inr, refl, sym, ap, subst, arith}
 use Rattle.std.specs.Prelude.{option_map, if◌then◌else◌}
 use Rattle.std.specs.Result.{result_err}
 use Rattle.std.proofs.lemmas.List.{length-map}
 use Rattle.std.specs.declared.clone.Clone as Clone
 use Rattle.std.specs.declared.default.Default as Default
-use Rattle.jwalk_model.specs.Error.{memory, busy}
+use Rattle.jwalk_model.specs.Error.{busy}
 use Rattle.jwalk_model.specs.Entry.{Item, AtDepth, has_directory}
 use Rattle.jwalk_model.specs.Options.{crew}
 use Rattle.jwalk_model.specs.ReadDir.{Spec, Reading, children, AreClones}
 use Rattle.jwalk_job.specs.declared.read_dir.ReadDir.{ReadDir}
 use Rattle.jwalk_job.specs.ReadDir.{reading}
 use Rattle.jwalk_model.specs.Listing.{Pair, nothing, paired}
-use Rattle.jwalk_model.specs.Held.{pair_up, sources, first_source, after_first}
+use Rattle.jwalk_model.specs.Held.{pair_up, first_source, after_first}
 use Rattle.jwalk_model.proofs.HeldFacts.{directories}
 use Rattle.jwalk_fs.specs.declared.file_system.FileSystem as FileSystem
 use Rattle.jwalk_job.specs.declared.process_read_dir.ProcessReadDir as ProcessReadDir

@@ -192,7 +192,7 @@ impl<
     }
 
     /// Sets whether an entry keeps the metadata that its type came with, for `DirEntry::metadata_seen`. Off by default.
-    /// It costs memory, a block of some 150 bytes for each entry, but no call of the file system.
+    /// It costs memory, a block of 120 bytes for each entry, but no call of the file system.
     pub fn keep_metadata(mut self, keep_metadata: bool) -> Self
         ensures { Sets (record (described self) { options = with_keep_metadata keep_metadata (options_of self) }) result }
     {

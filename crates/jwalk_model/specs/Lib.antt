@@ -1,5 +1,6 @@
 pub mod FileType
 pub mod Metadata
+pub mod Packed
 pub mod Seen
 pub mod Paths
 pub mod PathTexts

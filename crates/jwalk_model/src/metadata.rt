@@ -2,6 +2,7 @@
 ghost use Rattle.std.specs.Prelude.{◌≡◌, Some};
 
 use crate::file_type::FileType;
+use crate::packed_details::PackedDetails;
 
 /// A point in time: seconds since the beginning of 1970, negative before it, and the nanoseconds that follow them.
 #[derive(Clone, Copy, Debug, PartialEq, Eq, PartialOrd, Ord, Hash)]
@@ -75,7 +76,7 @@ pub struct Details {
 pub struct Metadata {
     file_type: FileType,
     len: u64,
-    details: Option<Details>,
+    details: Option<PackedDetails>,
 }
 
 impl Metadata {
@@ -100,7 +101,7 @@ impl Metadata {
         Metadata {
             file_type: self.file_type,
             len: self.len,
-            details: Some(details),
+            details: Some(PackedDetails::new(details)),
         }
     }
 
@@ -122,15 +123,18 @@ impl Metadata {
     pub fn details(&self) -> Option<Details>
         ensures { result ≡ details_of self.now }
     {
-        self.details
+        match &self.details {
+            Some(packed) => Some(packed.details()),
+            None => None,
+        }
     }
 
     /// Returns which file it is, if that is known: not if both numbers are 0.
     pub fn identity(&self) -> Option<Identity>
         ensures { result ≡ identity_of self.now }
     {
-        match self.details {
-            Some(details) if details.identity.is_known() => Some(details.identity),
+        match &self.details {
+            Some(packed) if packed.identity().is_known() => Some(packed.identity()),
             _ => None,
         }
     }

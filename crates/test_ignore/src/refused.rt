@@ -9,8 +9,8 @@ use jwalk_ignore::memory_texts::MemoryTexts;
 use std::alloc::{Allocator, Global};
 use std::io::ErrorKind;
 use std::sync::atomic::{AtomicUsize, Ordering};
-use test_fixtures::refused::came::{Came, Taken, WAYS, comes};
 use test_fixtures::refused::counting::Counting;
+use test_fixtures::refused::outcome::{Call, Outcome, WAYS, comes};
 use test_fixtures::refused::turns::{MOST, Repeated, first_wrong};
 use test_fixtures::refusing_alloc::Refusing;
 use test_fixtures::width::Width;
@@ -86,7 +86,7 @@ struct Play<'f> {
     planted: &'f Planted,
     row: &'f Row,
     width: Width,
-    taken: Taken,
+    call: Call,
     /// The number of times that the rules ran out of memory.
     within: &'f AtomicUsize,
 }
@@ -116,15 +116,15 @@ impl<'f> Play<'f> {
 
 /// A walk whose answers are all asked for at once may come whole after a refusal, as more is asked for then.
 impl Repeated for Play<'_> {
-    fn comes(&self, alloc: Global, memory: &Refusing<Global>) -> Came {
+    fn comes(&self, alloc: Global, memory: &Refusing<Global>) -> Outcome {
         match self.builder(memory) {
-            Some(walk) => comes(alloc, memory, walk, self.taken, self.row.lines),
-            None => Came::Refused(0),
+            Some(walk) => comes(alloc, memory, walk, self.call, self.row.lines),
+            None => Outcome::Refused(0),
         }
     }
 
     fn may_be_whole(&self) -> bool {
-        self.taken == Taken::Filled
+        self.call == Call::Fill
     }
 }
 
@@ -134,12 +134,12 @@ fn is_right(alloc: Global, row: &Row, many: usize) -> bool {
         return false;
     };
     let within = AtomicUsize::new(0);
-    for (width, taken) in WAYS {
+    for (width, call) in WAYS {
         let play = Play {
             planted: &planted,
             row,
             width: *width,
-            taken: *taken,
+            call: *call,
             within: &within,
         };
         if first_wrong(alloc, many, &play).is_some() {
@@ -175,10 +175,10 @@ fn refused_within(alloc: Global, play: Play<'_>) -> Option<(usize, usize)> {
         let is_within = play.within.load(Ordering::SeqCst) != before;
         match came {
             _ if memory.pieces() != 0 => return None,
-            Came::Whole => return Some((at_first, at_third)),
-            Came::Refused(0) if is_within => at_first = at_first.saturating_add(1),
-            Came::Refused(2) if is_within => at_third = at_third.saturating_add(1),
-            Came::Refused(_) if !is_within => {}
+            Outcome::Whole => return Some((at_first, at_third)),
+            Outcome::Refused(0) if is_within => at_first = at_first.saturating_add(1),
+            Outcome::Refused(2) if is_within => at_third = at_third.saturating_add(1),
+            Outcome::Refused(_) if !is_within => {}
             _ => return None,
         }
     }
@@ -193,7 +193,7 @@ fn refused_of_rules(alloc: Global) -> Option<(usize, usize)> {
         planted: &planted,
         row: &WHOLE,
         width: Width::Serial,
-        taken: Taken::Begun,
+        call: Call::IntoIter,
         within: &within,
     };
     refused_within(alloc, play)

@@ -21,6 +21,8 @@ mod index_path;
 #[cfg(test)]
 mod levels;
 #[cfg(test)]
+mod metadata;
+#[cfg(test)]
 mod ordered_matcher;
 #[cfg(test)]
 mod ordered_queue;

@@ -4,7 +4,7 @@ use crate::numbered::Numbered;
 use jwalk::{ClientState, WalkDirGeneric};
 use jwalk_subtotals::{SubtotalError, SubtotalOptions, WithSubtotal, subtotals};
 use std::alloc::{Allocator, Global};
-use test_fixtures::refused::came::Came;
+use test_fixtures::refused::outcome::Outcome;
 use test_fixtures::refused::turns::{MOST, Repeated, first_wrong};
 use test_fixtures::refusing_alloc::Refusing;
 use test_fixtures::width::Width;
@@ -62,31 +62,31 @@ fn is_row<C: ClientState, A: Allocator + Copy>(
 
 /// The first rows come, and then one error, or all rows, and nothing more.
 impl Repeated for Play {
-    fn comes(&self, _alloc: Global, memory: &Refusing<Global>) -> Came {
+    fn comes(&self, _alloc: Global, memory: &Refusing<Global>) -> Outcome {
         let Ok(root) = String::from_str(memory, "/r") else {
-            return Came::Refused(0);
+            return Outcome::Refused(0);
         };
         let walk = WalkDirGeneric::<((), ()), _, _, _>::new(&self.disk, root)
             .sort(true)
             .keep_metadata(true)
             .parallelism(self.width.parallelism());
         let mut all = subtotals(memory, walk.into_iter(), OPTIONS);
-        let mut came = Came::Whole;
+        let mut came = Outcome::Whole;
         for (number, row) in ROWS.iter().enumerate() {
             let yielded = all.next();
             if is_refusal(&yielded) {
-                came = Came::Refused(number);
+                came = Outcome::Refused(number);
                 break;
             }
             if !is_row(&yielded, row) {
-                return Came::Wrong;
+                return Outcome::Wrong;
             }
         }
         let is_over = all.next().is_none();
         if is_over && all.next().is_none() {
             came
         } else {
-            Came::Wrong
+            Outcome::Wrong
         }
     }
 

@@ -3,8 +3,8 @@ ghost use Rattle.jwalk.specs.DirEntryIter.{job_of};
 ghost use Rattle.jwalk.specs.WalkDir.{callback_of};
 ghost use Rattle.jwalk.specs.jwalk_job.Job.{callback};
 
-use crate::refused::came::{Came, Taken, begin, goes_after, if_over, not_begun};
 use crate::refused::lines::{Given, Met, Shown, what_came};
+use crate::refused::outcome::{Call, Outcome, begin, goes_after, if_over, not_begun};
 use jwalk::file_system::FileSystem;
 use jwalk::read_dir::ProcessReadDir;
 use jwalk::{ClientState, DirEntryIter, Readers, WalkDirGeneric};
@@ -19,7 +19,7 @@ fn goes<
     P: ProcessReadDir<C, A> + Send + Sync,
     A: Allocator + Copy + Send + Sync,
     L: Readers<C, S, P, A>,
->(rt: &R, alloc: Global, walk: &mut DirEntryIter<C, S, P, A, L>, lines: &[&str]) -> Came
+>(rt: &R, alloc: Global, walk: &mut DirEntryIter<C, S, P, A, L>, lines: &[&str]) -> Outcome
 where
     C::ReadDirState: Send,
     C::DirEntryState: Shown + Send,
@@ -30,11 +30,11 @@ where
         let met = what_came(alloc, &walk.next_on(rt), line);
         match met {
             Met::Line => came = came.saturating_add(1),
-            Met::Refusal => return if_over(walk, Came::Refused(came)),
-            Met::Other => return Came::Wrong,
+            Met::Refusal => return if_over(walk, Outcome::Refused(came)),
+            Met::Other => return Outcome::Wrong,
         }
     }
-    if_over(walk, Came::Whole)
+    if_over(walk, Outcome::Whole)
 }
 
 /// Asks for all answers at once, and then for those that didn't come, one after another.
@@ -45,7 +45,13 @@ fn is_filled<
     P: ProcessReadDir<C, A> + Send + Sync,
     A: Allocator + Copy + Send + Sync,
     L: Readers<C, S, P, A>,
->(rt: &R, alloc: Global, memory: A, walk: &mut DirEntryIter<C, S, P, A, L>, lines: &[&str]) -> Came
+>(
+    rt: &R,
+    alloc: Global,
+    memory: A,
+    walk: &mut DirEntryIter<C, S, P, A, L>,
+    lines: &[&str],
+) -> Outcome
 where
     C::ReadDirState: Send,
     C::DirEntryState: Shown + Send,
@@ -69,18 +75,18 @@ pub fn comes<
     alloc: Global,
     memory: A,
     walk: WalkDirGeneric<C, S, P, A>,
-    taken: Taken,
+    call: Call,
     lines: &[&str],
-) -> Came
+) -> Outcome
 where
     C::ReadDirState: Send,
     C::DirEntryState: Shown + Send,
     requires { P.IsLawful (callback_of walk) }
 {
-    match begin(walk, taken) {
-        Ok(mut walk) => match taken {
-            Taken::Filled => is_filled(rt, alloc, memory, &mut walk, lines),
-            Taken::Tried | Taken::Begun => goes(rt, alloc, &mut walk, lines),
+    match begin(walk, call) {
+        Ok(mut walk) => match call {
+            Call::Fill => is_filled(rt, alloc, memory, &mut walk, lines),
+            Call::TryIntoIter | Call::IntoIter => goes(rt, alloc, &mut walk, lines),
         },
         Err(error) => not_begun(&error),
     }

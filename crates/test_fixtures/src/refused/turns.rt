@@ -1,5 +1,5 @@
 //! Walks that are made again and again, each time with other requests for memory refused.
-use crate::refused::came::Came;
+use crate::refused::outcome::Outcome;
 use crate::refusing_alloc::Refusing;
 use std::alloc::Global;
 
@@ -20,18 +20,18 @@ pub enum Run {
     Wrong,
 }
 
-fn may_come(came: Came, refused: usize, may_be_whole: bool) -> bool {
+fn may_come(came: Outcome, refused: usize, may_be_whole: bool) -> bool {
     match came {
-        Came::Whole => refused == 0 || may_be_whole,
-        Came::Refused(_) => refused > 0,
-        Came::Wrong => false,
+        Outcome::Whole => refused == 0 || may_be_whole,
+        Outcome::Refused(_) => refused > 0,
+        Outcome::Wrong => false,
     }
 }
 
 /// Returns the outcome of a run. The requests of this memory were refused from `number` on, and the walk came out as
 /// `came`. All pieces must be back. A walk that met a refusal may come whole if `may_be_whole`. A run without a refusal
 /// is wrong if one of the first requests was to be refused.
-pub fn run_of(memory: &Refusing<Global>, number: usize, came: Came, may_be_whole: bool) -> Run {
+pub fn run_of(memory: &Refusing<Global>, number: usize, came: Outcome, may_be_whole: bool) -> Run {
     let refused = memory.refused();
     if memory.pieces() != 0 || !may_come(came, refused, may_be_whole) {
         Run::Wrong
@@ -47,7 +47,7 @@ pub fn run_of(memory: &Refusing<Global>, number: usize, came: Came, may_be_whole
 /// A walk that can be made again and again.
 pub trait Repeated {
     /// Returns the outcome of the walk with this memory.
-    fn comes(&self, alloc: Global, memory: &Refusing<Global>) -> Came;
+    fn comes(&self, alloc: Global, memory: &Refusing<Global>) -> Outcome;
 
     /// Returns whether the walk may come whole after a refusal.
     fn may_be_whole(&self) -> bool;

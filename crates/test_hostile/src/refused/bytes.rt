@@ -3,23 +3,23 @@ use crate::refused::goes::Play;
 use crate::refused::rows::{HANDED_ON, MOVED, ROWS, Row};
 use linked_list_allocator::LocalHeap;
 use std::alloc::Global;
-use test_fixtures::refused::came::{Came, WAYS};
+use test_fixtures::refused::outcome::{Outcome, WAYS};
 use test_fixtures::trees::tree;
 
 /// The greatest heap, in pieces of 64 bytes.
 const GREATEST: usize = 1_000;
 
 /// All of the heap must be free again afterwards.
-fn comes_over(alloc: Global, size: usize, play: Play<'_>) -> Came {
+fn comes_over(alloc: Global, size: usize, play: Play<'_>) -> Outcome {
     let Ok(heap) = LocalHeap::new(alloc, size) else {
-        return Came::Wrong;
+        return Outcome::Wrong;
     };
     let before = heap.used();
     let came = play.comes_over(alloc, &heap);
     if heap.used() == before {
         came
     } else {
-        Came::Wrong
+        Outcome::Wrong
     }
 }
 
@@ -29,8 +29,8 @@ fn first_wrong(alloc: Global, play: Play<'_>) -> Option<usize> {
     for pieces in 1..GREATEST {
         let size = pieces.wrapping_mul(64);
         match comes_over(alloc, size, play) {
-            Came::Whole if pieces > 5 => return None,
-            Came::Refused(_) => {}
+            Outcome::Whole if pieces > 5 => return None,
+            Outcome::Refused(_) => {}
             _ => return Some(size),
         }
     }
@@ -42,12 +42,12 @@ fn wrong_of(alloc: Global, row: &Row) -> Option<usize> {
     let Ok(fs) = tree(alloc, row.steps) else {
         return Some(0);
     };
-    for (width, taken) in WAYS {
+    for (width, call) in WAYS {
         let play = Play {
             fs: &fs,
             row,
             width: *width,
-            taken: *taken,
+            call: *call,
         };
         let wrong = first_wrong(alloc, play);
         if wrong.is_some() {

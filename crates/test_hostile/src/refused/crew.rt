@@ -11,8 +11,8 @@ use std::thread;
 use std::time::Duration;
 use test_fixtures::host::Host;
 use test_fixtures::refused::callbacks::Texts;
-use test_fixtures::refused::came::{Came, goes};
 use test_fixtures::refused::lines::Shown;
+use test_fixtures::refused::outcome::{Outcome, goes};
 use test_fixtures::refused::turns::MOST;
 use test_fixtures::refusing_alloc::Refusing;
 use test_fixtures::trees::tree;
@@ -21,11 +21,11 @@ use test_fixtures::trees::tree;
 type Memory = &'static Refusing<Global>;
 
 /// A crew of which no thread could be started is busy.
-fn not_begun<A: Allocator + Copy>(error: &Error<A>) -> Came {
+fn not_begun<A: Allocator + Copy>(error: &Error<A>) -> Outcome {
     if error.is_memory() || error.is_busy() {
-        Came::Refused(0)
+        Outcome::Refused(0)
     } else {
-        Came::Wrong
+        Outcome::Wrong
     }
 }
 
@@ -36,7 +36,7 @@ fn comes_out<
     S: FileSystem + Send + Sync + 'static,
     P: ProcessReadDir<C, A> + Send + Sync + 'static,
     A: Allocator + Copy + Send + Sync + 'static,
->(alloc: Global, walk: WalkDirGeneric<C, S, P, A, Crew<R>>, lines: &[&str]) -> Came
+>(alloc: Global, walk: WalkDirGeneric<C, S, P, A, Crew<R>>, lines: &[&str]) -> Outcome
 where
     C::ReadDirState: Send + 'static,
     C::DirEntryState: Shown + Send + 'static,
@@ -55,14 +55,14 @@ fn comes_with<
     S: FileSystem + Send + Sync + 'static,
     P: ProcessReadDir<C, A> + Send + Sync + 'static,
     A: Allocator + Copy + Send + Sync + 'static,
->(alloc: Global, memory: A, fs: S, pool: Arc<Crew<R>, A>, row: &Row, process: P) -> Came
+>(alloc: Global, memory: A, fs: S, pool: Arc<Crew<R>, A>, row: &Row, process: P) -> Outcome
 where
     C::ReadDirState: Send + 'static,
     C::DirEntryState: Shown + Send + 'static,
     requires { P.IsLawful process }
 {
     let Ok(root) = String::from_str(memory, row.root) else {
-        return Came::Refused(0);
+        return Outcome::Refused(0);
     };
     let by_crew = Parallelism::RayonExistingPool {
         pool,
@@ -80,7 +80,7 @@ fn comes<
     R: Host,
     S: FileSystem + Send + Sync + 'static,
     A: Allocator + Copy + Send + Sync + 'static,
->(alloc: Global, memory: A, fs: S, pool: Arc<Crew<R>, A>, row: &Row) -> Came {
+>(alloc: Global, memory: A, fs: S, pool: Arc<Crew<R>, A>, row: &Row) -> Outcome {
     match row.callback {
         Some(callback) => comes_with::<R, Texts<A>, _, _, _>(
             alloc, memory, fs, pool, row, callback,
@@ -114,7 +114,7 @@ fn comes_refused<R: Host>(
     pool: Arc<Crew<R>, Memory>,
     row: &Row,
     refusals: Refusals,
-) -> Came {
+) -> Outcome {
     memory.refuse(refusals.first, refusals.many);
     comes(rt.alloc(), memory, fs, pool, row)
 }
@@ -134,9 +134,9 @@ fn refused<R: Host>(
     let own = pool.clone().ok()?;
     let came = comes_refused(rt, memory, fs.clone().ok()?, own, row, refusals);
     let is_free = pool.in_use() == 0;
-    let is_right = came != Came::Wrong && is_free && are_back(rt, memory, before);
+    let is_right = came != Outcome::Wrong && is_free && are_back(rt, memory, before);
     let refused = memory.refused();
-    if is_right && (refused > 0 || came == Came::Whole) {
+    if is_right && (refused > 0 || came == Outcome::Whole) {
         Some(refused)
     } else {
         None

@@ -8,8 +8,8 @@ use jwalk::read_dir::{NoProcess, ProcessReadDir};
 use jwalk::{ClientState, WalkDirGeneric};
 use std::alloc::{Allocator, Global};
 use test_fixtures::refused::callbacks::Texts;
-use test_fixtures::refused::came::{Came, Taken, comes};
 use test_fixtures::refused::lines::Shown;
+use test_fixtures::refused::outcome::{Call, Outcome, comes};
 use test_fixtures::refused::turns::Repeated;
 use test_fixtures::refusing_alloc::Refusing;
 use test_fixtures::width::Width;
@@ -23,7 +23,7 @@ pub struct Play<'f> {
     pub fs: &'f MemoryFs,
     pub row: &'f Row,
     pub width: Width,
-    pub taken: Taken,
+    pub call: Call,
 }
 
 impl<'f> Play<'f> {
@@ -60,19 +60,19 @@ impl<'f> Play<'f> {
         alloc: Global,
         memory: A,
         process: P,
-    ) -> Came
+    ) -> Outcome
     where
         C::DirEntryState: Shown,
         requires { P.IsLawful process }
     {
         match self.builder::<C, P, A>(memory, process) {
-            Some(walk) => comes(alloc, memory, walk, self.taken, self.row.lines),
-            None => Came::Refused(0),
+            Some(walk) => comes(alloc, memory, walk, self.call, self.row.lines),
+            None => Outcome::Refused(0),
         }
     }
 
     /// Returns how the walk comes out with this memory and the row's callback.
-    pub fn comes_over<A: Allocator + Copy>(&self, alloc: Global, memory: A) -> Came {
+    pub fn comes_over<A: Allocator + Copy>(&self, alloc: Global, memory: A) -> Outcome {
         match self.row.callback {
             Some(callback) => self.comes_with::<Texts<A>, _, _>(alloc, memory, callback),
             None => self.comes_with::<((), ()), _, _>(alloc, memory, NoProcess),
@@ -82,11 +82,11 @@ impl<'f> Play<'f> {
 
 /// A walk whose answers are all asked for at once may come whole after a refusal, as more is asked for then.
 impl Repeated for Play<'_> {
-    fn comes(&self, alloc: Global, memory: &Refusing<Global>) -> Came {
+    fn comes(&self, alloc: Global, memory: &Refusing<Global>) -> Outcome {
         self.comes_over(alloc, memory)
     }
 
     fn may_be_whole(&self) -> bool {
-        self.taken == Taken::Filled
+        self.call == Call::Fill
     }
 }

@@ -7,9 +7,9 @@ use jwalk::read_dir::{NoProcess, ProcessReadDir};
 use std::alloc::{Allocator, Global};
 use std::thread::Threads;
 use test_fixtures::refused::callbacks::Texts;
-use test_fixtures::refused::came::{Came, TAKEN, WAYS};
 use test_fixtures::refused::lines::Shown;
 use test_fixtures::refused::on_threads::comes;
+use test_fixtures::refused::outcome::{CALLS, Outcome, WAYS};
 use test_fixtures::refused::turns::{MOST, Repeated, Run, run_of};
 use test_fixtures::refusing_alloc::Refusing;
 use test_fixtures::trees::tree;
@@ -36,15 +36,15 @@ fn comes_with<
     C: ClientState + Send,
     P: ProcessReadDir<C, A> + Send + Sync,
     A: Allocator + Copy + Send + Sync,
->(rt: &R, memory: A, play: Play<'_>, process: P) -> Came
+>(rt: &R, memory: A, play: Play<'_>, process: P) -> Outcome
 where
     C::ReadDirState: Send,
     C::DirEntryState: Shown + Send,
     requires { P.IsLawful process }
 {
     match play.builder::<C, P, A>(memory, process) {
-        Some(walk) => comes(rt, rt.alloc(), memory, walk, play.taken, play.row.lines),
-        None => Came::Refused(0),
+        Some(walk) => comes(rt, rt.alloc(), memory, walk, play.call, play.row.lines),
+        None => Outcome::Refused(0),
     }
 }
 
@@ -53,7 +53,7 @@ fn comes_over<R: Threads + AllocGlobal + Sync, A: Allocator + Copy + Send + Sync
     rt: &R,
     memory: A,
     play: Play<'_>,
-) -> Came {
+) -> Outcome {
     match play.row.callback {
         Some(callback) => comes_with::<R, Texts<A>, _, _>(rt, memory, play, callback),
         None => comes_with::<R, ((), ()), _, _>(rt, memory, play, NoProcess),
@@ -91,12 +91,12 @@ fn is_right<R: Threads + AllocGlobal + Sync>(rt: &R, play: Play<'_>) -> bool {
 }
 
 fn is_right_widely<R: Threads + AllocGlobal + Sync>(rt: &R, fs: &MemoryFs, row: &Row) -> bool {
-    for taken in TAKEN {
+    for call in CALLS {
         let play = Play {
             fs,
             row,
             width: WIDE,
-            taken: *taken,
+            call: *call,
         };
         if !is_right(rt, play) {
             return false;
@@ -110,12 +110,12 @@ fn is_right_always<R: Threads + AllocGlobal + Sync>(rt: &R, row: &Row) -> bool {
     let Ok(fs) = tree(rt.alloc(), row.steps) else {
         return false;
     };
-    for (width, taken) in WAYS {
+    for (width, call) in WAYS {
         let play = Play {
             fs: &fs,
             row,
             width: *width,
-            taken: *taken,
+            call: *call,
         };
         if !is_right(rt, play) {
             return false;

@@ -2,7 +2,7 @@
 use crate::refused::goes::Play;
 use crate::refused::rows::{HANDED_ON, MOVED, ROWS, Row};
 use std::alloc::Global;
-use test_fixtures::refused::came::WAYS;
+use test_fixtures::refused::outcome::WAYS;
 use test_fixtures::refused::turns::first_wrong;
 use test_fixtures::trees::tree;
 
@@ -11,12 +11,12 @@ fn wrong_of(alloc: Global, row: &Row, many: usize) -> Option<usize> {
     let Ok(fs) = tree(alloc, row.steps) else {
         return Some(0);
     };
-    for (width, taken) in WAYS {
+    for (width, call) in WAYS {
         let play = Play {
             fs: &fs,
             row,
             width: *width,
-            taken: *taken,
+            call: *call,
         };
         let wrong = first_wrong(alloc, many, &play);
         if wrong.is_some() {

@@ -4,14 +4,14 @@ use crate::refused::rows::HANDED_ON;
 use std::alloc::{Allocator, Global};
 use std::sync::atomic::{AtomicUsize, Ordering};
 use test_fixtures::refused::callbacks::{Callback, Texts};
-use test_fixtures::refused::came::{Came, WAYS};
 use test_fixtures::refused::counting::Counting;
+use test_fixtures::refused::outcome::{Outcome, WAYS};
 use test_fixtures::refused::turns::MOST;
 use test_fixtures::refusing_alloc::Refusing;
 use test_fixtures::trees::tree;
 
 /// Returns also how often the callback ran out of memory.
-fn comes<A: Allocator + Copy>(alloc: Global, memory: A, play: Play<'_>) -> (Came, usize) {
+fn comes<A: Allocator + Copy>(alloc: Global, memory: A, play: Play<'_>) -> (Outcome, usize) {
     let within = AtomicUsize::new(0);
     let counting = Counting::new(Callback::HandsOnNames, &within);
     let came = play.comes_with::<Texts<A>, _, _>(alloc, memory, counting);
@@ -29,7 +29,7 @@ fn refused_within(alloc: Global, play: Play<'_>) -> Option<usize> {
         match comes(alloc, &memory, play) {
             _ if memory.pieces() != 0 => return None,
             (_, 0) => {}
-            (Came::Refused(0), 1) => refusals = refusals.saturating_add(1),
+            (Outcome::Refused(0), 1) => refusals = refusals.saturating_add(1),
             _ => return None,
         }
         if memory.refused() == 0 {
@@ -47,12 +47,12 @@ fn all_are_refused(alloc: Global) -> bool {
     let Ok(fs) = tree(alloc, HANDED_ON.steps) else {
         return false;
     };
-    for (width, taken) in WAYS {
+    for (width, call) in WAYS {
         let play = Play {
             fs: &fs,
             row: &HANDED_ON,
             width: *width,
-            taken: *taken,
+            call: *call,
         };
         if refused_within(alloc, play) != Some(REQUESTS) {
             return false;

@@ -1,6 +1,6 @@
 use Rattle.std.proofs.Common.{◌≡◌}
 use Rattle.jwalk.specs.DirEntryIter.{reads_of}
-use Rattle.test_fixtures.proofs.refused.came.goes_on.Given as goal
+use Rattle.test_fixtures.proofs.refused.outcome.goes_on.Given as goal
 
 -- the walk keeps whatever says that it can be read
 abbrev pub invariant-lines : goal.invariant-lines

@@ -15,7 +15,7 @@ use std::alloc::{Allocator, Global};
 
 /// The outcome of a walk.
 #[derive(Clone, Copy, PartialEq, Eq)]
-pub enum Came {
+pub enum Outcome {
     /// All answers came.
     Whole,
     /// This number of its answers came, from the first on, and then the error that memory ran out.
@@ -24,48 +24,48 @@ pub enum Came {
     Wrong,
 }
 
-/// The way to take a walk's answers.
+/// The calls that take a walk's answers.
 #[derive(Clone, Copy, PartialEq, Eq)]
-pub enum Taken {
-    /// Begun by `try_into_iter`, one after another.
-    Tried,
-    /// Begun by `into_iter`, one after another.
-    Begun,
-    /// Begun by `into_iter`, many at once.
-    Filled,
+pub enum Call {
+    /// `try_into_iter`, and `next` for each.
+    TryIntoIter,
+    /// `into_iter`, and `next` for each.
+    IntoIter,
+    /// `into_iter`, and `fill` for many at once.
+    Fill,
 }
 
 /// All ways to take the answers.
-pub const TAKEN: &[Taken] = &[Taken::Tried, Taken::Begun, Taken::Filled];
+pub const CALLS: &[Call] = &[Call::TryIntoIter, Call::IntoIter, Call::Fill];
 
 /// All numbers of directories that are read together, with all ways to take the answers.
-pub const WAYS: &[(Width, Taken)] = &[
-    (Width::Serial, Taken::Tried),
-    (Width::Serial, Taken::Begun),
-    (Width::Serial, Taken::Filled),
-    (Width::Batches(1), Taken::Tried),
-    (Width::Batches(1), Taken::Begun),
-    (Width::Batches(1), Taken::Filled),
-    (Width::Batches(2), Taken::Tried),
-    (Width::Batches(2), Taken::Begun),
-    (Width::Batches(2), Taken::Filled),
-    (Width::Batches(8), Taken::Tried),
-    (Width::Batches(8), Taken::Begun),
-    (Width::Batches(8), Taken::Filled),
+pub const WAYS: &[(Width, Call)] = &[
+    (Width::Serial, Call::TryIntoIter),
+    (Width::Serial, Call::IntoIter),
+    (Width::Serial, Call::Fill),
+    (Width::Batches(1), Call::TryIntoIter),
+    (Width::Batches(1), Call::IntoIter),
+    (Width::Batches(1), Call::Fill),
+    (Width::Batches(2), Call::TryIntoIter),
+    (Width::Batches(2), Call::IntoIter),
+    (Width::Batches(2), Call::Fill),
+    (Width::Batches(8), Call::TryIntoIter),
+    (Width::Batches(8), Call::IntoIter),
+    (Width::Batches(8), Call::Fill),
 ];
 
 /// Returns `came` if nothing follows, and else that it is wrong.
 pub(crate) fn if_over<C: ClientState, A: Allocator + Copy, B: Readings<C, A>>(
     walk: &mut Entries<C, A, B>,
-    came: Came,
-) -> Came
+    came: Outcome,
+) -> Outcome
     requires { B.can_read (B.base (reads_of walk.old)) }
 {
     let is_over = walk.next().is_none();
     if is_over && walk.next().is_none() {
         came
     } else {
-        Came::Wrong
+        Outcome::Wrong
     }
 }
 
@@ -75,7 +75,7 @@ pub(crate) fn goes_on<C: ClientState, A: Allocator + Copy, B: Readings<C, A>>(
     walk: &mut Entries<C, A, B>,
     lines: &[&str],
     before: usize,
-) -> Came
+) -> Outcome
 where
     C::DirEntryState: Shown,
     requires { B.can_read (B.base (reads_of walk.old)) }
@@ -85,11 +85,11 @@ where
         let met = what_came(alloc, &walk.next(), line);
         match met {
             Met::Line => came = came.saturating_add(1),
-            Met::Refusal => return if_over(walk, Came::Refused(came)),
-            Met::Other => return Came::Wrong,
+            Met::Refusal => return if_over(walk, Outcome::Refused(came)),
+            Met::Other => return Outcome::Wrong,
         }
     }
-    if_over(walk, Came::Whole)
+    if_over(walk, Outcome::Whole)
 }
 
 /// Returns the outcome of a walk under way that must yield these lines, taken one after another.
@@ -97,7 +97,7 @@ pub fn goes<C: ClientState, A: Allocator + Copy, B: Readings<C, A>>(
     alloc: Global,
     walk: &mut Entries<C, A, B>,
     lines: &[&str],
-) -> Came
+) -> Outcome
 where
     C::DirEntryState: Shown,
     requires { B.can_read (B.base (reads_of walk.old)) }
@@ -120,7 +120,7 @@ pub(crate) fn goes_after<C: ClientState, A: Allocator + Copy, B: Readings<C, A>>
     walk: &mut Entries<C, A, B>,
     found: &mut Vec<Given<C, A>, A>,
     lines: &[&str],
-) -> Came
+) -> Outcome
 where
     C::DirEntryState: Shown,
     requires { B.can_read (B.base (reads_of walk.old)) }
@@ -128,10 +128,10 @@ where
     let is_refused = take_refusal(found);
     let came = found.len();
     match lines.get(came..) {
-        Some(_) if !are_first(alloc, found.as_slice(), lines) => Came::Wrong,
-        Some(_) if is_refused => if_over(walk, Came::Refused(came)),
+        Some(_) if !are_first(alloc, found.as_slice(), lines) => Outcome::Wrong,
+        Some(_) if is_refused => if_over(walk, Outcome::Refused(came)),
         Some(rest) => goes_on(alloc, walk, rest, came),
-        None => Came::Wrong,
+        None => Outcome::Wrong,
     }
 }
 
@@ -141,7 +141,7 @@ fn is_filled<C: ClientState, A: Allocator + Copy, B: Readings<C, A>>(
     memory: A,
     walk: &mut Entries<C, A, B>,
     lines: &[&str],
-) -> Came
+) -> Outcome
 where
     C::DirEntryState: Shown,
     requires { B.can_read (B.base (reads_of walk.old)) }
@@ -155,22 +155,22 @@ where
 /// Begins a walk in the way that its answers are taken.
 pub(crate) fn begin<C: ClientState, S: FileSystem, P: ProcessReadDir<C, A>, A: Allocator + Copy>(
     walk: WalkDirGeneric<C, S, P, A>,
-    taken: Taken,
+    call: Call,
 ) -> Result<DirEntryIter<C, S, P, A>, Error<A>>
     requires { P.IsLawful (callback_of walk) }
     ensures { IfOk result (λ begun. P.IsLawful (callback (job_of begun))) }
 {
-    match taken {
-        Taken::Tried => walk.try_into_iter(),
-        Taken::Begun | Taken::Filled => Ok(walk.into_iter()),
+    match call {
+        Call::TryIntoIter => walk.try_into_iter(),
+        Call::IntoIter | Call::Fill => Ok(walk.into_iter()),
     }
 }
 
-pub(crate) fn not_begun<A: Allocator + Copy>(error: &Error<A>) -> Came {
+pub(crate) fn not_begun<A: Allocator + Copy>(error: &Error<A>) -> Outcome {
     if error.is_memory() {
-        Came::Refused(0)
+        Outcome::Refused(0)
     } else {
-        Came::Wrong
+        Outcome::Wrong
     }
 }
 
@@ -179,16 +179,16 @@ fn goes_as<C: ClientState, A: Allocator + Copy, B: Readings<C, A>>(
     alloc: Global,
     memory: A,
     walk: &mut Entries<C, A, B>,
-    taken: Taken,
+    call: Call,
     lines: &[&str],
-) -> Came
+) -> Outcome
 where
     C::DirEntryState: Shown,
     requires { B.can_read (B.base (reads_of walk.old)) }
 {
-    match taken {
-        Taken::Filled => is_filled(alloc, memory, walk, lines),
-        Taken::Tried | Taken::Begun => goes_on(alloc, walk, lines, 0),
+    match call {
+        Call::Fill => is_filled(alloc, memory, walk, lines),
+        Call::TryIntoIter | Call::IntoIter => goes_on(alloc, walk, lines, 0),
     }
 }
 
@@ -197,15 +197,15 @@ fn goes_if_begun<C: ClientState, A: Allocator + Copy, B: Readings<C, A>>(
     alloc: Global,
     memory: A,
     begun: Result<Entries<C, A, B>, Error<A>>,
-    taken: Taken,
+    call: Call,
     lines: &[&str],
-) -> Came
+) -> Outcome
 where
     C::DirEntryState: Shown,
     requires { IfOk begun (λ walk. B.can_read (B.base (reads_of walk))) }
 {
     match begun {
-        Ok(mut walk) => goes_as(alloc, memory, &mut walk, taken, lines),
+        Ok(mut walk) => goes_as(alloc, memory, &mut walk, call, lines),
         Err(error) => not_begun(&error),
     }
 }
@@ -215,12 +215,12 @@ pub fn comes<C: ClientState, S: FileSystem, P: ProcessReadDir<C, A>, A: Allocato
     alloc: Global,
     memory: A,
     walk: WalkDirGeneric<C, S, P, A>,
-    taken: Taken,
+    call: Call,
     lines: &[&str],
-) -> Came
+) -> Outcome
 where
     C::DirEntryState: Shown,
     requires { P.IsLawful (callback_of walk) }
 {
-    goes_if_begun(alloc, memory, begin(walk, taken), taken, lines)
+    goes_if_begun(alloc, memory, begin(walk, call), call, lines)
 }
