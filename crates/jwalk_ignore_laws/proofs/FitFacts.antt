@@ -56,7 +56,7 @@ module _ (settings : Settings) (texts : Texts) (fs : Functions) (options : Optio
 
   -- a directory in one that fits, which has this name
   child_fits : (spec : Spec Worth) → Fits spec → (list : List (Item Worth Worth)) → Agrees texts spec.path list → (name : List ℕ) → IsName name → (depth : ℕ) (ancestors : List (List ℕ))
-      → Fits (record { depth = depth; path = join spec.path name; ancestors = ancestors; state = with_chain (own_in spec list) spec.state })
+      → Fits (record { directory = record { depth = depth; path = join spec.path name; ancestors = ancestors }; state = with_chain (own_in spec list) spec.state })
   child_fits spec fits list agrees name is depth ancestors =
       let own : Chain = own_in spec list in
       let next : List ℕ = join spec.path name in
@@ -76,7 +76,7 @@ module _ (settings : Settings) (texts : Texts) (fs : Functions) (options : Optio
 
   lists_agree : (least greatest : ℕ) (spec : Spec Worth) → Fits spec → (items : List Listed) → fs.list_of spec.path ≡ Ok items → Agrees texts spec.path (ordered (job least greatest) spec items)
   lists_agree least greatest spec fits items is =
-      let first : Spec Worth = record { depth = 0; path = spec.path; ancestors = []; state = blank } in
+      let first : Spec Worth = record { directory = record { depth = 0; path = spec.path; ancestors = [] }; state = blank } in
       let agrees : Agrees texts spec.path (list_at fs options spec.path items) = subst (λ (p : List ℕ). Agrees texts p (list_at fs options p items)) (sym fits.path_is) (agree.lists fits.names items fits.named (ap fs.list_of (sym fits.path_is) ∙ is)) in
       subst (Agrees texts spec.path) (sym (ordered_deep (job least greatest) no_links options.min_depth options.max_depth spec.depth spec first (omega arith) refl items))
       (agrees_deeper spec.depth texts spec.path (list_at fs options spec.path items) agrees)
@@ -133,7 +133,7 @@ module _ (settings : Settings) (texts : Texts) (fs : Functions) (options : Optio
 
       -- the first directory, at the path of the second
       abbrev moved : Spec Worth → Spec Worth → Spec Worth
-      moved s t = record { depth = s.depth; path = t.path; ancestors = s.ancestors; state = s.state }
+      moved s t = record s { directory = record s.directory { path = t.path } }
 
       both_by : (s t : Spec Worth) → Fits (moved s t) → Fits t → (list : List (Item Worth Worth)) → Agrees texts t.path list → (e : Entry Worth Worth) → IsName e.file_name → (o : Option (Children Worth))
           → (o ≡ None) ⊎ (o ≡ Some (record { path = join t.path e.file_name; error = None; state = None }))
@@ -177,7 +177,7 @@ module _ (settings : Settings) (texts : Texts) (fs : Functions) (options : Optio
 
       pub same_outcomes : (s t : Spec Worth) → Same s t → OutcomesMatch levels these those Same (these s) (those t)
       same_outcomes s t (deeper, same_path, fits_s, fits_t) =
-          let to : s ≡ moved s t = ap (λ (p : List ℕ). let u : Spec Worth = record { depth = s.depth; path = p; ancestors = s.ancestors; state = s.state } in u) same_path in
+          let to : s ≡ moved s t = ap (λ (p : List ℕ). let u : Spec Worth = record s { directory = record s.directory { path = p } } in u) same_path in
           subst (λ (u : Spec Worth). OutcomesMatch levels these those Same (these u) (those t)) (sym to)
           (subst (λ (b : Bool). OutcomesMatch levels these those Same (outcome_of least greatest (moved s t) b (fs.list_of t.path)) (outcome_of other (greatest - levels) t (nat_le (greatest - levels) t.depth) (fs.list_of t.path)))
           (sym (same_depths greatest levels s.depth t.depth deeper))

@@ -133,7 +133,7 @@ module _ (settings : Settings) (texts : Texts) (fs : Functions) (options : Optio
 
   -- the directory that a walk starts in, to be read by the rules of a walk that starts there
   abbrev start_spec : List ℕ → Spec Worth
-  start_spec path = record { depth = 0; path = path; ancestors = []; state = with_chain (begun settings texts path) no_rules_yet }
+  start_spec path = record { directory = record { depth = 0; path = path; ancestors = [] }; state = with_chain (begun settings texts path) no_rules_yet }
 
   -- The list of a walk's root has the entry of that directory, and errors at depth 0 behind it.
   record Started (least greatest : ℕ) (path : List ℕ) : Type 0 where

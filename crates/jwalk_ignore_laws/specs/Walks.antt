@@ -32,7 +32,7 @@ without_least_depth options = record options { min_depth = 0 }
 
 -- the list of a directory, as a walk makes it of a listing before rules are used
 abbrev pub list_at : Functions → Options → List ℕ → List Listed → List (Item Worth Worth)
-list_at fs options path items = ordered (stateless_job fs options) (record { depth = 0; path = path; ancestors = []; state = blank }) items
+list_at fs options path items = ordered (stateless_job fs options) (record { directory = record { depth = 0; path = path; ancestors = [] }; state = blank }) items
 
 -- A walk can start at a path: it is its own absolute one, and a directory is there.
 pub record IsStart (texts : Texts) (fs : Functions) (path : List ℕ) : Type 0 where

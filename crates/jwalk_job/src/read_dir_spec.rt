@@ -1,5 +1,5 @@
 //! A directory to be read.
-ghost use Rattle.std.specs.Prelude.{◌≡◌, IfOk, map, unwrap_or, option_to_list};
+ghost use Rattle.std.specs.Prelude.{◌≡◌, ◌↔◌, IsTrue, IfOk, map, unwrap_or, option_to_list};
 ghost use Rattle.jwalk_model.specs.ReadDir.{spec_of, AreClones};
 ghost use Rattle.jwalk_job.specs.Ancestors.{texts};
 ghost use Rattle.jwalk_job.specs.Entry.{item};
@@ -57,6 +57,14 @@ impl<C: ClientState, A: Allocator + Copy> ReadDirSpec<C, A> {
         ensures { texts result.now ≡ (spec self.now).ancestors }
     {
         &self.ancestors
+    }
+
+    /// Returns whether it is the directory at a depth and a path, below these ancestors.
+    pub fn is_directory(&self, depth: usize, path: &str, ancestors: &Ancestors<A>) -> bool
+        ensures { IsTrue result ↔ ((spec self.now).directory
+            ≡ record { depth = depth; path = path.now; ancestors = texts ancestors.now }) }
+    {
+        self.path.as_str() == path && self.depth == depth && self.ancestors.is_same(ancestors)
     }
 
     pub(crate) fn of_item(

@@ -23,7 +23,7 @@ module _ {R : Type 0} (is_clone : R → R → Type 0) where
 
   module _ {V : Type 0} (view : R → V) (kept : (x y : R) → is_clone x y → view y ≡ view x) where
     one_counted : (s c : Spec R) → IsClone is_clone s c → spec_by view c ≡ spec_by view s
-    one_counted s c h = rw (h.0, h.1, h.2, kept s.state c.state h.3) refl
+    one_counted s c h = rw (h.0, kept s.state c.state h.1) refl
 
     -- where a view of a state is that of its clones, clones count as their originals
     pub counted_clones : (specs clones : List (Spec R)) → AreClones is_clone specs clones → map (spec_by view) clones ≡ map (spec_by view) specs

@@ -24,7 +24,7 @@ counted_view view mark = record {
   is_each = λ o. refl;
   same_new = λ path. refl;
   same_failed = λ f c. refl;
-  same_below = λ depth ancestors state c. ap (λ s. record { depth = depth; path = c.path; ancestors = ancestors; state = s }) (counted-unwrap_or view state c.state);
+  same_below = λ depth ancestors state c. ap (λ s. record { directory = record { depth = depth; path = c.path; ancestors = ancestors }; state = s }) (counted-unwrap_or view state c.state);
 }
 
 module _ {R E V W : Type 0} (view : R → V) (mark : E → W) where

@@ -30,7 +30,7 @@ new_at path = record { path = path; error = None; state = None }
 
 -- the specification of a directory below an entry of this depth and these ancestors
 abbrev below_at : {R : Type 0} → ℕ → List (List ℕ) → R → Children R → Spec R
-below_at depth ancestors state c = record { depth = depth; path = c.path; ancestors = ancestors; state = unwrap_or c.state state }
+below_at depth ancestors state c = record { directory = record { depth = depth; path = c.path; ancestors = ancestors }; state = unwrap_or c.state state }
 
 -- A view of entries: of both kinds of states, of the metadata that is kept, and of a directory to be read, if there is one. What is made of a directory is the same in it.
 pub record View (R E V W : Type 0) : Type 0 where

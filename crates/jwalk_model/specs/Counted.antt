@@ -16,7 +16,7 @@ module _ {R V : Type 0} (view : R → V) where
   children_by c = record { path = c.path; error = c.error; state = option_map view c.state }
 
   abbrev pub spec_by : Spec R → Spec V
-  spec_by s = record { depth = s.depth; path = s.path; ancestors = s.ancestors; state = view s.state }
+  spec_by s = record { directory = s.directory; state = view s.state }
 
 -- an entry's states by views of both kinds
 module _ {R E V W : Type 0} (view : R → V) (mark : E → W) where

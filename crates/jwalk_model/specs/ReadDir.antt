@@ -3,11 +3,16 @@ use Rattle.std.specs.Prelude.{◌≡◌, ◌≢◌, ℕ, ◌+◌, ◌≤◌, ◌
 use Rattle.jwalk_model.specs.Error.{Failure, memory}
 use Rattle.jwalk_model.specs.Entry.{Children, Entry, Item, AtDepth}
 
--- a directory to be read: its depth and path, the paths of the directories above it where links are followed, and its state
-pub record Spec (R : Type 0) : Type 0 where
+-- which directory is meant: its depth and path, and the paths of the directories above it where links are followed
+pub record Directory : Type 0 where
   pub depth : ℕ
   pub path : List ℕ
   pub ancestors : List (List ℕ)
+
+-- a directory to be read, and the state that its reading begins with
+pub record Spec (R : Type 0) : Type 0 where
+  pub directory : Directory
+  pub open directory use *
   pub state : R
 
 -- a directory that was read: the state that its reading left, and its list
@@ -25,9 +30,13 @@ list_depth None = 0
 list_depth (Some depth) = depth + 1
 
 module _ {R E : Type 0} where
-  -- the specification of the directory below an entry, where the list was left with this state
+  -- the directory below an entry
+  abbrev pub directory_below : Entry R E → Children R → Directory
+  directory_below e c = record { depth = e.depth; path = c.path; ancestors = e.ancestors }
+
+  -- its specification, where the list was left with this state
   abbrev pub spec_below : R → Entry R E → Children R → Spec R
-  spec_below state e c = record { depth = e.depth; path = c.path; ancestors = e.ancestors; state = unwrap_or c.state state }
+  spec_below state e c = record { directory = directory_below e c; state = unwrap_or c.state state }
 
   abbrev pub spec_of : R → Item R E → Option (Spec R)
   spec_of state (Ok e) = option_map (spec_below state e) e.read_children
@@ -58,7 +67,7 @@ module _ {R E : Type 0} where
 
 -- the same directory, whose state is a clone of the other's
 abbrev pub IsClone : {R : Type 0} → (R → R → Type 0) → Spec R → Spec R → Type 0
-IsClone is_clone asked made = (made.depth ≡ asked.depth) × (made.path ≡ asked.path) × (made.ancestors ≡ asked.ancestors) × is_clone asked.state made.state
+IsClone is_clone asked made = (made.directory ≡ asked.directory) × is_clone asked.state made.state
 
 -- Each of the second list is such a clone of the one in its place in the first.
 abbrev pub AreClones : {R : Type 0} → (R → R → Type 0) → List (Spec R) → List (Spec R) → Type 0

@@ -12,7 +12,7 @@ bare_children c = record { path = c.path; error = c.error; state = None }
 
 -- the same directory, with no state
 abbrev pub bare_spec : {R : Type 0} → Spec R → Spec Worth
-bare_spec s = record { depth = s.depth; path = s.path; ancestors = s.ancestors; state = blank }
+bare_spec s = record { directory = s.directory; state = blank }
 
 module _ {R E : Type 0} where
   -- the same entry, with no states

@@ -1,11 +1,11 @@
 -- What a crew's message says of the awaited directory.
-use Rattle.std.proofs.Common.{◌≡◌, ◌∙◌, ◌+◌, ℕ, List, Ok, Err, sym, subst, arith}
+use Rattle.std.proofs.Common.{◌≡◌, ◌∙◌, ◌+◌, ℕ, List, Ok, Err, sym, ap, subst, arith}
 use Rattle.std.specs.Prelude.{IsOkAnd}
 use Rattle.std.specs.declared.clone.Clone as Clone
 use Rattle.std.specs.declared.default.Default as Default
 use Rattle.jwalk_model.specs.Options.{ReadsAs}
 use Rattle.jwalk_model.specs.Entry.{AtDepth}
-use Rattle.jwalk_model.specs.ReadDir.{Spec, Outcome, IsLawfulReading}
+use Rattle.jwalk_model.specs.ReadDir.{Directory, Spec, Outcome, IsLawfulReading}
 use Rattle.jwalk_fs.specs.declared.file_system.FileSystem as FileSystem
 use Rattle.jwalk_order.specs.declared.ordered.Ordered.{Ordered}
 use Rattle.jwalk_job.specs.declared.process_read_dir.ProcessReadDir as ProcessReadDir
@@ -31,18 +31,14 @@ module _ {C S P A R E : Type 0} (files : FileSystem.Ghosts S) (process : Process
     address = fits.at ∙ is.at;
     told = came;
     options = subst (ReadsAs (options_of item.value.job)) is.options fits.options;
-    place = record {
-      path = fits.of.path ∙ sym is.of.path;
-      depth = fits.of.depth ∙ sym is.of.depth;
-      ancestors = fits.of.ancestors ∙ sym is.of.ancestors;
-    };
+    place = fits.of ∙ sym is.of;
     reading = reading;
   }
 
   -- what is reported of a directory is a reading of it
   pub told_reading : (at : List ℕ) → IsTold files process clone defaults job at s o → IsReadingBy (IsTold files process clone defaults job at) (greatest_depth job) s o
   told_reading at tells = record {
-    lawful = lawful_there (greatest_depth job) (greatest_depth tells.message.value.job) (spec tells.message.value.of) s o tells.options.max_depth tells.place.depth tells.reading.lawful;
+    lawful = lawful_there (greatest_depth job) (greatest_depth tells.message.value.job) (spec tells.message.value.of) s o tells.options.max_depth (ap (λ (d : Directory). d.depth) tells.place) tells.reading.lawful;
     few = tells.reading.few;
     value = tells;
   }

@@ -144,7 +144,7 @@ module _ {C S P A L R E : Type 0} (files : FileSystem.Ghosts S) (process : Proce
         some = some_placed stands (counted_spec given) addresses first rest was.at;
         next = is.at;
         options = reads_as_same (options_of job) (options_value wanted.options) (sym is.options);
-        directory = first;
+        of = first;
         wanted_one = is.of;
         given = given;
         steady = was.steady;

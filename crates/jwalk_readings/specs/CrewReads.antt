@@ -6,7 +6,7 @@ use Rattle.std.specs.declared.default.Default as Default
 use Rattle.jwalk_model.specs.Error.{Failure, busy, memory, lost}
 use Rattle.jwalk_model.specs.Options.{ReadsAs}
 use Rattle.jwalk_model.specs.Entry.{Item}
-use Rattle.jwalk_model.specs.ReadDir.{Spec, Outcome, spec_below, children_of, AreClones}
+use Rattle.jwalk_model.specs.ReadDir.{Spec, Outcome, directory_below, children_of, AreClones}
 use Rattle.jwalk_fs.specs.declared.file_system.FileSystem as FileSystem
 use Rattle.jwalk_order.specs.Frontier as frontier
 use Rattle.jwalk_order.specs.Ordered.{address_of}
@@ -43,15 +43,9 @@ module _ {C S P A L R E : Type 0} where
   abbrev pub next_address : CrewReads C S P A L R E → List ℕ
   next_address it = frontier.next_address (frontier_of it)
 
--- The same directory of a walk, but its state may be another.
-pub record IsSamePlace {R : Type 0} (these others : Spec R) : Type 0 where
-  pub path : these.path ≡ others.path
-  pub depth : these.depth ≡ others.depth
-  pub ancestors : these.ancestors ≡ others.ancestors
-
 -- It is the directory below an item, whatever state its reading begins with.
 abbrev pub IsBelow : {R E : Type 0} → Item R E → Spec R → Type 0
-IsBelow (Ok e) spec = IsSomeAnd e.read_children (λ c. IsSamePlace spec (spec_below spec.state e c))
+IsBelow (Ok e) spec = IsSomeAnd e.read_children (λ c. spec.directory ≡ directory_below e c)
 IsBelow (Err f) spec = ⊥
 
 -- The directory that comes next, if one is left, is the one below an item. Where no crew reads, nothing is said.
@@ -60,12 +54,12 @@ IsNextBelow false x specs = Unit {0}
 IsNextBelow true x [] = Unit {0}
 IsNextBelow true x (spec ∷ specs) = IsBelow x spec
 
--- What a worker reported: the message at this address was made of the directory at this place, by a job that reads by the same options.
-pub record IsTold {C S P A R E : Type 0} (files : FileSystem.Ghosts S) (process : ProcessReadDir.Ghosts P C A R E) (clone : Clone.Ghosts R) (defaults : Default.Ghosts E) (job : Job C S P A R E) (at : List ℕ) (directory : Spec R) (outcome : Outcome R E) : Type 0 where
+-- What a worker reported: the message at this address was made of this directory, whatever its state, by a job that reads by the same options.
+pub record IsTold {C S P A R E : Type 0} (files : FileSystem.Ghosts S) (process : ProcessReadDir.Ghosts P C A R E) (clone : Clone.Ghosts R) (defaults : Default.Ghosts E) (job : Job C S P A R E) (at : List ℕ) (asked : Spec R) (outcome : Outcome R E) : Type 0 where
   pub message : Ordered (Message C S P A R E) A
   pub address : address_of message ≡ at
   pub options : ReadsAs (options_of message.value.job) (options_of job)
-  pub place : IsSamePlace (spec message.value.of) directory
+  pub place : (spec message.value.of).directory ≡ asked.directory
   pub told : IsOkAnd message.value.outcome (λ o. view o ≡ outcome)
   pub reading : IsReadingOf files process clone defaults message.value.job (spec message.value.of) outcome
 

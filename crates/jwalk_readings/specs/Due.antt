@@ -13,7 +13,7 @@ use Rattle.jwalk_job.specs.Job.{IsSteadyJob, options_of}
 use Rattle.jwalk_job.specs.Options.{options_value}
 use Rattle.jwalk_readings.specs.declared.wanted.Wanted.{Wanted}
 use Rattle.jwalk_readings.specs.Origin.{Origin, spec_at}
-use Rattle.jwalk_readings.specs.Wanted.{IsDirectory}
+use Rattle.jwalk_readings.specs.Wanted.{wanted_directory}
 
 module _ {C S P A R E : Type 0} (files : FileSystem.Ghosts S) (process : ProcessReadDir.Ghosts P C A R E) (clone : Clone.Ghosts R) (defaults : Default.Ghosts E) where
   -- The wanted reading comes next: over something that the walk's job is steady over, its directory is at the first awaited address. It is wanted there, by options that read as the job's.
@@ -21,8 +21,8 @@ module _ {C S P A R E : Type 0} (files : FileSystem.Ghosts S) (process : Process
     pub some : awaited ≢ []
     pub next : address wanted.address ≡ next_address awaited
     pub options : ReadsAs (options_of origin.job) (options_value wanted.options)
-    pub directory : Spec R
-    pub wanted_one : IsDirectory wanted directory
+    pub of : Spec R
+    pub wanted_one : of.directory ≡ wanted_directory wanted
     pub given : Given R E
     pub steady : IsSteadyJob files process clone defaults origin.job given
-    pub stands : spec_at files process clone defaults origin given (next_address awaited) ≡ Some (counted_spec given directory)
+    pub stands : spec_at files process clone defaults origin given (next_address awaited) ≡ Some (counted_spec given of)

@@ -34,7 +34,7 @@ one_leaves at old new hands = omega (arith, length_permutation old.done (at ∷ 
 
 -- a clone of a directory below an entry is below it
 clone_below : {R E : Type 0} (is_clone : R → R → Type 0) (state : R) (e : Entry R E) (c : Children R) (made : Spec R) → IsClone is_clone (spec_below state e c) made → (o : Option (Children R)) → o ≡ Some c → e.read_children ≡ o → IsBelow (Ok e) made
-clone_below is_clone state e c made clone o is same = rw (same, is) (record { path = clone.1; depth = clone.0; ancestors = clone.2 })
+clone_below is_clone state e c made clone o is same = rw (same, is) clone.0
 
 found_below : {R E : Type 0} (b : Bool) (is_clone : R → R → Type 0) (state : R) (e : Entry R E) (c : Children R) (made : Spec R) → e.read_children ≡ Some c → IsClone is_clone (spec_below state e c) made → IsNextBelow b (Ok e) (made ∷ [])
 found_below false is_clone state e c made is same = tt

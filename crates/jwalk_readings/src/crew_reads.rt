@@ -1,5 +1,5 @@
 //! Readings that a crew makes ahead.
-ghost use Rattle.std.specs.Prelude.{◌≡◌, ◌≢◌, ◌≤◌, ◌↔◌, ◌∷◌, ◌++◌, true, false, IsTrue, Ok, [], length, map, IfOk, IfErr, MatchResult, OnErr, OnOk, option_map};
+ghost use Rattle.std.specs.Prelude.{◌≡◌, ◌≢◌, ◌≤◌, ◌↔◌, ◌++◌, true, false, IsTrue, Ok, [], length, map, IfOk, IfErr, MatchResult, OnErr, OnOk, option_map};
 ghost use Rattle.std.specs.Arc.{arc_value};
 ghost use Rattle.jwalk_model.specs.ReadDir.{children_of};
 ghost use Rattle.jwalk_order.specs.Frontier.{passed};
@@ -77,9 +77,7 @@ fn is_below<C: ClientState, A: Allocator + Copy>(
     let Some(children) = &found.read_children else {
         return false;
     };
-    of.path.as_str() == children.path()
-        && of.depth() == found.depth
-        && of.ancestors().is_same(found.ancestors())
+    of.is_directory(found.depth, children.path(), found.ancestors())
 }
 
 impl<

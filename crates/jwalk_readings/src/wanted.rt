@@ -3,7 +3,7 @@ ghost use Rattle.std.specs.Prelude.{◌↔◌, IsTrue, IfOk};
 ghost use Rattle.jwalk_order.specs.IndexPath.{address as indices_of};
 ghost use Rattle.jwalk_job.specs.ReadDirSpec.{spec};
 ghost use Rattle.jwalk_job.specs.Options.{options_value};
-ghost use Rattle.jwalk_readings.specs.Wanted.{Fits, IsDirectory, IsFor};
+ghost use Rattle.jwalk_readings.specs.Wanted.{Fits, IsFor};
 
 use crate::message::Message;
 use jwalk_fs::file_system::FileSystem;
@@ -65,15 +65,6 @@ impl<A: Allocator + Copy> Wanted<A> {
         })
     }
 
-    /// Returns whether it is this directory that is waited for.
-    fn is_directory<C: ClientState>(&self, of: &ReadDirSpec<C, A>) -> bool
-        ensures { IsTrue result ↔ IsDirectory self.now (spec of.now) }
-    {
-        of.path.as_str() == self.path.as_str()
-            && of.depth() == self.depth
-            && of.ancestors().is_same(&self.ancestors)
-    }
-
     /// Returns whether a message that was handed out is the reading waited for.
     pub fn fits<C: ClientState, S: FileSystem, P: ProcessReadDir<C, A>>(
         &self,
@@ -82,7 +73,7 @@ impl<A: Allocator + Copy> Wanted<A> {
         ensures { IsTrue result ↔ Fits self.now item.now }
     {
         item.index_path == self.address
-            && self.is_directory(item.value.of())
+            && item.value.of().is_directory(self.depth, self.path.as_str(), &self.ancestors)
             && item.value.job().options().reads_as(self.options)
     }
 }
