@@ -35,7 +35,7 @@ impl<C: ClientState, A: Allocator + Copy, B: Readings<C, A>> Drop for Entries<C,
 }
 
 impl<C: ClientState, A: Allocator + Copy, B: Readings<C, A>> Entries<C, A, B> {
-    ghost use Rattle.std.specs.Prelude.{◌≤◌, ◌++◌, [], false, length, OnOk, IsSome, IfSome, IfNone, IsSomeAnd, option_map, map};
+    ghost use Rattle.std.specs.Prelude.{◌++◌, [], false, OnOk, IsSome, IfSome, IfNone, option_map, map};
     ghost use Rattle.jwalk_model.specs.Listing.{is_answered};
     ghost use Rattle.jwalk_job.specs.ReadDir.{reading, outcome};
     ghost use Rattle.jwalk_readings.specs.ReadAhead.{nothing_ahead};

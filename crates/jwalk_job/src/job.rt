@@ -2,7 +2,6 @@
 ghost use Rattle.std.specs.Prelude.{◌≡◌, ◌+◌, ◌<◌, ◌^◌, None, Some, if◌then◌else◌, IfOk, IfErr, length, map, option_map, option_to_list, string_bytes};
 ghost use Rattle.jwalk_model.specs.Entry.{AtDepth, children_at};
 ghost use Rattle.jwalk_model.specs.Paths.{join};
-ghost use Rattle.jwalk_model.specs.Seen.{type_seen};
 ghost use Rattle.jwalk_model.specs.Job as value;
 ghost use Rattle.jwalk_fs.specs.Views.{named_as, FailsAs};
 ghost use Rattle.jwalk_job.specs.Text.{text};

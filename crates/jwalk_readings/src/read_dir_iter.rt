@@ -1,10 +1,9 @@
 //! Readings in preorder.
-ghost use Rattle.std.specs.Prelude.{◌≡◌, ◌≢◌, ◌≤◌, ◌+◌, true, false, Ok, [], length, map, IfOk, IfErr, OnOk, OnErr, IsSome, option_map};
+ghost use Rattle.std.specs.Prelude.{◌≡◌, ◌≤◌, ◌+◌, true, false, Ok, [], length, map, IfOk, IfErr, OnOk, OnErr, IsSome};
 ghost use Rattle.jwalk_model.specs.Error.{memory};
 ghost use Rattle.jwalk_job.specs.Error.{failure};
 ghost use Rattle.jwalk_job.specs.Entry.{entry};
 ghost use Rattle.jwalk_job.specs.ReadDirSpec.{spec};
-ghost use Rattle.jwalk_job.specs.ReadDir.{outcome};
 ghost use Rattle.jwalk_job.specs.Job.{callback};
 
 mod on_threads;
@@ -74,7 +73,7 @@ impl<
     ghost use Rattle.jwalk_readings.specs.ReadDirIter.{by_crew, job_of, to_read, width_of, read_ahead, early_of, frontier_of, most_ahead, CountsAhead, StaysSteady, Gives, GivesOf};
     ghost use Rattle.jwalk_readings.specs.Sources.{base_of};
 
-    /// Returns the readings of no directory yet, which no crew makes. They begin with [`begin`](ReadDirIter::begin).
+    /// Returns readings that no crew makes, of no directory yet: [`begin`](ReadDirIter::begin) says of which.
     pub fn new(alloc: A, job: Job<C, S, P, A>, mode: Mode) -> Self
         ensures own { by_crew result ≡ false }
         ensures job { job_of result ≡ job }
@@ -86,8 +85,8 @@ impl<
         ReadDirIter::Walk(BatchReads::new(alloc, job, mode.width()))
     }
 
-    /// Begins the readings of these directories and of all that is below them, in place of those before. No crew may be
-    /// the one that reads.
+    /// Begins the readings of these directories and of all that is below them, in place of those before. The
+    /// readings must be ones that no crew makes.
     ///
     /// # Errors
     ///
@@ -180,7 +179,8 @@ impl<
         }
     }
 
-    /// Drops what is not read yet, and what was read early.
+    /// Drops what is not read yet, and what was read early. Over a crew its workers end, and the call may block for a
+    /// lock.
     pub fn stop(&mut self)
         ensures base { base_of self.new ≡ base_of self.old }
         ensures to_read { to_read self.new ≡ [] }

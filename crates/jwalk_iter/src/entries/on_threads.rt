@@ -5,7 +5,6 @@ ghost use Rattle.jwalk_job.specs.Job.{callback};
 use crate::dir_entry_iter::DirEntryIter;
 use jwalk_fs::file_system::FileSystem;
 use jwalk_job::client_state::ClientState;
-use jwalk_job::dir_entry::DirEntry;
 use jwalk_job::error::Error;
 use jwalk_job::item::{Item, List};
 use jwalk_job::process_read_dir::ProcessReadDir;

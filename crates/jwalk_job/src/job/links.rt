@@ -9,7 +9,7 @@ ghost use Rattle.jwalk_job.specs.Text.{text};
 ghost use Rattle.jwalk_job.specs.Ancestors.{texts};
 ghost use Rattle.jwalk_job.specs.Error.{failure};
 ghost use Rattle.jwalk_job.specs.Entry.{entry, item, children};
-ghost use Rattle.jwalk_job.specs.Given.{Given, counted_item, counted_entry, DefaultsCount};
+ghost use Rattle.jwalk_job.specs.Given.{counted_item, counted_entry, DefaultsCount};
 ghost use Rattle.jwalk_job.specs.Job.{file_system, options_of, job_by, ByValue};
 ghost use Rattle.jwalk_job.specs.Inside.{IsAsked, AsksOn};
 

@@ -9,7 +9,7 @@ ghost use Rattle.jwalk_job.specs.Error.{failure};
 ghost use Rattle.jwalk_job.specs.Entry.{entry, item};
 ghost use Rattle.jwalk_job.specs.ReadDir.{reading};
 ghost use Rattle.jwalk_job.specs.Given.{Given, counted_item, counted_reading, counted_entry, KeepsLists};
-ghost use Rattle.jwalk_job.specs.Job.{file_system, callback, options_of, job_by, IsSteadyJob, ByValue};
+ghost use Rattle.jwalk_job.specs.Job.{file_system, callback, job_by, IsSteadyJob, ByValue};
 
 use super::Job;
 use super::inside::Inside;

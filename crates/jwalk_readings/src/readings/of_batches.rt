@@ -1,5 +1,5 @@
 //! A walk's own batches as its readings.
-ghost use Rattle.std.specs.Prelude.{◌≡◌, ◌≢◌, ◌≤◌, List, [], length, false, IfOk, IfErr, OnErr};
+ghost use Rattle.std.specs.Prelude.{◌≡◌, length, false};
 ghost use Rattle.jwalk_job.specs.Job.{callback};
 ghost use Rattle.jwalk_readings.specs.BatchReads as board;
 ghost use Rattle.jwalk_readings.specs.BatchReads.{IsSteadyBatches};

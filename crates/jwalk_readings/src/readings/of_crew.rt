@@ -1,5 +1,5 @@
 //! A crew's readings.
-ghost use Rattle.std.specs.Prelude.{◌≡◌, ◌≢◌, ◌≤◌, List, [], length, true, IfOk, IfErr, OnErr};
+ghost use Rattle.std.specs.Prelude.{◌≤◌};
 ghost use Rattle.jwalk_job.specs.Job.{callback};
 ghost use Rattle.jwalk_readings.specs.CrewReads as crew;
 ghost use Rattle.jwalk_readings.specs.CrewReads.{IsSteadyCrew};

@@ -1,5 +1,4 @@
 //! Readings that a crew may make.
-ghost use Rattle.std.specs.Prelude.{◌≡◌, ◌≢◌, ◌≤◌, List, [], length, IfOk, IfErr, OnErr};
 ghost use Rattle.jwalk_job.specs.Job.{callback};
 ghost use Rattle.jwalk_readings.specs.ReadDirIter as reads;
 ghost use Rattle.jwalk_readings.specs.ReadDirIter.{IsSteadyReads};
