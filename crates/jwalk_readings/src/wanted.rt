@@ -72,8 +72,9 @@ impl<A: Allocator + Copy> Wanted<A> {
     ) -> bool
         ensures { IsTrue result ↔ Fits self.now item.now }
     {
+        let of = item.value.of();
         item.index_path == self.address
-            && item.value.of().is_directory(self.depth, self.path.as_str(), &self.ancestors)
+            && of.is_directory(self.depth, self.path.as_str(), &self.ancestors)
             && item.value.job().options().reads_as(self.options)
     }
 }
