@@ -60,6 +60,12 @@ is_over_in Unasked = false
 is_over_in (Taken x) = false
 is_over_in Over = true
 
+-- whether an answer was taken that isn't counted yet
+abbrev pub is_taken_in : {C A R E : Type 0} → Ahead C A R E → Bool
+is_taken_in Unasked = false
+is_taken_in (Taken x) = true
+is_taken_in Over = false
+
 -- The walk may be called and ends, unless it has ended.
 abbrev pub MayAsk : {I : Type 0} → (I → Type 0) → (I → Count) → Bool → I → Type 0
 MayAsk can left true answers = Unit {0}
@@ -85,6 +91,10 @@ module _ {C A I R E : Type 0} where
   -- whether the walk has ended
   abbrev pub is_over : Subtotals C A I R E → Bool
   is_over s = is_over_in s.ahead
+
+  -- whether an answer was taken that isn't counted yet
+  abbrev pub is_taken : Subtotals C A I R E → Bool
+  is_taken s = is_taken_in s.ahead
 
   -- whether an error was yielded behind which nothing comes
   abbrev pub is_stopped : Subtotals C A I R E → Bool

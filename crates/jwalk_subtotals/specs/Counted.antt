@@ -28,8 +28,13 @@ allocated (Some m) = allocated_in m.len m.details
 abbrev pub size_kept : Bool → Option Metadata → ℕ
 size_kept apparent seen = if apparent then length_kept seen else allocated seen
 
+-- the details of metadata that are kept
+abbrev pub details_seen : Option Metadata → Option Details
+details_seen None = None
+details_seen (Some m) = m.details
+
 -- which file it is, if another name may lead to it: where links are followed, or if it has more than one
-abbrev shared_in : Bool → Option Details → Option Identity
+abbrev pub shared_in : Bool → Option Details → Option Identity
 shared_in follows None = None
 shared_in follows (Some d) = if is_known d.identity && (follows || nat_lt 1 d.links) then Some d.identity else None
 
@@ -78,13 +83,17 @@ module _ {R E : Type 0} where
   abbrev pub counted_once : SubtotalOptions → Entry R E → Option Identity
   counted_once options e = if options.each_name || is_dir e.file_type then None else shared_by (is_kept e.ancestors) e.seen
 
-  -- what an entry counts by itself: its size and that of a file unless they were counted before, its type, and the error of its directory
-  abbrev pub own : Bool → Bool → Entry R E → Subtotal
-  own apparent again e = record (counted_by_type e.file_type) {
-    bytes = if again then 0 else size_kept apparent e.seen;
-    file_bytes = if again then 0 else (if is_file e.file_type then length_kept e.seen else 0);
+  -- what an entry of these bytes and this length counts by itself: its size and that of a file unless they were counted before, its type, and the error of its directory
+  abbrev pub own_sized : ℕ → ℕ → Bool → Entry R E → Subtotal
+  own_sized bytes length again e = record (counted_by_type e.file_type) {
+    bytes = if again then 0 else bytes;
+    file_bytes = if again then 0 else (if is_file e.file_type then length else 0);
     errors = one_if (has_failed e.read_children);
   }
+
+  -- the same by what it keeps
+  abbrev pub own : Bool → Bool → Entry R E → Subtotal
+  own apparent again e = own_sized (size_kept apparent e.seen) (length_kept e.seen) again e
 
   -- each answer of a list with what it counts by itself, where these files were counted before
   abbrev pub weighed : SubtotalOptions → List Identity → List (Item R E) → List (Weighed R E)

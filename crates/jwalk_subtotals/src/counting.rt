@@ -1,35 +1,42 @@
 //! What one answer counts by itself.
-ghost use Rattle.std.specs.Prelude.{◌≡◌};
-ghost use Rattle.std.specs.Option.{option_copied};
+ghost use Rattle.std.specs.Prelude.{◌≡◌, Some};
 ghost use Rattle.jwalk.specs.jwalk_job.Entry.{entry};
-ghost use Rattle.jwalk_subtotals.specs.Counted.{size_kept, shared_by, counted_once, counted_by_type, one_error, own};
+ghost use Rattle.jwalk_usage.specs.Kept.{length_kept};
+ghost use Rattle.jwalk_subtotals.specs.Counted.{size_kept, details_seen, shared_in, counted_once, counted_by_type, one_error, own_sized};
 
 use crate::options::SubtotalOptions;
 use crate::subtotal::Subtotal;
-use jwalk::file_system::{FileType, Identity, Metadata};
+use jwalk::file_system::{Details, FileType, Identity, Metadata};
 use jwalk::read_dir::Ancestors;
 use jwalk::{ClientState, DirEntry};
 use std::alloc::Allocator;
 
-/// Returns the bytes of what kept this metadata: the length if lengths are asked for, else its blocks, or the length
-/// where blocks aren't known. It is 0 if none were kept.
-fn size_kept(apparent: bool, seen: Option<&Metadata>) -> u128
-    ensures { result ≡ size_kept apparent (option_copied seen.entry) }
+/// What the metadata that an entry keeps say of its size.
+#[derive(Drop)]
+pub(crate) struct Size {
+    /// The length if lengths are asked for, else the bytes of its blocks, or the length where blocks aren't known.
+    bytes: u128,
+    length: u128,
+    /// Which file it is, if it is no directory and its size is counted once only.
+    pub(crate) file: Option<Identity>,
+}
+
+/// Returns the bytes of metadata with these details.
+fn size_kept(apparent: bool, metadata: &Metadata, details: &Option<Details>) -> u128
+    requires { details.now ≡ metadata.now.details }
+    ensures { result ≡ size_kept apparent (Some metadata.now) }
 {
-    let Some(metadata) = seen else {
-        return 0;
-    };
-    match metadata.details() {
+    match details {
         Some(details) if !apparent => 512 * details.blocks as u128,
         _ => metadata.len() as u128,
     }
 }
 
 /// Returns which file it is, if another name may lead to it: `follows` says that links are followed.
-fn shared_by(follows: bool, seen: Option<&Metadata>) -> Option<Identity>
-    ensures { result ≡ shared_by follows (option_copied seen.entry) }
+fn shared_in(follows: bool, details: &Option<Details>) -> Option<Identity>
+    ensures { result ≡ shared_in follows details.now }
 {
-    let details = seen?.details()?;
+    let details = details.as_ref()?;
     if details.identity.is_known() && (follows || details.links > 1) {
         Some(details.identity)
     } else {
@@ -37,36 +44,61 @@ fn shared_by(follows: bool, seen: Option<&Metadata>) -> Option<Identity>
     }
 }
 
-/// Returns which file an entry is, if it is no directory and its size is counted once only.
-pub(crate) fn counted_once<C: ClientState, A: Allocator + Copy>(
+/// Returns which file an entry with these details is, if it is no directory and its size is counted once only.
+fn counted_once<C: ClientState, A: Allocator + Copy>(
     options: &SubtotalOptions,
     found: &DirEntry<C, A>,
+    details: &Option<Details>,
 ) -> Option<Identity>
+    requires { details.now ≡ details_seen (entry found.now).seen }
     ensures { result ≡ counted_once options.now (entry found.now) }
 {
     if options.each_name || found.file_type().is_dir() {
         return None;
     }
     let follows = !found.ancestors().is_same(&Ancestors::none());
-    shared_by(follows, found.metadata_seen())
+    shared_in(follows, details)
 }
 
-/// Returns what an entry counts by itself. `again` says that its size was counted before.
+/// Returns the size of an entry. The details are taken out of its metadata once, which is what costs most here.
+pub(crate) fn size_of<C: ClientState, A: Allocator + Copy>(
+    options: &SubtotalOptions,
+    found: &DirEntry<C, A>,
+) -> Size
+    ensures bytes { result.bytes ≡ size_kept options.now.apparent (entry found.now).seen }
+    ensures length { result.length ≡ length_kept (entry found.now).seen }
+    ensures file { result.file ≡ counted_once options.now (entry found.now) }
+{
+    let Some(metadata) = found.metadata_seen() else {
+        return Size {
+            bytes: 0,
+            length: 0,
+            file: counted_once(options, found, &None),
+        };
+    };
+    let details = metadata.details();
+    Size {
+        bytes: size_kept(options.apparent, metadata, &details),
+        length: metadata.len() as u128,
+        file: counted_once(options, found, &details),
+    }
+}
+
+/// Returns what an entry of this size counts by itself. `again` says that its size was counted before.
 pub(crate) fn own<C: ClientState, A: Allocator + Copy>(
-    apparent: bool,
+    size: &Size,
     again: bool,
     found: &DirEntry<C, A>,
 ) -> Subtotal
-    ensures { result ≡ own apparent again (entry found.now) }
+    ensures { result ≡ own_sized size.now.bytes size.now.length again (entry found.now) }
 {
-    let seen = found.metadata_seen();
     let file_type = found.file_type();
     Subtotal {
-        bytes: if again { 0 } else { size_kept(apparent, seen) },
+        bytes: if again { 0 } else { size.bytes },
         file_bytes: if again || !file_type.is_file() {
             0
         } else {
-            size_kept(true, seen)
+            size.length
         },
         errors: found.read_children_error().is_some() as u128,
         ..of_type(file_type)

@@ -5,7 +5,7 @@ ghost use Rattle.jwalk.specs.jwalk_job.Entry.{entry};
 ghost use Rattle.jwalk_subtotals.specs.Subtotals.{is_asked};
 ghost use Rattle.jwalk_subtotals.specs.Coming.{CanGoOn, Gives, weight};
 
-use crate::counting::{counted_once, one_error, own};
+use crate::counting::{one_error, own, size_of};
 use crate::error::{SubtotalError, ends_walk};
 use crate::files::Files;
 use crate::options::SubtotalOptions;
@@ -83,7 +83,7 @@ impl<C: ClientState, A: Allocator + Copy, I: Iterator<Item = Answer<DirEntry<C, 
     ghost use Rattle.std.specs.Iterator.{IsFinite};
     ghost use Rattle.jwalk_subtotals.specs.declared.iter.Turn.TheVariants.{Yields, GoesOn};
     ghost use Rattle.jwalk_subtotals.specs.declared.iter.Ahead.TheVariants.{Unasked, Taken, Over};
-    ghost use Rattle.jwalk_subtotals.specs.Coming.{answers_of, options_of, held, is_stopped, IsFreshBeside};
+    ghost use Rattle.jwalk_subtotals.specs.Coming.{answers_of, options_of, held, is_stopped, is_taken, IsFreshBeside};
     ghost use Rattle.jwalk_subtotals.specs.Files.{files_of};
     ghost use Rattle.jwalk_subtotals.specs.Error.{is_last};
     ghost use Rattle.jwalk_subtotals.specs.Stack.{open_total};
@@ -154,8 +154,9 @@ impl<C: ClientState, A: Allocator + Copy, I: Iterator<Item = Answer<DirEntry<C, 
         ensures last { IfErr result (λ error. is_last error ≡ true) }
         ensures too_many { IfErr result (λ error. error ≡ TooMany → CannotEnter (options_of self.old) (held self.old) (entry found)) }
     {
-        let again = self.files.insert(counted_once(&self.options, &found))?;
-        let counted = own(self.options.apparent, again, &found);
+        let size = size_of(&self.options, &found);
+        let again = self.files.insert(size.file)?;
+        let counted = own(&size, again, &found);
         if is_asked(&self.options, &found) {
             self.stack.push(found, counted)?;
         } else {
@@ -233,6 +234,21 @@ impl<C: ClientState, A: Allocator + Copy, I: Iterator<Item = Answer<DirEntry<C, 
         }
     }
 
+    /// Places the answer that was taken.
+    fn place_taken(&mut self) -> Turn<C, A>
+        requires can { I.can_next (answers_of self.old) }
+        requires ends { IsFinite (I.remaining (answers_of self.old)) }
+        requires runs { is_stopped self.old ≡ false }
+        requires taken { is_taken self.old ≡ true }
+        ensures { Turns I.next_gives I.can_next I.remaining self.old result self.new }
+    {
+        match mem::replace(&mut self.ahead, Ahead::Unasked) {
+            Ahead::Taken(Ok(found)) => self.place(found),
+            Ahead::Taken(Err(error)) => self.place_error(error),
+            Ahead::Unasked | Ahead::Over => unreachable!(),
+        }
+    }
+
     /// Counts an answer or closes an entry.
     fn turn(&mut self) -> Turn<C, A>
         requires { CanGoOn I.can_next I.remaining self.old }
@@ -241,14 +257,10 @@ impl<C: ClientState, A: Allocator + Copy, I: Iterator<Item = Answer<DirEntry<C, 
         if self.stopped {
             return Turn::Ends;
         }
-        match mem::replace(&mut self.ahead, Ahead::Unasked) {
+        match &self.ahead {
             Ahead::Unasked => self.take(),
-            Ahead::Taken(Ok(found)) => self.place(found),
-            Ahead::Taken(Err(error)) => self.place_error(error),
-            Ahead::Over => {
-                self.ahead = Ahead::Over;
-                self.close_last()
-            }
+            Ahead::Taken(_) => self.place_taken(),
+            Ahead::Over => self.close_last(),
         }
     }
 }
