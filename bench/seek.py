@@ -218,7 +218,8 @@ WORDS = [
     *[["-F", text] for text in [".foo", "a.", "*"]],
     *[[word, "FOO"] for word in ["-i", "-s", "-is", "-si"]],
     *[["-e", text] for text in ["foo", ".foo", "rs", "FOO"]],
-    *[["-t", kind] for kind in ["f", "d", "l", "x", "p", "file", "directory", "symlink", "executable", "pipe"]],
+    *[["-t", kind] for kind in ["f", "d", "l", "x", "p", "e", "file", "directory", "symlink", "executable", "pipe", "empty"]],
+    *[["-te", *words] for words in [["-tf"], ["-td"], ["-tl"], ["-tp"], ["-tx"], ["-H"], ["-L"], ["-I"], ["--prune"], ["-1", "three"], ["-q", "a.foo"], ["-q", "x"]]],
     *[["-t", "f", "-t", "l"], ["-p", "one/two"], ["foo", "--and", "a"]],
     *[[f"-S{size}"] for size in ["+1k", "-1k", "1k", "+1ki", "-2ki", "10b", "+0b"]],
     *[[f"--changed-within={time}"] for time in ["1h", "2weeks", "2020-01-01 00:00:00"]],
@@ -246,6 +247,8 @@ WORDS = [
 def grow(top):
     """Makes the tree of `words`, in a repository."""
     os.makedirs(os.path.join(top, "one", "two", "three"))
+    os.makedirs(os.path.join(top, "one", "none"))
+    os.makedirs(os.path.join(top, "one", "within", "none"))
     os.mkdir(os.path.join(top, ".git"))
     sizes = {"a.foo": 10, "one/b.foo": 1000, "one/two/c.foo": 1024, "one/two/C.Foo2": 5000, "one/two/three/d.rs": 0}
     for name in ["ignored-by-fd", "ignored-by-git", ".hidden.foo", "one/x", "one/old.foo", "spaces in it"]:

@@ -12,7 +12,7 @@ _seek() {
     --min-depth) compopt +o default; return ;;
     -d | --max-depth | --maxdepth) compopt +o default; return ;;
     --exact-depth) compopt +o default; return ;;
-    -t | --type) compopt +o default; COMPREPLY=($(compgen -W "f file d dir directory l symlink x executable p pipe s socket b block-device c char-device o other" -- "$word")); return ;;
+    -t | --type) compopt +o default; COMPREPLY=($(compgen -W "f file d dir directory l symlink x executable p pipe s socket b block-device c char-device e empty o other" -- "$word")); return ;;
     -e | --extension) compopt +o default; return ;;
     -S | --size) compopt +o default; return ;;
     -o | --owner) compopt +o default; return ;;

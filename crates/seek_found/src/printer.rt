@@ -5,11 +5,13 @@ ghost use Rattle.std.specs.Io.KnownBytes.{Appends, append_known};
 ghost use Rattle.jwalk_job.specs.Entry.{entry, item};
 ghost use Rattle.seek_words.specs.Filter.{sought_of};
 ghost use Rattle.seek_words.specs.Lines.{form_of, gathered_of};
+ghost use Rattle.seek_words.specs.Sought.{IfEmpties};
 ghost use Rattle.seek_found.specs.Found.{entry_line, found_line, found_lines, is_clean};
 ghost use Rattle.seek_found.specs.Limit.{is_hit, left_after, one_less};
 ghost use Rattle.seek_found.specs.Prune.{below_after, is_below, unpruned_behind};
 
 use crate::report::{report_entry, report_error};
+use jwalk_fs::file_system::FileSystem;
 use jwalk_job::client_state::ClientState;
 use jwalk_job::dir_entry::DirEntry;
 use jwalk_job::error::Result as Answer;
@@ -62,30 +64,31 @@ fn is_below<C: ClientState, A: Allocator + Copy>(
 }
 
 /// Returns whether the entry passes the filter.
-fn print_entry<T: NameTest, C: ClientState, A: Allocator + Copy, W: Write>(
+fn print_entry<T: NameTest, S: FileSystem, C: ClientState, A: Allocator + Copy, W: Write>(
     filter: &mut Filter<'_, T>,
     lines: &mut Lines,
+    disk: &S,
     found: &DirEntry<C, A>,
     out: &mut W,
 ) -> Result<bool, Halt>
-    ensures hit { IfOk result (λ passes. passes ≡ is_hit (sought_of T.takes filter.old) (Ok (entry found.now))) }
-    ensures printed { OnOk result (Appends (append_known (W.contents out.old) (gathered_of lines.old))
+    ensures hit { IfOk result (λ passes. IfEmpties (S.IsFixed disk.now) (sought_of T.takes (S.functions disk.now) filter.old)
+        → passes ≡ is_hit (sought_of T.takes (S.functions disk.now) filter.old) (Ok (entry found.now))) }
+    ensures printed { OnOk result (IfEmpties (S.IsFixed disk.now) (sought_of T.takes (S.functions disk.now) filter.old)
+        → Appends (append_known (W.contents out.old) (gathered_of lines.old))
         (append_known (W.contents out.new) (gathered_of lines.new))
-        (entry_line (sought_of T.takes filter.old) (form_of lines.old) (entry found.now))) }
-    ensures sought { sought_of T.takes filter.new ≡ sought_of T.takes filter.old }
+        (entry_line (sought_of T.takes (S.functions disk.now) filter.old) (form_of lines.old) (entry found.now))) }
+    ensures sought { sought_of T.takes (S.functions disk.now) filter.new ≡ sought_of T.takes (S.functions disk.now) filter.old }
     ensures form { form_of lines.new ≡ form_of lines.old }
 {
-    let (folder, name) = (found.parent_path(), found.file_name());
-    let seen = found.metadata_seen();
-    if !filter.passes(found.depth(), found.file_type(), folder, name, seen)? {
-        return Ok(false);
-    }
     let shown = Shown {
         file_type: found.file_type(),
-        seen,
-        folder,
-        name,
+        seen: found.metadata_seen(),
+        folder: found.parent_path(),
+        name: found.file_name(),
     };
+    if !filter.passes(disk, found.depth(), shown)? {
+        return Ok(false);
+    }
     lines.print(shown, out)?;
     Ok(true)
 }
@@ -99,26 +102,28 @@ impl<'w, T: NameTest> Printer<'w, T> {
         matches!(self.left, Some(0))
     }
 
-    fn print_kept<C: ClientState, A: Allocator + Copy, W: Write, E: Write>(
+    fn print_kept<S: FileSystem, C: ClientState, A: Allocator + Copy, W: Write, E: Write>(
         &mut self,
         answer: &Answer<DirEntry<C, A>, A>,
         below: &mut Option<usize>,
+        disk: &S,
         out: &mut W,
         err: &mut E,
     ) -> Result<bool, Halt>
         ensures clean { IfOk result (λ clean. clean ≡ is_clean (item answer.now)) }
-        ensures printed { OnOk result (Appends (append_known (W.contents out.old) (gathered_of self.old.lines))
+        ensures printed { OnOk result (IfEmpties (S.IsFixed disk.now) (sought_of T.takes (S.functions disk.now) self.old.filter)
+            → Appends (append_known (W.contents out.old) (gathered_of self.old.lines))
             (append_known (W.contents out.new) (gathered_of self.new.lines))
-            (found_line (sought_of T.takes self.old.filter) (form_of self.old.lines) (item answer.now))) }
-        ensures left { OnOk result (self.new.left
-            ≡ left_after (sought_of T.takes self.old.filter) self.old.left (item answer.now ∷ [])) }
-        ensures below { OnOk result (below.new ≡ below_after (sought_of T.takes self.old.filter) below.old (item answer.now)) }
-        ensures sought { sought_of T.takes self.new.filter ≡ sought_of T.takes self.old.filter }
+            (found_line (sought_of T.takes (S.functions disk.now) self.old.filter) (form_of self.old.lines) (item answer.now))) }
+        ensures left { OnOk result (IfEmpties (S.IsFixed disk.now) (sought_of T.takes (S.functions disk.now) self.old.filter) → self.new.left
+            ≡ left_after (sought_of T.takes (S.functions disk.now) self.old.filter) self.old.left (item answer.now ∷ [])) }
+        ensures below { OnOk result (IfEmpties (S.IsFixed disk.now) (sought_of T.takes (S.functions disk.now) self.old.filter) → below.new ≡ below_after (sought_of T.takes (S.functions disk.now) self.old.filter) below.old (item answer.now)) }
+        ensures sought { sought_of T.takes (S.functions disk.now) self.new.filter ≡ sought_of T.takes (S.functions disk.now) self.old.filter }
         ensures form { form_of self.new.lines ≡ form_of self.old.lines }
     {
         match answer {
             Ok(found) => {
-                let passes = print_entry(&mut self.filter, &mut self.lines, found, out)?;
+                let passes = print_entry(&mut self.filter, &mut self.lines, disk, found, out)?;
                 self.left = left_after(self.left, passes);
                 *below = pruned_at(self.filter.prunes, passes, found.depth());
                 Ok(report_entry(found, err))
@@ -132,34 +137,37 @@ impl<'w, T: NameTest> Printer<'w, T> {
 
     /// Prints the line of an answer, if it is an entry that passes. Reports the error, if there is one. Returns whether
     /// there is none. An answer that is deeper than `below` is left out. `below` is the depth of the last entry that
-    /// passed, if nothing below it is looked for.
+    /// passed, if nothing below it is looked for. The disk is asked about directories if only empty entries are looked
+    /// for.
     ///
     /// # Errors
     ///
     /// If memory runs out, or if the output can't be written.
-    pub fn print<C: ClientState, A: Allocator + Copy, W: Write, E: Write>(
+    pub fn print<S: FileSystem, C: ClientState, A: Allocator + Copy, W: Write, E: Write>(
         &mut self,
         answer: Answer<DirEntry<C, A>, A>,
         below: &mut Option<usize>,
+        disk: &S,
         out: &mut W,
         err: &mut E,
     ) -> Result<bool, Halt>
         ensures clean { IfOk result (λ clean. clean ≡ list_all is_clean
-            (unpruned_behind (sought_of T.takes self.old.filter) below.old (item answer ∷ []))) }
-        ensures printed { OnOk result (Appends (append_known (W.contents out.old) (gathered_of self.old.lines))
+            (unpruned_behind (sought_of T.takes (S.functions disk.now) self.old.filter) below.old (item answer ∷ []))) }
+        ensures printed { OnOk result (IfEmpties (S.IsFixed disk.now) (sought_of T.takes (S.functions disk.now) self.old.filter)
+            → Appends (append_known (W.contents out.old) (gathered_of self.old.lines))
             (append_known (W.contents out.new) (gathered_of self.new.lines))
-            (found_lines (sought_of T.takes self.old.filter) (form_of self.old.lines)
-            (unpruned_behind (sought_of T.takes self.old.filter) below.old (item answer ∷ [])))) }
-        ensures left { OnOk result (self.new.left ≡ left_after (sought_of T.takes self.old.filter) self.old.left
-            (unpruned_behind (sought_of T.takes self.old.filter) below.old (item answer ∷ []))) }
-        ensures below { OnOk result (below.new ≡ (if is_below below.old (item answer) then below.old
-            else below_after (sought_of T.takes self.old.filter) below.old (item answer))) }
-        ensures sought { sought_of T.takes self.new.filter ≡ sought_of T.takes self.old.filter }
+            (found_lines (sought_of T.takes (S.functions disk.now) self.old.filter) (form_of self.old.lines)
+            (unpruned_behind (sought_of T.takes (S.functions disk.now) self.old.filter) below.old (item answer ∷ [])))) }
+        ensures left { OnOk result (IfEmpties (S.IsFixed disk.now) (sought_of T.takes (S.functions disk.now) self.old.filter) → self.new.left ≡ left_after (sought_of T.takes (S.functions disk.now) self.old.filter) self.old.left
+            (unpruned_behind (sought_of T.takes (S.functions disk.now) self.old.filter) below.old (item answer ∷ []))) }
+        ensures below { OnOk result (IfEmpties (S.IsFixed disk.now) (sought_of T.takes (S.functions disk.now) self.old.filter) → below.new ≡ (if is_below below.old (item answer) then below.old
+            else below_after (sought_of T.takes (S.functions disk.now) self.old.filter) below.old (item answer))) }
+        ensures sought { sought_of T.takes (S.functions disk.now) self.new.filter ≡ sought_of T.takes (S.functions disk.now) self.old.filter }
         ensures form { form_of self.new.lines ≡ form_of self.old.lines }
     {
         if is_below(*below, &answer) {
             return Ok(true);
         }
-        self.print_kept(&answer, below, out, err)
+        self.print_kept(&answer, below, disk, out, err)
     }
 }

@@ -7,7 +7,10 @@ use Rattle.std.proofs.lemmas.Grind.{flat_map-append}
 use Rattle.std.proofs.lemmas.List.{map-append, take_more, nil_from_length}
 use Rattle.std.proofs.Math.ListN.{get_or}
 use Rattle.jwalk.specs.jwalk_model.Entry.{Item}
-use Rattle.seek_words.specs.Sought.{Sought}
+use Rattle.seek_words.specs.Empty.{bare_in}
+use Rattle.seek_words.specs.Filter.{sought_of}
+use Rattle.seek_words.specs.declared.filter.Filter.{Filter}
+use Rattle.seek_words.specs.Sought.{IfEmpties, Sought}
 use Rattle.seek_words.specs.Wanted.{Wants}
 use Rattle.seek_words.specs.Layout.{Form}
 use Rattle.seek_found.specs.Found.{found_lines, PrintsClean}
@@ -22,23 +25,39 @@ use Rattle.jwalk_ignore.specs.Rules.Texts.{Texts}
 use Rattle.std.specs.declared.sync.Arc.{Arc}
 use Rattle.jwalk_ignore.specs.declared.callback.kept_rules.KeptRules.{KeptRules}
 use Rattle.jwalk_ignore.specs.jwalk_ignore_rules.declared.rules.chain.Chain.{Chain}
+use Rattle.seek_found.specs.Sought.{takes_by}
+use Rattle.seek_found.specs.SoughtTest.{takes_of}
+use Rattle.seek_found.specs.declared.sought_test.SoughtTest.{SoughtTest}
 use Rattle.seek_found.specs.declared.sought.Sought.{Sought as Looked}
 use Rattle.seek_words.specs.AsksFor.{AskForText}
 use Rattle.seek_words.specs.declared.screen.Screen.{Screen}
 use Rattle.user_excludes.specs.declared.home.Home.{Home}
 use Rattle.jwalk_ignore.specs.jwalk_ignore_rules.declared.rules.with_excludes.WithExcludes.{WithExcludes}
-use Rattle.seek_search.specs.Goes.{CallsOf, LeavesOut}
+use Rattle.seek_search.specs.Goes.{ByRead, CallsOf, LeavesOut, PrintsYielded}
 use Rattle.seek_search.specs.Run.{Searches, SearchesFor}
-use Rattle.seek_search.specs.Search.{yielded_by}
+use Rattle.seek_search.specs.Search.{sought_before, yielded_by}
 use Rattle.seek_search.specs.declared.based.Based.{Based}
 use Rattle.seek_search.specs.declared.kept_links.KeptLinks.{KeptLinks}
 
--- what is looked for, by its parts
-pub sought_by : {w w' : Wants} {t t' : List ℕ → Bool → Bool} {f f' : Option (List ℕ)} (p : Bool) → w ≡ w' → t ≡ t' → f ≡ f'
-    → (let it : Sought = record { wanted = w; takes = t; front = f; prunes = p } in it) ≡ record { wanted = w'; takes = t'; front = f'; prunes = p }
-sought_by {w} {w'} {t} {t'} {f} {f'} p wanted takes front =
-    ap (λ (x : Wants). let it : Sought = record { wanted = x; takes = t; front = f; prunes = p } in it) wanted
-    ∙ ap₂ (λ (x : List ℕ → Bool → Bool) (y : Option (List ℕ)). let it : Sought = record { wanted = w'; takes = x; front = y; prunes = p } in it) takes front
+-- what is looked for over a file system, by its parts
+pub sought_by : {w w' : Wants} {t t' : List ℕ → Bool → Bool} {f f' : Option (List ℕ)} (p : Bool) (fs : Functions) → w ≡ w' → t ≡ t' → f ≡ f'
+    → (let it : Sought = record { wanted = w; takes = t; front = f; prunes = p; bare = bare_in fs } in it) ≡ record { wanted = w'; takes = t'; front = f'; prunes = p; bare = bare_in fs }
+sought_by {w} {w'} {t} {t'} {f} {f'} p fs wanted takes front =
+    ap (λ (x : Wants). let it : Sought = record { wanted = x; takes = t; front = f; prunes = p; bare = bare_in fs } in it) wanted
+    ∙ ap₂ (λ (x : List ℕ → Bool → Bool) (y : Option (List ℕ)). let it : Sought = record { wanted = w'; takes = x; front = y; prunes = p; bare = bare_in fs } in it) takes front
+
+-- what a filter looks for, over a disk by another name
+pub sought_over : {Z : Type 0} (functions : Z → Functions) {d d' : Z} (filter : Filter SoughtTest) {front : Option (List ℕ)} (asked : Asked) {takes : List ℕ → Bool → Bool} → d ≡ d'
+    → ((fs : Functions) → sought_of takes_of fs filter ≡ sought_before fs front asked takes) → sought_of takes_of (functions d) filter ≡ sought_before (functions d') front asked takes
+sought_over {Z} functions {d} {d'} filter {front} asked {takes} is sought = sought (functions d) ∙ ap (λ (x : Z). sought_before (functions x) front asked takes) is
+
+-- empty entries are looked for only if this holds, by another name of what is looked for
+pub empties_if : {sought sought' : Sought} {fixed fixed' : Type 0} → sought ≡ sought' → (fixed' → fixed) → IfEmpties fixed' sought' → IfEmpties fixed sought
+empties_if is fixes empties = λ empty. fixes (empties (sym (ap (λ (s : Sought). s.wanted.kinds.empty) is) ∙ empty))
+
+-- what is known of a search by some texts, and so more
+by_read : {X : Type 0} {texts : X} {is be : WithExcludes X → List ℕ → Type 0} → ((reads : WithExcludes X) (lines : List ℕ) → is reads lines → be reads lines) → ByRead texts is → ByRead texts be
+by_read more (reads, behind, (lines, known)) = (reads, behind, (lines, more reads lines known))
 
 -- the text is printed by the same, with other facts of it
 pub printed_by : {R E : Type 0} (answers : Sought → List (Item R E)) {sought sought' : Sought} {form form' : Form} {old new : Option (List ℕ)} → sought ≡ sought' → form ≡ form' → PrintsClean (answers sought) sought form old new → PrintsClean (answers sought') sought' form' old new
@@ -127,22 +146,34 @@ one_more f before after paths i path below was is =
     ∙ ap (flat_map f) (map-append (λ it. it.now) (take i paths) (last ∷ []))
     ∙ flat_map-append f first (last.now ∷ []) ∙ ap (λ (l : List ℕ). flat_map f first ++ l) (append-nil (f last.now)))
 
-module _ {T C Z B X A D Q E G H F : Type 0} (plain : CallsOf T G (Arc (KeptLinks Z) B) LeavesOut A H F) (honouring : CallsOf T C (Arc (KeptLinks Z) B) (KeptRules (WithExcludes X)) A (Chain D × Q) E) {disk : Z} {reads : X} {fixed fixed' : Type 0} {fs fs' : Functions} {texts texts' : Texts} {home : Home} {screen : Screen} {asked : Asked} {sought : Looked} {old old' new : Option (List ℕ)} where
+module _ {T C Z B X A D Q E G H F : Type 0} (plain : CallsOf T G (Arc (KeptLinks Z) B) LeavesOut A H F) (honouring : CallsOf T C (Arc (KeptLinks Z) B) (KeptRules (WithExcludes X)) A (Chain D × Q) E) {disk : Z} {still still' : Type 0} {fs : Functions} {screen : Screen} {asked : Asked} {takes : List ℕ → Bool → Bool} {old new : Option (List ℕ)} where
+  -- the lines are printed if the file system is fixed
+  printed_if : (still' → still) → (from : WithExcludes X) (lines : List ℕ) → PrintsYielded plain honouring disk still fs from lines screen asked takes old new true → PrintsYielded plain honouring disk still' fs from lines screen asked takes old new true
+  printed_if fixes from lines prints = record {
+    front = prints.front;
+    in_front = prints.in_front;
+    shown = prints.shown;
+    is_shown = prints.is_shown;
+    left = prints.left;
+    printed = λ empties. prints.printed (λ empty. fixes (empties empty));
+  }
+
+module _ {T C Z B X A D Q E G H F : Type 0} (plain : CallsOf T G (Arc (KeptLinks Z) B) LeavesOut A H F) (honouring : CallsOf T C (Arc (KeptLinks Z) B) (KeptRules (WithExcludes X)) A (Chain D × Q) E) {disk : Z} {reads : X} {still still' fixed fixed' : Type 0} {fs fs' : Functions} {texts texts' : Texts} {home : Home} {screen : Screen} {asked : Asked} {sought : Looked} {old old' new : Option (List ℕ)} where
   -- the same search, by other names of the file system, the texts and what was written before
-  pub searches_as : (fixed' → fixed) → fs ≡ fs' → texts ≡ texts' → old ≡ old' → SearchesFor plain honouring disk reads fixed fs texts home screen asked sought old new → SearchesFor plain honouring disk reads fixed' fs' texts' home screen asked sought old' new
-  searches_as fixes over from before s =
-      subst (λ (o : Option (List ℕ)). SearchesFor plain honouring disk reads fixed' fs' texts' home screen asked sought o new) before
-      (subst (λ (t : Texts). SearchesFor plain honouring disk reads fixed' fs' t home screen asked sought old new) from
-      (subst (λ (f : Functions). SearchesFor plain honouring disk reads fixed' f texts home screen asked sought old new) over
+  pub searches_as : (still' → still) → (fixed' → fixed) → fs ≡ fs' → texts ≡ texts' → old ≡ old' → SearchesFor plain honouring disk reads still fixed fs texts home screen asked sought old new → SearchesFor plain honouring disk reads still' fixed' fs' texts' home screen asked sought old' new
+  searches_as stays fixes over from before s =
+      subst (λ (o : Option (List ℕ)). SearchesFor plain honouring disk reads still' fixed' fs' texts' home screen asked sought o new) before
+      (subst (λ (t : Texts). SearchesFor plain honouring disk reads still' fixed' fs' t home screen asked sought old new) from
+      (subst (λ (f : Functions). SearchesFor plain honouring disk reads still' fixed' f texts home screen asked sought old new) over
       (record {
         colored = s.colored;
         times = λ both. s.times (fixes both);
-        quiet = s.quiet;
-        yielded = s.yielded;
+        quiet = λ quiet. let found = s.quiet quiet in (found.0, λ empties. found.1 (λ empty. stays (empties empty)));
+        yielded = λ loud. by_read (printed_if plain honouring stays) (s.yielded loud);
         prints = λ both. s.prints (fixes both);
       })))
 
-module _ {T C Z B X A D Q E G H F : Type 0} (plain : CallsOf T G (Arc (KeptLinks (Based Z)) B) LeavesOut A H F) (honouring : CallsOf T C (Arc (KeptLinks (Based Z)) B) (KeptRules (WithExcludes (Based X))) A (Chain D × Q) E) {disk : Z} {reads : X} {fixed : Type 0} {fs : Functions} {texts : Texts} {home : Home} {screen : Screen} {old new : Option (List ℕ)} where
+module _ {T C Z B X A D Q E G H F : Type 0} (plain : CallsOf T G (Arc (KeptLinks (Based Z)) B) LeavesOut A H F) (honouring : CallsOf T C (Arc (KeptLinks (Based Z)) B) (KeptRules (WithExcludes (Based X))) A (Chain D × Q) E) {disk : Z} {reads : X} {still fixed : Type 0} {fs : Functions} {texts : Texts} {home : Home} {screen : Screen} {old new : Option (List ℕ)} where
   -- the same call, by other names of its words
-  pub searches_with : {words words' : List (List ℕ)} → words ≡ words' → AskForText words ⊎ Searches plain honouring disk reads fixed fs texts home screen words old new → AskForText words' ⊎ Searches plain honouring disk reads fixed fs texts home screen words' old new
-  searches_with is = subst (λ (w : List (List ℕ)). AskForText w ⊎ Searches plain honouring disk reads fixed fs texts home screen w old new) is
+  pub searches_with : {words words' : List (List ℕ)} → words ≡ words' → AskForText words ⊎ Searches plain honouring disk reads still fixed fs texts home screen words old new → AskForText words' ⊎ Searches plain honouring disk reads still fixed fs texts home screen words' old new
+  searches_with is = subst (λ (w : List (List ℕ)). AskForText w ⊎ Searches plain honouring disk reads still fixed fs texts home screen w old new) is

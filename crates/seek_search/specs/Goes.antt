@@ -6,6 +6,7 @@ use Rattle.std.specs.List.{list_any}
 use Rattle.std.specs.declared.sync.Arc.{Arc}
 use Rattle.jwalk.specs.jwalk_model.Counted.{Worth}
 use Rattle.jwalk.specs.jwalk_model.Entry.{Item}
+use Rattle.jwalk.specs.jwalk_model.FileSystem.{Functions}
 use Rattle.jwalk.specs.jwalk_model.Options.{with_skip_hidden}
 use Rattle.jwalk.specs.jwalk_job.Given.{counted_list}
 use Rattle.jwalk_job.specs.declared.dir_entry.DirEntry.{DirEntry}
@@ -22,7 +23,7 @@ use Rattle.jwalk_ignore.specs.jwalk_ignore_rules.declared.rules.chain.Chain.{Cha
 use Rattle.jwalk_ignore.specs.jwalk_ignore_rules.declared.rules.with_excludes.WithExcludes.{WithExcludes}
 use Rattle.seek_words.specs.declared.asked.Asked.{Asked}
 use Rattle.seek_words.specs.declared.screen.Screen.{Screen}
-use Rattle.seek_words.specs.Sought.{Sought}
+use Rattle.seek_words.specs.Sought.{IfEmpties, Sought}
 use Rattle.seek_found.specs.Limit.{is_hit}
 use Rattle.seek_found.specs.Prune.{unpruned}
 use Rattle.seek_found.specs.Roots.{AreBelow, Below, PrintsSuch}
@@ -90,22 +91,23 @@ module _ {T C Z B X A D Q E G H F : Type 0} (plain : CallsOf T G (Arc (KeptLinks
   AreYielded disk texts lines asked sought may_stop = AreBelow (YieldedBelow plain honouring (record { disk = disk; follow = asked.follow }) texts lines asked sought) may_stop (roots_asked asked)
 
   -- The line of each answer that is looked for was printed, up to the limit, and the result says whether all answers
-  -- are clean. The absolute path is tested, and printed, if that is asked for.
-  pub record PrintsYielded (disk : Z) (texts : X) (lines : List ℕ) (screen : Screen) (asked : Asked) (takes : List ℕ → Bool → Bool) (old new : Option (List ℕ)) (clean : Bool) : Type 0 where
+  -- are clean. The absolute path is tested, and printed, if that is asked for. If empty entries are looked for, this
+  -- holds if the disk always answers the same.
+  pub record PrintsYielded (disk : Z) (fixed : Type 0) (fs : Functions) (texts : X) (lines : List ℕ) (screen : Screen) (asked : Asked) (takes : List ℕ → Bool → Bool) (old new : Option (List ℕ)) (clean : Bool) : Type 0 where
     pub front : Option (List ℕ)
     pub in_front : is_some front ≡ asked.full_path
     pub shown : Option (List ℕ)
     pub is_shown : is_some shown ≡ asked.absolute
     pub left : Option ℕ
-    pub printed : PrintsSuch (AreYielded disk texts lines asked (sought_before front asked takes) (left ≡ Some 0)) (sought_before front asked takes) (form_before shown screen asked) (limit_asked asked) left old new clean
+    pub printed : IfEmpties fixed (sought_before fs front asked takes) → PrintsSuch (AreYielded disk texts lines asked (sought_before fs front asked takes) (left ≡ Some 0)) (sought_before fs front asked takes) (form_before shown screen asked) (limit_asked asked) left old new clean
 
   -- One of the answers is looked for. The search may stop there.
-  pub record FindsOne (disk : Z) (texts : X) (lines : List ℕ) (asked : Asked) (takes : List ℕ → Bool → Bool) : Type 0 where
+  pub record FindsOne (disk : Z) (fs : Functions) (texts : X) (lines : List ℕ) (asked : Asked) (takes : List ℕ → Bool → Bool) : Type 0 where
     pub front : Option (List ℕ)
     pub in_front : is_some front ≡ asked.full_path
     pub answers : List (Item Worth Worth)
-    pub yielded : AreYielded disk texts lines asked (sought_before front asked takes) (Unit {0}) answers
-    pub found : list_any (is_hit (sought_before front asked takes)) answers ≡ true
+    pub yielded : AreYielded disk texts lines asked (sought_before fs front asked takes) (Unit {0}) answers
+    pub found : list_any (is_hit (sought_before fs front asked takes)) answers ≡ true
 
 -- What is known of a search by these texts, whatever the user's excludes are, and by some lines of ignore files.
 abbrev pub ByRead : {X : Type 0} → X → (WithExcludes X → List ℕ → Type 0) → Type 0

@@ -1,5 +1,6 @@
 -- The printer of a search.
 use Rattle.std.specs.Prelude.{◌≡◌, ℕ, Bool, List, [], Option, is_some}
+use Rattle.jwalk.specs.jwalk_model.FileSystem.{Functions}
 use Rattle.jwalk_ignore.specs.Rules.Texts.{Texts}
 use Rattle.seek_words.specs.Filter.{sought_of}
 use Rattle.seek_words.specs.Lines.{form_of, gathered_of}
@@ -17,11 +18,11 @@ pub record IsFront (fixed : Type 0) (texts : Texts) (wanted : Bool) (front : Opt
   pub wanted_so : is_some front ≡ wanted
   pub found : fixed → front ≡ front_if wanted texts
 
--- The filter looks for what is asked for.
+-- The filter looks for what is asked for, over any file system.
 pub record IsFilterFor (fixed : Type 0) (texts : Texts) (asked : Asked) (takes : List ℕ → Bool → Bool) (filter : Filter SoughtTest) : Type 0 where
   pub front : Option (List ℕ)
   pub is_front : IsFront fixed texts asked.full_path front
-  pub sought : sought_of takes_of filter ≡ sought_before front asked takes
+  pub sought : (fs : Functions) → sought_of takes_of fs filter ≡ sought_before fs front asked takes
 
 -- The printer prints what is asked for, and has printed nothing yet.
 pub record IsPrinterFor (fixed : Type 0) (texts : Texts) (screen : Screen) (asked : Asked) (takes : List ℕ → Bool → Bool) (printer : Printer SoughtTest) : Type 0 where

@@ -1,5 +1,5 @@
 -- The text that a call of the program prints.
-use Rattle.std.specs.Prelude.{◌≡◌, ℕ, Bool, true, false, List, Option, None}
+use Rattle.std.specs.Prelude.{◌≡◌, ℕ, true, false, List, Option, None}
 use Rattle.std.specs.declared.sync.Arc.{Arc}
 use Rattle.jwalk.specs.jwalk_model.FileSystem.{Functions}
 use Rattle.jwalk_ignore.specs.Rules.Texts.{Texts}
@@ -29,7 +29,7 @@ use Rattle.jwalk_ignore.specs.declared.callback.kept_rules.KeptRules.{KeptRules}
 -- link that leads nowhere isn't an error, but an entry.
 abbrev pub PrintsRead : Functions → Texts → List ℕ → Screen → Asked → Sought → Option (List ℕ) → Option (List ℕ) → Type 0
 PrintsRead fs texts lines screen asked sought =
-    PrintsClean (yielded_by (functions_kept asked.follow fs) texts lines asked (sought_asked texts asked (takes_by sought))) (sought_asked texts asked (takes_by sought)) (form_asked texts screen asked)
+    PrintsClean (yielded_by (functions_kept asked.follow fs) texts lines asked (sought_asked fs texts asked (takes_by sought))) (sought_asked fs texts asked (takes_by sought)) (form_asked texts screen asked)
 
 -- The same, with the user's excludes and the ignore files that are asked for.
 abbrev pub PrintsAsked : Functions → Texts → Home → Screen → Asked → Sought → Option (List ℕ) → Option (List ℕ) → Type 0
@@ -40,18 +40,19 @@ module _ {T C Z B X A D Q E G H F : Type 0} (plain : CallsOf T G (Arc (KeptLinks
   -- This is searched over this disk. The times that are asked for are known. Paths are in colors if the words or the
   -- screen ask for it. A quiet search writes nothing, and finds one of the answers of its walks. Any other search prints
   -- their lines in the way that is asked for, and all answers are clean. If there is no limit, and the file system and
-  -- the texts are fixed, the answers are those that are asked for.
-  pub record SearchesFor (disk : Z) (reads : X) (fixed : Type 0) (fs : Functions) (texts : Texts) (home : Home) (screen : Screen) (asked : Asked) (sought : Sought) (old new : Option (List ℕ)) : Type 0 where
+  -- the texts are fixed, the answers are those that are asked for. If empty entries are looked for, the answers are
+  -- told only if the file system is fixed, which `still` says.
+  pub record SearchesFor (disk : Z) (reads : X) (still fixed : Type 0) (fs : Functions) (texts : Texts) (home : Home) (screen : Screen) (asked : Asked) (sought : Sought) (old new : Option (List ℕ)) : Type 0 where
     pub colored : asked.colored ≡ is_colored screen asked.color
     pub times : fixed → AreTimes fs asked asked.times
-    pub quiet : asked.quiet ≡ true → (new ≡ old) × ByRead reads (λ texts lines. FindsOne plain honouring disk texts lines asked (takes_by sought))
-    pub yielded : asked.quiet ≡ false → ByRead reads (λ texts lines. PrintsYielded plain honouring disk texts lines screen asked (takes_by sought) old new true)
+    pub quiet : asked.quiet ≡ true → (new ≡ old) × ((asked.kinds.empty ≡ true → still) → ByRead reads (λ texts lines. FindsOne plain honouring disk fs texts lines asked (takes_by sought)))
+    pub yielded : asked.quiet ≡ false → ByRead reads (λ texts lines. PrintsYielded plain honouring disk still fs texts lines screen asked (takes_by sought) old new true)
     pub prints : fixed → limit_asked asked ≡ None → PrintsAsked fs texts home screen asked sought old new
 
 module _ {T C Z B X A D Q E G H F : Type 0} (plain : CallsOf T G (Arc (KeptLinks (Based Z)) B) LeavesOut A H F) (honouring : CallsOf T C (Arc (KeptLinks (Based Z)) B) (KeptRules (WithExcludes (Based X))) A (Chain D × Q) E) where
   -- The words ask for a search, and the names that are looked for are those of the patterns. This is searched, over the
   -- disk and the texts as they are seen from the folder that is asked for, which is one.
-  pub record Searches (disk : Z) (reads : X) (fixed : Type 0) (fs : Functions) (texts : Texts) (home : Home) (screen : Screen) (words : List (List ℕ)) (old new : Option (List ℕ)) : Type 0 where
+  pub record Searches (disk : Z) (reads : X) (still fixed : Type 0) (fs : Functions) (texts : Texts) (home : Home) (screen : Screen) (words : List (List ℕ)) (old new : Option (List ℕ)) : Type 0 where
     pub asked : Asked
     pub ask : AskFor words asked
     pub sought : Sought
@@ -61,4 +62,4 @@ module _ {T C Z B X A D Q E G H F : Type 0} (plain : CallsOf T G (Arc (KeptLinks
     pub from : Based X
     pub is_from : IsBased reads asked from
     pub folder : fixed → has_folder (functions_based (base_asked asked) fs) asked ≡ true
-    pub searches : SearchesFor plain honouring over from fixed (functions_based (base_asked asked) fs) (texts_based (base_asked asked) texts) home screen asked sought old new
+    pub searches : SearchesFor plain honouring over from still fixed (functions_based (base_asked asked) fs) (texts_based (base_asked asked) texts) home screen asked sought old new

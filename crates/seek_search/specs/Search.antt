@@ -16,6 +16,7 @@ use Rattle.jwalk_ignore.specs.Rules.Line.{patterns_of}
 use Rattle.jwalk_ignore.specs.Rules.Texts.{Texts}
 use Rattle.jwalk_ignore.specs.Callback.Settings.{Settings}
 use Rattle.seek_braces.specs.Expanded.{expansions}
+use Rattle.seek_words.specs.Empty.{bare_in}
 use Rattle.seek_words.specs.Sought.{Sought}
 use Rattle.seek_colors.specs.Palette.{palette_in}
 use Rattle.seek_words.specs.Layout.{Form}
@@ -116,18 +117,19 @@ front_at (Err kind) = join [] []
 abbrev pub front_if : Bool → Texts → Option (List ℕ)
 front_if wanted texts = if wanted then Some (front_at (texts.absolute_of [])) else None
 
--- what is looked for, by the texts that pass and the text in front of a relative path
-abbrev pub sought_before : Option (List ℕ) → Asked → (List ℕ → Bool → Bool) → Sought
-sought_before front asked takes = record {
+-- what is looked for over a file system, by the texts that pass and the text in front of a relative path
+abbrev pub sought_before : Functions → Option (List ℕ) → Asked → (List ℕ → Bool → Bool) → Sought
+sought_before fs front asked takes = record {
   wanted = record { depths = asked.depths; kinds = asked.kinds; extensions = texts_of asked.extensions.items; sizes = asked.sizes.items; owner = asked.owner; times = asked.times };
   takes = takes;
   front = front;
   prunes = asked.prune;
+  bare = bare_in fs;
 }
 
 -- the same over texts that always answer the same
-abbrev pub sought_asked : Texts → Asked → (List ℕ → Bool → Bool) → Sought
-sought_asked texts asked = sought_before (front_if asked.full_path texts) asked
+abbrev pub sought_asked : Functions → Texts → Asked → (List ℕ → Bool → Bool) → Sought
+sought_asked fs texts asked = sought_before fs (front_if asked.full_path texts) asked
 
 -- the colors of printed paths, if they have some
 abbrev pub painting_asked : Screen → Asked → Option Painting

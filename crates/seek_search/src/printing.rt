@@ -122,6 +122,7 @@ fn filter_of<'w, X: Texts>(
         test: SoughtTest::new(alloc, sought)?,
         path: path_of(alloc, asked.full_path, texts)?,
         prunes: asked.prune,
+        alloc,
     })
 }
 

@@ -94,11 +94,11 @@ impl<
         err: &mut E,
     ) -> Result<Ended, Halt>
         ensures yielded { IfOk result (λ ended. PrintsYielded ⟦<PlainWalk<T, KeptLinks<S>> as Iterator>⟧.next_gives
-            ⟦<HonouringWalk<T, KeptLinks<S>, X> as Iterator>⟧.next_gives self.entry.disk self.entry.texts given.now self.entry.screen
+            ⟦<HonouringWalk<T, KeptLinks<S>, X> as Iterator>⟧.next_gives self.entry.disk (S.IsFixed self.entry.disk) (S.functions self.entry.disk) self.entry.texts given.now self.entry.screen
             asked.now (takes_by sought.now) (W.contents out.old) (W.contents out.new) ended.clean) }
-        ensures found { IfOk result (λ ended. asked.now.quiet ≡ true → ended.full ≡ true
+        ensures found { IfOk result (λ ended. asked.now.quiet ≡ true → ended.full ≡ true → (asked.now.kinds.empty ≡ true → S.IsFixed self.entry.disk)
             → FindsOne ⟦<PlainWalk<T, KeptLinks<S>> as Iterator>⟧.next_gives
-            ⟦<HonouringWalk<T, KeptLinks<S>, X> as Iterator>⟧.next_gives self.entry.disk self.entry.texts given.now asked.now (takes_by sought.now)) }
+            ⟦<HonouringWalk<T, KeptLinks<S>, X> as Iterator>⟧.next_gives self.entry.disk (S.functions self.entry.disk) self.entry.texts given.now asked.now (takes_by sought.now)) }
         ensures whole { IfOk result (λ ended. limit_asked asked.now ≡ None → ended.clean ≡ true → S.IsFixed self.entry.disk → X.IsFixed self.entry.texts
             → PrintsRead (S.functions self.entry.disk) (X.functions self.entry.texts) given.now self.entry.screen asked.now sought.now
             (W.contents out.old) (W.contents out.new)) }
@@ -146,11 +146,12 @@ impl<
     ) -> Result<Ended, Halt>
         ensures yielded { IfOk result (λ ended. ended.clean ≡ true → ByRead self.entry.texts (λ reads lines. PrintsYielded
             ⟦<PlainWalk<T, KeptLinks<S>> as Iterator>⟧.next_gives
-            ⟦<HonouringWalk<T, KeptLinks<S>, WithExcludes<X>> as Iterator>⟧.next_gives self.entry.disk reads lines self.entry.screen
+            ⟦<HonouringWalk<T, KeptLinks<S>, WithExcludes<X>> as Iterator>⟧.next_gives self.entry.disk (S.IsFixed self.entry.disk) (S.functions self.entry.disk) reads lines self.entry.screen
             asked.now (takes_by sought.now) (W.contents out.old) (W.contents out.new) true)) }
-        ensures found { IfOk result (λ ended. asked.now.quiet ≡ true → ended.full ≡ true → ByRead self.entry.texts (λ reads lines. FindsOne
+        ensures found { IfOk result (λ ended. asked.now.quiet ≡ true → ended.full ≡ true
+            → (asked.now.kinds.empty ≡ true → S.IsFixed self.entry.disk) → ByRead self.entry.texts (λ reads lines. FindsOne
             ⟦<PlainWalk<T, KeptLinks<S>> as Iterator>⟧.next_gives
-            ⟦<HonouringWalk<T, KeptLinks<S>, WithExcludes<X>> as Iterator>⟧.next_gives self.entry.disk reads lines asked.now (takes_by sought.now))) }
+            ⟦<HonouringWalk<T, KeptLinks<S>, WithExcludes<X>> as Iterator>⟧.next_gives self.entry.disk (S.functions self.entry.disk) reads lines asked.now (takes_by sought.now))) }
         ensures whole { IfOk result (λ ended. limit_asked asked.now ≡ None → ended.clean ≡ true → S.IsFixed self.entry.disk → X.IsFixed self.entry.texts
             → PrintsAsked (S.functions self.entry.disk) (X.functions self.entry.texts) self.entry.home self.entry.screen asked.now sought.now
             (W.contents out.old) (W.contents out.new)) }
@@ -198,7 +199,7 @@ impl<
         ensures status { result ≤ 1 }
         ensures done { result ≡ 0 → (times : Times) × (colored : Bool) × SearchesFor ⟦<PlainWalk<T, KeptLinks<S>> as Iterator>⟧.next_gives
             ⟦<HonouringWalk<T, KeptLinks<S>, WithExcludes<X>> as Iterator>⟧.next_gives self.entry.disk self.entry.texts
-            (S.IsFixed self.entry.disk × X.IsFixed self.entry.texts) (S.functions self.entry.disk) (X.functions self.entry.texts) self.entry.home self.entry.screen
+            (S.IsFixed self.entry.disk) (S.IsFixed self.entry.disk × X.IsFixed self.entry.texts) (S.functions self.entry.disk) (X.functions self.entry.texts) self.entry.home self.entry.screen
             (record asked.entry { times = times; colored = colored }) sought.now (W.contents out.old) (W.contents out.new) }
     {
         match times_of(self.clock, &self.disk, &asked) {
@@ -227,7 +228,7 @@ impl<
         ensures done { result ≡ 0 → AskForText (map string_bytes words.now)
             ⊎ Searches ⟦<PlainWalk<T, KeptLinks<Based<S>>> as Iterator>⟧.next_gives
             ⟦<HonouringWalk<T, KeptLinks<Based<S>>, WithExcludes<Based<X>>> as Iterator>⟧.next_gives self.entry.disk self.entry.texts
-            (S.IsFixed self.entry.disk × X.IsFixed self.entry.texts) (S.functions self.entry.disk) (X.functions self.entry.texts) self.entry.home self.entry.screen
+            (S.IsFixed self.entry.disk) (S.IsFixed self.entry.disk × X.IsFixed self.entry.texts) (S.functions self.entry.disk) (X.functions self.entry.texts) self.entry.home self.entry.screen
             (map string_bytes words.now) (W.contents out.old) (W.contents out.new) }
     {
         let Seek {
@@ -282,7 +283,7 @@ impl<
         ensures done { result ≡ 0 → AskForText (joined (map string_bytes words.now))
             ⊎ Searches ⟦<PlainWalk<T, KeptLinks<Based<S>>> as Iterator>⟧.next_gives
             ⟦<HonouringWalk<T, KeptLinks<Based<S>>, WithExcludes<Based<X>>> as Iterator>⟧.next_gives self.entry.disk self.entry.texts
-            (S.IsFixed self.entry.disk × X.IsFixed self.entry.texts) (S.functions self.entry.disk) (X.functions self.entry.texts) self.entry.home self.entry.screen
+            (S.IsFixed self.entry.disk) (S.IsFixed self.entry.disk × X.IsFixed self.entry.texts) (S.functions self.entry.disk) (X.functions self.entry.texts) self.entry.home self.entry.screen
             (joined (map string_bytes words.now)) (W.contents out.old) (W.contents out.new) }
     {
         match joined_words(self.alloc, words) {

@@ -53,7 +53,7 @@ pub(crate) type PlainWalk<T, S> = CrewWalk<T, ((), ()), Arc<S>, LeavesOut>;
 /// A walk with ignore files.
 pub(crate) type HonouringWalk<T, S, X> = CrewWalk<T, KeptStates, Arc<S>, KeptRules<X>>;
 
-/// A crew may read for the walk.
+/// A crew may read for the walk. The disk is asked about directories if only empty entries are looked for.
 fn print_begun<
     T: Wait + Threads + Clock + Drop + Send + Sync + 'static,
     K: Clock,
@@ -64,6 +64,7 @@ fn print_begun<
     E: Write,
 >(
     walk: WalkDirGeneric<C, S, P, Global, Crew<T>>,
+    disk: &S,
     printer: &mut Printer<'_, SoughtTest<'_>>,
     clock: &K,
     out: &mut W,
@@ -73,15 +74,15 @@ where
     C::ReadDirState: Send + 'static,
     C::DirEntryState: Send + 'static,
     requires { P.IsLawful (callback_of walk) }
-    ensures whole { IfOk result (PrintsWalk S.FileSystem P.ProcessReadDir C.ReadDirState.Clone C.DirEntryState.Default walk
+    ensures whole { IfOk result (PrintsWalk S.FileSystem P.ProcessReadDir C.ReadDirState.Clone C.DirEntryState.Default disk.now walk
         printer.old printer.new (W.contents out.old) (W.contents out.new)) }
-    ensures yielded { IfOk result (PrintsThose (Yielded ⟦<CrewWalk<T, C, S, P> as Iterator>⟧.next_gives (λ it. it ≡ walk))
+    ensures yielded { IfOk result (PrintsThose (S.IsFixed disk.now) (S.functions disk.now) (Yielded ⟦<CrewWalk<T, C, S, P> as Iterator>⟧.next_gives (λ it. it ≡ walk))
         printer.old printer.new (W.contents out.old) (W.contents out.new)) }
-    ensures sought { sought_of takes_of printer.new.filter ≡ sought_of takes_of printer.old.filter }
+    ensures sought { sought_of takes_of (S.functions disk.now) printer.new.filter ≡ sought_of takes_of (S.functions disk.now) printer.old.filter }
     ensures form { form_of printer.new.lines ≡ form_of printer.old.lines }
 {
     let mut answers = walk.into_iter();
-    print_found(&mut answers, printer, clock, out, err)
+    print_found(&mut answers, printer, disk, clock, out, err)
 }
 
 /// Returns the rules that are asked for, from these texts alone.
@@ -123,24 +124,32 @@ fn search_walk<
     E: Write,
 >(
     walk: Plain<T, S>,
+    disk: &Arc<S>,
     rules: KeptRules<X>,
     printer: &mut Printer<'_, SoughtTest<'_>>,
     clock: &K,
     out: &mut W,
     err: &mut E,
 ) -> Result<bool, Halt>
-    ensures whole { IfOk result (λ clean. S.IsFixed (arc_value (file_system_of walk)) → X.IsFixed (arc_value (texts_of rules.rules))
-        → rules_alone (state_of walk) ≡ no_rules_yet → PrintsAll (λ sought. unpruned sought
+    ensures whole { IfOk result (λ clean. S.IsFixed (arc_value disk.now) → S.IsFixed (arc_value (file_system_of walk)) → X.IsFixed (arc_value (texts_of rules.rules))
+        → rules_alone (state_of walk) ≡ no_rules_yet → PrintsAll (S.functions (arc_value disk.now)) (λ sought. unpruned sought
         (ignoring_walk (S.functions (arc_value (file_system_of walk))) (X.functions (arc_value (texts_of rules.rules)))
         (settings_of rules.rules) (excluded_of (next_of rules.rules)) (options_of walk) (root_of walk)))
         printer.old printer.new (W.contents out.old) (W.contents out.new) clean) }
-    ensures yielded { IfOk result (PrintsThose (Yielded ⟦<HonouringWalk<T, S, X> as Iterator>⟧.next_gives
+    ensures yielded { IfOk result (PrintsThose (S.IsFixed (arc_value disk.now)) (S.functions (arc_value disk.now)) (Yielded ⟦<HonouringWalk<T, S, X> as Iterator>⟧.next_gives
         (Sets (record (with_callback rules (described walk)) { options = with_skip_hidden false (options_of walk) })))
         printer.old printer.new (W.contents out.old) (W.contents out.new)) }
-    ensures sought { sought_of takes_of printer.new.filter ≡ sought_of takes_of printer.old.filter }
+    ensures sought { sought_of takes_of (S.functions (arc_value disk.now)) printer.new.filter ≡ sought_of takes_of (S.functions (arc_value disk.now)) printer.old.filter }
     ensures form { form_of printer.new.lines ≡ form_of printer.old.lines }
 {
-    print_begun(with_hidden_shown(walk, rules), printer, clock, out, err)
+    print_begun(
+        with_hidden_shown(walk, rules),
+        disk,
+        printer,
+        clock,
+        out,
+        err,
+    )
 }
 
 #[derive(Drop)]
@@ -183,14 +192,14 @@ impl<
         out: &mut W,
         err: &mut E,
     ) -> Result<bool, Halt>
-        ensures whole { IfOk result (λ clean. S.IsFixed (arc_value self.now.disk) → PrintsAll (λ sought. unpruned sought
+        ensures whole { IfOk result (λ clean. S.IsFixed (arc_value self.now.disk) → PrintsAll (S.functions (arc_value self.now.disk)) (λ sought. unpruned sought
             (all_below (S.functions (arc_value self.now.disk)) self.now.lines.now self.now.asked.now
             (excluded_asked self.now.asked.now root.now) root.now))
             printer.old printer.new (W.contents out.old) (W.contents out.new) clean) }
-        ensures yielded { IfOk result (PrintsThose (Yielded ⟦<PlainWalk<T, S> as Iterator>⟧.next_gives
+        ensures yielded { IfOk result (PrintsThose (S.IsFixed (arc_value self.now.disk)) (S.functions (arc_value self.now.disk)) (Yielded ⟦<PlainWalk<T, S> as Iterator>⟧.next_gives
             (IsPlain (arc_value self.now.disk) self.now.lines.now self.now.asked.now root.now))
             printer.old printer.new (W.contents out.old) (W.contents out.new)) }
-        ensures sought { sought_of takes_of printer.new.filter ≡ sought_of takes_of printer.old.filter }
+        ensures sought { sought_of takes_of (S.functions (arc_value self.now.disk)) printer.new.filter ≡ sought_of takes_of (S.functions (arc_value self.now.disk)) printer.old.filter }
         ensures form { form_of printer.new.lines ≡ form_of printer.old.lines }
     {
         let naming = naming_of(alloc, self.lines, root)?;
@@ -200,6 +209,7 @@ impl<
         let walk = walk_below::<((), ()), _, _, _>(disk, root, self.options(), &self.crew)?;
         print_begun(
             walk.process_read_dir(Both::new(naming, excluding)),
+            &self.disk,
             printer,
             self.clock,
             out,
@@ -217,14 +227,14 @@ impl<
         err: &mut E,
     ) -> Result<bool, Halt>
         ensures whole { IfOk result (λ clean. S.IsFixed (arc_value self.now.disk) → X.IsFixed (arc_value self.now.texts)
-            → PrintsAll (λ sought. unpruned sought
+            → PrintsAll (S.functions (arc_value self.now.disk)) (λ sought. unpruned sought
             (kept_below (S.functions (arc_value self.now.disk)) (X.functions (arc_value self.now.texts)) self.now.lines.now self.now.asked.now
             (excluded_asked self.now.asked.now root.now) root.now))
             printer.old printer.new (W.contents out.old) (W.contents out.new) clean) }
-        ensures yielded { IfOk result (PrintsThose (Yielded ⟦<HonouringWalk<T, S, X> as Iterator>⟧.next_gives
+        ensures yielded { IfOk result (PrintsThose (S.IsFixed (arc_value self.now.disk)) (S.functions (arc_value self.now.disk)) (Yielded ⟦<HonouringWalk<T, S, X> as Iterator>⟧.next_gives
             (IsHonouring (arc_value self.now.disk) (arc_value self.now.texts) self.now.lines.now self.now.asked.now root.now))
             printer.old printer.new (W.contents out.old) (W.contents out.new)) }
-        ensures sought { sought_of takes_of printer.new.filter ≡ sought_of takes_of printer.old.filter }
+        ensures sought { sought_of takes_of (S.functions (arc_value self.now.disk)) printer.new.filter ≡ sought_of takes_of (S.functions (arc_value self.now.disk)) printer.old.filter }
         ensures form { form_of printer.new.lines ≡ form_of printer.old.lines }
     {
         let excluding = excluding_of(alloc, self.asked.excludes.as_slice(), root)?;
@@ -233,7 +243,15 @@ impl<
         let root = String::from_str(alloc, root)?;
         let disk = self.disk.clone()?;
         let walk = walk_below::<KeptStates, _, _, _>(disk, root, self.options(), &self.crew)?;
-        search_walk(walk, KeptRules { rules }, printer, self.clock, out, err)
+        search_walk(
+            walk,
+            &self.disk,
+            KeptRules { rules },
+            printer,
+            self.clock,
+            out,
+            err,
+        )
     }
 
     /// Prints what is found, and reports errors. Returns whether there was none.
@@ -246,13 +264,13 @@ impl<
         err: &mut E,
     ) -> Result<bool, Halt>
         ensures whole { IfOk result (λ clean. S.IsFixed (arc_value self.now.disk) → X.IsFixed (arc_value self.now.texts)
-            → PrintsAll (λ sought. unpruned_below (S.functions (arc_value self.now.disk)) (X.functions (arc_value self.now.texts))
+            → PrintsAll (S.functions (arc_value self.now.disk)) (λ sought. unpruned_below (S.functions (arc_value self.now.disk)) (X.functions (arc_value self.now.texts))
             self.now.lines.now self.now.asked.now sought root.now)
             printer.old printer.new (W.contents out.old) (W.contents out.new) clean) }
-        ensures yielded { IfOk result (PrintsThose (λ sought may_stop. YieldedBelow ⟦<PlainWalk<T, S> as Iterator>⟧.next_gives
+        ensures yielded { IfOk result (PrintsThose (S.IsFixed (arc_value self.now.disk)) (S.functions (arc_value self.now.disk)) (λ sought may_stop. YieldedBelow ⟦<PlainWalk<T, S> as Iterator>⟧.next_gives
             ⟦<HonouringWalk<T, S, X> as Iterator>⟧.next_gives (arc_value self.now.disk) (arc_value self.now.texts)
             self.now.lines.now self.now.asked.now sought may_stop root.now) printer.old printer.new (W.contents out.old) (W.contents out.new)) }
-        ensures sought { sought_of takes_of printer.new.filter ≡ sought_of takes_of printer.old.filter }
+        ensures sought { sought_of takes_of (S.functions (arc_value self.now.disk)) printer.new.filter ≡ sought_of takes_of (S.functions (arc_value self.now.disk)) printer.old.filter }
         ensures form { form_of printer.new.lines ≡ form_of printer.old.lines }
     {
         if self.asked.no_ignore {
@@ -270,13 +288,13 @@ impl<
         out: &mut W,
         err: &mut E,
     ) -> Result<bool, Halt>
-        ensures yielded { IfOk result (PrintsThose (λ sought may_stop. AreBelow (YieldedBelow ⟦<PlainWalk<T, S> as Iterator>⟧.next_gives
+        ensures yielded { IfOk result (PrintsThose (S.IsFixed (arc_value self.now.disk)) (S.functions (arc_value self.now.disk)) (λ sought may_stop. AreBelow (YieldedBelow ⟦<PlainWalk<T, S> as Iterator>⟧.next_gives
             ⟦<HonouringWalk<T, S, X> as Iterator>⟧.next_gives (arc_value self.now.disk) (arc_value self.now.texts)
             self.now.lines.now self.now.asked.now sought) may_stop (texts_now roots.now)) printer.old printer.new (W.contents out.old) (W.contents out.new)) }
         ensures whole { IfOk result (λ clean. S.IsFixed (arc_value self.now.disk) → X.IsFixed (arc_value self.now.texts)
-            → PrintsAll (λ sought. flat_map (unpruned_below (S.functions (arc_value self.now.disk))
+            → PrintsAll (S.functions (arc_value self.now.disk)) (λ sought. flat_map (unpruned_below (S.functions (arc_value self.now.disk))
             (X.functions (arc_value self.now.texts)) self.now.lines.now self.now.asked.now sought) (texts_now roots.now)) printer.old printer.new (W.contents out.old) (W.contents out.new) clean) }
-        ensures sought { sought_of takes_of printer.new.filter ≡ sought_of takes_of printer.old.filter }
+        ensures sought { sought_of takes_of (S.functions (arc_value self.now.disk)) printer.new.filter ≡ sought_of takes_of (S.functions (arc_value self.now.disk)) printer.old.filter }
         ensures form { form_of printer.new.lines ≡ form_of printer.old.lines }
     {
         match roots {
@@ -302,12 +320,12 @@ impl<
         out: &mut W,
         err: &mut E,
     ) -> Result<bool, Halt>
-        ensures yielded { IfOk result (PrintsThose (λ sought may_stop. AreBelow (YieldedBelow ⟦<PlainWalk<T, S> as Iterator>⟧.next_gives
+        ensures yielded { IfOk result (PrintsThose (S.IsFixed (arc_value self.now.disk)) (S.functions (arc_value self.now.disk)) (λ sought may_stop. AreBelow (YieldedBelow ⟦<PlainWalk<T, S> as Iterator>⟧.next_gives
             ⟦<HonouringWalk<T, S, X> as Iterator>⟧.next_gives (arc_value self.now.disk) (arc_value self.now.texts)
             self.now.lines.now self.now.asked.now sought) may_stop (roots_asked self.now.asked.now)) printer.old printer.new
             (W.contents out.old) (W.contents out.new)) }
         ensures whole { IfOk result (λ clean. S.IsFixed (arc_value self.now.disk) → X.IsFixed (arc_value self.now.texts)
-            → PrintsAll
+            → PrintsAll (S.functions (arc_value self.now.disk))
             (yielded_by (S.functions (arc_value self.now.disk)) (X.functions (arc_value self.now.texts)) self.now.lines.now self.now.asked.now)
             printer.old printer.new (W.contents out.old) (W.contents out.new) clean) }
     {

@@ -1,5 +1,6 @@
 pub mod AsksFacts
 pub mod CommandFacts
+pub mod EmptyFacts
 pub mod EndFacts
 pub mod CaseFacts
 pub mod ExtensionFacts

@@ -79,6 +79,7 @@ kinds_in names = record {
   socket = names_one names (codes "s") (codes "socket");
   block = names_one names (codes "b") (codes "block-device");
   char = names_one names (codes "c") (codes "char-device");
+  empty = names_one names (codes "e") (codes "empty");
   other = names_one names (codes "o") (codes "other");
 }
 

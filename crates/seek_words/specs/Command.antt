@@ -105,7 +105,7 @@ abbrev pub kind_names : List Text
 kind_names =
     codes "f" ∷ codes "file" ∷ codes "d" ∷ codes "dir" ∷ codes "directory" ∷ codes "l" ∷ codes "symlink"
     ∷ codes "x" ∷ codes "executable" ∷ codes "p" ∷ codes "pipe" ∷ codes "s" ∷ codes "socket"
-    ∷ codes "b" ∷ codes "block-device" ∷ codes "c" ∷ codes "char-device" ∷ codes "o" ∷ codes "other" ∷ []
+    ∷ codes "b" ∷ codes "block-device" ∷ codes "c" ∷ codes "char-device" ∷ codes "e" ∷ codes "empty" ∷ codes "o" ∷ codes "other" ∷ []
 
 -- The argument has this rule, and isn't global.
 pub record HasRule (rule : Rule) (arg : Arg) : Type 0 where

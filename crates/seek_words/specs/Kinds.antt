@@ -23,6 +23,10 @@ names_mode kinds = kinds.executable || (kinds.pipe || (kinds.socket || (kinds.bl
 abbrev pub names_none : Kinds → Bool
 names_none kinds = not kinds.file && (not kinds.dir && (not kinds.link && (not kinds.other && not (names_mode kinds))))
 
+-- whether emptiness is named, and no type of what can be empty
+abbrev pub names_empty_alone : Kinds → Bool
+names_empty_alone kinds = kinds.empty && (not kinds.file && (not kinds.dir && not kinds.executable))
+
 -- whether a mode permits anyone to execute the file
 abbrev pub is_executable : ℕ → Bool
 is_executable mode = not (bit_and mode 73 == 0)
@@ -48,6 +52,7 @@ mode_among kinds type (Some details) = has_mode kinds type details.mode
 abbrev pub has_modes : Kinds → FileType → Option Metadata → Bool
 has_modes kinds type seen = mode_among kinds type (details_seen seen)
 
--- whether an entry of this type is looked for: its type is named, or its mode has a named type, or no type is named
+-- whether an entry of this type is looked for: its type is named, or its mode has a named type, or no type is named, or
+-- emptiness, and no type of what can be empty
 abbrev pub has_kind : Kinds → FileType → Option Metadata → Bool
-has_kind kinds type seen = names_none kinds || (is_named kinds type || has_modes kinds type seen)
+has_kind kinds type seen = names_none kinds || (names_empty_alone kinds || (is_named kinds type || has_modes kinds type seen))

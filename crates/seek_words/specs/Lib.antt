@@ -23,6 +23,7 @@ pub mod Owner
 pub mod OwnerRows
 pub mod Times
 pub mod Metadata
+pub mod Empty
 pub mod Wanted
 pub mod Sought
 pub mod Filter

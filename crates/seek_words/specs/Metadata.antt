@@ -11,7 +11,7 @@ names_time asked = is_some asked.changed_within || (is_some asked.changed_before
 abbrev pub shows_metadata : Asked → Bool
 shows_metadata asked = asked.details || asked.colored
 
--- whether details or colors are printed, or a size, an owner, a time, or a type is named that depends on the mode
+-- whether details or colors are printed, or a size, an owner, a time or emptiness is named, or a type that depends on the mode
 abbrev pub needs_metadata : Asked → Bool
 needs_metadata asked =
-    shows_metadata asked || (not (length asked.sizes.items == 0) || (is_some asked.owner || (names_time asked || names_mode asked.kinds)))
+    shows_metadata asked || (not (length asked.sizes.items == 0) || (is_some asked.owner || (names_time asked || (asked.kinds.empty || names_mode asked.kinds))))

@@ -113,6 +113,7 @@ impl<'w> Asked<'w> {
             || !self.sizes.is_empty()
             || self.owner.is_some()
             || self.names_time()
+            || self.kinds.empty
             || self.kinds.names_mode()
     }
 }

@@ -10,7 +10,7 @@ use program_parts::options::{
 };
 use std::alloc::{AllocError, Global};
 
-static KINDS: [&str; 19] = [
+static KINDS: [&str; 21] = [
     "f",
     "file",
     "d",
@@ -28,6 +28,8 @@ static KINDS: [&str; 19] = [
     "block-device",
     "c",
     "char-device",
+    "e",
+    "empty",
     "o",
     "other",
 ];
@@ -205,7 +207,7 @@ fn kind_option<'a>(alloc: Global) -> Arg<'a>
         "type",
         't',
         "TYPE",
-        "The type: file, dir, symlink, executable, pipe, socket, block-device, char-device or other",
+        "The type: file, dir, symlink, executable, pipe, socket, block-device, char-device, empty or other",
     )
     .value_parser(KINDS.as_slice())
     .hide_possible_values(true)

@@ -3,14 +3,15 @@ ghost use Rattle.std.specs.Prelude.{◌≡◌, IfOk, option_map};
 ghost use Rattle.std.specs.Option.{option_copied};
 ghost use Rattle.jwalk_model.specs.FileType.{is_dir};
 ghost use Rattle.seek_words.specs.Subject.{front_of};
-ghost use Rattle.seek_words.specs.Sought.{is_found, subject};
+ghost use Rattle.seek_words.specs.Sought.{is_found, is_met, subject, IfEmpties};
 
+use crate::empty::is_empty;
 use crate::name_test::NameTest;
+use crate::shown::Shown;
 use crate::subject::AbsolutePath;
 use crate::wanted::Wanted;
-use jwalk_model::file_type::FileType;
-use jwalk_model::metadata::Metadata;
-use std::alloc::AllocError;
+use jwalk_fs::file_system::FileSystem;
+use std::alloc::{AllocError, Global};
 
 /// The entries that are looked for.
 #[derive(Drop)]
@@ -23,6 +24,8 @@ pub struct Filter<'w, T: NameTest> {
     pub path: Option<AbsolutePath>,
     /// Nothing below an entry that passes is looked for.
     pub prunes: bool,
+    /// Where memory is from.
+    pub alloc: Global,
 }
 
 fn passes_test<T: NameTest>(
@@ -48,24 +51,22 @@ fn passes_test<T: NameTest>(
 impl<'w, T: NameTest> Filter<'w, T> {
     ghost use Rattle.seek_words.specs.Filter.{sought_of};
 
-    /// Returns whether an entry of this depth, type, folder and name is looked for. `seen` is its metadata, if that is
-    /// known.
-    ///
-    /// # Errors
-    ///
-    /// If memory runs out.
-    pub fn passes(
+    fn meets<S: FileSystem>(
         &mut self,
+        disk: &S,
         depth: usize,
-        file_type: FileType,
-        folder: &str,
-        name: &str,
-        seen: Option<&Metadata>,
+        shown: Shown<'_>,
     ) -> Result<bool, AllocError>
-        ensures answer { IfOk result (λ yes. yes
-            ≡ is_found (sought_of T.takes self.old) depth file_type folder.now name.now (option_copied seen.entry)) }
-        ensures same { sought_of T.takes self.new ≡ sought_of T.takes self.old }
+        ensures answer { IfOk result (λ yes. yes ≡ is_met (sought_of T.takes (S.functions disk.now) self.old) depth
+            shown.entry.file_type shown.entry.folder.now shown.entry.name.now (option_copied shown.entry.seen)) }
+        ensures same { sought_of T.takes (S.functions disk.now) self.new ≡ sought_of T.takes (S.functions disk.now) self.old }
     {
+        let Shown {
+            file_type,
+            seen,
+            folder,
+            name,
+        } = shown;
         if !self.wanted.has(depth, file_type, name, seen) {
             return Ok(false);
         }
@@ -76,5 +77,31 @@ impl<'w, T: NameTest> Filter<'w, T> {
             name,
             file_type.is_dir(),
         )
+    }
+
+    /// Returns whether an entry of this depth is looked for. If only empty entries are, the disk is asked about a
+    /// directory that passes all else.
+    ///
+    /// # Errors
+    ///
+    /// If memory runs out.
+    pub fn passes<S: FileSystem>(
+        &mut self,
+        disk: &S,
+        depth: usize,
+        shown: Shown<'_>,
+    ) -> Result<bool, AllocError>
+        ensures answer { IfOk result (λ yes. IfEmpties (S.IsFixed disk.now) (sought_of T.takes (S.functions disk.now) self.old)
+            → yes ≡ is_found (sought_of T.takes (S.functions disk.now) self.old) depth
+            shown.entry.file_type shown.entry.folder.now shown.entry.name.now (option_copied shown.entry.seen)) }
+        ensures same { sought_of T.takes (S.functions disk.now) self.new ≡ sought_of T.takes (S.functions disk.now) self.old }
+    {
+        if !self.meets(disk, depth, shown)? {
+            return Ok(false);
+        }
+        if !self.wanted.kinds.empty {
+            return Ok(true);
+        }
+        is_empty(self.alloc, disk, shown)
     }
 }

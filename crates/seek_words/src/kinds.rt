@@ -38,12 +38,14 @@ pub struct Kinds {
     pub block: bool,
     /// Character devices are named.
     pub char: bool,
+    /// Only regular files without bytes and directories without entries are looked for.
+    pub empty: bool,
     /// Entries that are neither a file, a directory nor a link are named.
     pub other: bool,
 }
 
 impl Kinds {
-    ghost use Rattle.seek_words.specs.Kinds.{is_named, is_special, names_mode, names_none, has_mode, has_modes, has_kind};
+    ghost use Rattle.seek_words.specs.Kinds.{is_named, is_special, names_mode, names_none, has_mode, has_modes, has_kind, names_empty_alone};
 
     /// Returns whether a type is named that depends on the mode.
     pub fn names_mode(self) -> bool
@@ -56,6 +58,12 @@ impl Kinds {
         ensures { result ≡ names_none self }
     {
         !self.file && !self.dir && !self.link && !self.other && !self.names_mode()
+    }
+
+    fn names_empty_alone(self) -> bool
+        ensures { result ≡ names_empty_alone self }
+    {
+        self.empty && !self.file && !self.dir && !self.executable
     }
 
     fn names(self, file_type: FileType) -> bool
@@ -93,10 +101,13 @@ impl Kinds {
         }
     }
 
-    /// Returns whether an entry of this type and with this metadata is looked for.
+    /// Returns whether an entry of this type and with this metadata is looked for, but for emptiness.
     pub fn has(self, file_type: FileType, seen: Option<&Metadata>) -> bool
         ensures { result ≡ has_kind self file_type (option_copied seen.entry) }
     {
-        self.names_none() || self.names(file_type) || self.has_modes(file_type, seen)
+        self.names_none()
+            || self.names_empty_alone()
+            || self.names(file_type)
+            || self.has_modes(file_type, seen)
     }
 }

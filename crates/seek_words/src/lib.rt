@@ -6,6 +6,7 @@ pub mod case;
 pub mod color;
 mod command;
 pub mod depths;
+mod empty;
 pub mod expression;
 pub mod extension;
 pub mod filter;

@@ -1,9 +1,9 @@
-//! An entry whose line is printed.
+//! An entry that is shown to a filter, or printed.
 
 use jwalk_model::file_type::FileType;
 use jwalk_model::metadata::Metadata;
 
-/// An entry whose line is printed.
+/// An entry that is shown to a filter, or printed.
 #[derive(Clone, Copy)]
 pub struct Shown<'e> {
     /// Its type.

@@ -177,6 +177,7 @@ fn kinds_of(names: &[&str]) -> Kinds
         socket: names_one(names, "s", "socket"),
         block: names_one(names, "b", "block-device"),
         char: names_one(names, "c", "char-device"),
+        empty: names_one(names, "e", "empty"),
         other: names_one(names, "o", "other"),
     }
 }

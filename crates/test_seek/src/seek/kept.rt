@@ -103,6 +103,7 @@ const NONE: Kinds = Kinds {
     socket: false,
     block: false,
     char: false,
+    empty: false,
     other: false,
 };
 

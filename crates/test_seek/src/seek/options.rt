@@ -324,7 +324,7 @@ fn unrestricted(rt: HostRuntime) {
     all_come(&rt, UNRESTRICTED);
 }
 
-/// A directory, a link, and files of several sizes.
+/// Trees of directories, links, and files of several sizes. What is empty is by `fdfind -t e` on the same trees.
 const SIZES: &str = "\
 # sizes
 tree
@@ -357,6 +357,63 @@ $ seek -L -S1k . /s
   /s/b
   /s/l
 $ seek -S+0b -td . /s
+# empty files and directories
+tree
+  d /r
+  d /r/d
+  d /r/d/h
+  f 0 /r/d/h/.h
+  f 0 /r/d/z
+  d /r/e
+  f 1 /r/a
+  f 0 /r/z
+  l e\t/r/le
+  l z\t/r/lz
+  l none\t/r/gone
+$ seek -t e . /r
+  /r/d/z
+  /r/e
+  /r/z
+$ seek -t empty -t f . /r
+  /r/d/z
+  /r/z
+$ seek -te -td . /r
+  /r/e
+$ seek -te -tl . /r
+  /r/d/z
+  /r/e
+  /r/z
+$ seek -te -tx . /r
+$ seek -H -te . /r
+  /r/d/h/.h
+  /r/d/z
+  /r/e
+  /r/z
+$ seek -L -te . /r
+  /r/d/z
+  /r/e
+  /r/z
+  /r/le
+  /r/lz
+$ seek -te --prune . /r
+  /r/d/z
+  /r/e
+  /r/z
+$ seek -te -S0b . /r
+  /r/d/z
+  /r/z
+$ seek -te --exact-depth 2 . /r
+  /r/d/z
+$ seek -q -te ^a$ /r
+= 1
+$ seek -q -te ^e$ /r
+tree
+  d /r
+  d /r/x
+  x /r/x
+$ seek -te . /r
+! seek: /r/x: permission denied
+= 1
 ";
 
 #[test]

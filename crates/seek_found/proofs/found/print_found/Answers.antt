@@ -1,8 +1,9 @@
-use Rattle.std.proofs.Common.{◌≡◌, ◌∙◌, ◌∷◌, [], refl, subst}
+use Rattle.std.proofs.Common.{◌≡◌, ◌∙◌, ◌∷◌, [], refl, subst, sym}
 use Rattle.std.specs.Io.KnownBytes.{Appends, append_known}
 use Rattle.jwalk_job.specs.Entry.{item}
 use Rattle.seek_words.specs.Filter.{sought_of}
 use Rattle.seek_words.specs.Lines.{form_of, gathered_of}
+use Rattle.seek_words.specs.Sought.{IfEmpties}
 use Rattle.std.specs.List.{list_all}
 use Rattle.seek_found.specs.Found.{found_lines, is_clean}
 use Rattle.seek_found.specs.Limit.{left_after}
@@ -15,8 +16,8 @@ pub loop-below-init : goal.loop-below-init
 loop-below-init g c = record {
   can = c.requires.can;
   ends = c.requires.ends;
-  so_far = none_found g.I.Iterator.next_gives c.args.answers.now
-      (sought_of g.T.NameTest.takes c.args.printer.now.filter) (form_of c.args.printer.now.lines) c.args.printer.now.left
+  so_far = λ known. none_found g.I.Iterator.next_gives c.args.answers.now
+      (sought_of g.T.NameTest.takes (g.S.FileSystem.functions c.args.disk.now) c.args.printer.now.filter) (form_of c.args.printer.now.lines) c.args.printer.now.left
       (append_known (g.W.Write.contents c.args.out.now) (gathered_of c.args.printer.now.lines));
   sought = refl;
   form = refl;
@@ -32,19 +33,21 @@ loop-below-preserved g c =
     let answer = item c.in-Some.answer in
     let above = c.loop-below.below in
     let below = c.print.new.below in
-    let sought = sought_of g.T.NameTest.takes c.args.printer.now.filter in
-    let found = subst (λ s. Appends old mid (found_lines s (form_of c.loop-below.printer.lines) (unpruned_behind s above (answer ∷ [])))) held.sought c.in_ok-clean.ensures.printed in
-    let printed = subst (λ s. Appends old mid (found_lines sought s (unpruned_behind sought above (answer ∷ [])))) held.form found in
+    let sought = sought_of g.T.NameTest.takes (g.S.FileSystem.functions c.args.disk.now) c.args.printer.now.filter in
     record {
       can = on.0;
       ends = on.1;
-      so_far = one_found g.I.Iterator.next_gives c.args.answers.now sought (form_of c.args.printer.now.lines) c.args.printer.now.left
+      so_far = λ known.
+          let told = subst (IfEmpties (g.S.FileSystem.IsFixed c.args.disk.now)) (sym held.sought) known in
+          let found = subst (λ s. Appends old mid (found_lines s (form_of c.loop-below.printer.lines) (unpruned_behind s above (answer ∷ [])))) held.sought (c.in_ok-clean.ensures.printed told) in
+          let printed = subst (λ s. Appends old mid (found_lines sought s (unpruned_behind sought above (answer ∷ [])))) held.form found in
+          one_found g.I.Iterator.next_gives c.args.answers.now sought (form_of c.args.printer.now.lines) c.args.printer.now.left
           c.loop-below.answers c.next.new.self c.loop-below.printer.left c.print.new.self.left above below
           (append_known (g.W.Write.contents c.args.out.now) (gathered_of c.args.printer.now.lines)) old new
-          c.loop-below.clean c.in_ok-clean.field-0 c.in-Some.answer held.so_far (c.is_full.ensures.room c.loop-below-test.true) c.in-Some.ensures.steps
+          c.loop-below.clean c.in_ok-clean.field-0 c.in-Some.answer (held.so_far known) (c.is_full.ensures.room c.loop-below-test.true) c.in-Some.ensures.steps
           (appends_nothing old mid new (found_lines sought (form_of c.args.printer.now.lines) (unpruned_behind sought above (answer ∷ []))) printed c.in_ok-write_old.ensures.kept)
-          (subst (λ s. c.print.new.self.left ≡ left_after s c.loop-below.printer.left (unpruned_behind s above (answer ∷ []))) held.sought c.in_ok-clean.ensures.left)
-          (subst (λ s. below ≡ next_below s above answer) held.sought c.in_ok-clean.ensures.below)
+          (subst (λ s. c.print.new.self.left ≡ left_after s c.loop-below.printer.left (unpruned_behind s above (answer ∷ []))) held.sought (c.in_ok-clean.ensures.left told))
+          (subst (λ s. below ≡ next_below s above answer) held.sought (c.in_ok-clean.ensures.below told))
           (subst (λ s. c.in_ok-clean.field-0 ≡ list_all is_clean (unpruned_behind s above (answer ∷ []))) held.sought c.in_ok-clean.ensures.clean);
       sought = c.print.ensures.sought ∙ held.sought;
       form = c.write_old.ensures.form ∙ (c.print.ensures.form ∙ held.form);
@@ -52,14 +55,14 @@ loop-below-preserved g c =
 
 pub returns-clause-printed : goal.returns-clause-printed
 returns-clause-printed g c =
-    enough_found g.I.Iterator.next_gives c.args.answers.now
-    (sought_of g.T.NameTest.takes c.args.printer.now.filter) (form_of c.args.printer.now.lines) c.args.printer.now.left c.loop-below.answers c.loop-below.printer.left c.loop-below.below
+    λ known. enough_found g.I.Iterator.next_gives c.args.answers.now
+    (sought_of g.T.NameTest.takes (g.S.FileSystem.functions c.args.disk.now) c.args.printer.now.filter) (form_of c.args.printer.now.lines) c.args.printer.now.left c.loop-below.answers c.loop-below.printer.left c.loop-below.below
     (append_known (g.W.Write.contents c.args.out.now) (gathered_of c.args.printer.now.lines))
-    (append_known (g.W.Write.contents c.loop-below.out) (gathered_of c.loop-below.printer.lines)) c.loop-below.clean c.loop-below.invariant.so_far (c.is_full.ensures.full c.loop-below-test.false)
+    (append_known (g.W.Write.contents c.loop-below.out) (gathered_of c.loop-below.printer.lines)) c.loop-below.clean (c.loop-below.invariant.so_far known) (c.is_full.ensures.full c.loop-below-test.false)
 
 pub returns-in_default-clause-printed : goal.returns-in_default-clause-printed
 returns-in_default-clause-printed g c =
-    all_found g.I.Iterator.next_gives c.args.answers.now
-    (sought_of g.T.NameTest.takes c.args.printer.now.filter) (form_of c.args.printer.now.lines) c.args.printer.now.left c.loop-below.answers c.next.new.self c.loop-below.printer.left c.loop-below.below
+    λ known. all_found g.I.Iterator.next_gives c.args.answers.now
+    (sought_of g.T.NameTest.takes (g.S.FileSystem.functions c.args.disk.now) c.args.printer.now.filter) (form_of c.args.printer.now.lines) c.args.printer.now.left c.loop-below.answers c.next.new.self c.loop-below.printer.left c.loop-below.below
     (append_known (g.W.Write.contents c.args.out.now) (gathered_of c.args.printer.now.lines))
-    (append_known (g.W.Write.contents c.loop-below.out) (gathered_of c.loop-below.printer.lines)) c.loop-below.clean c.loop-below.invariant.so_far c.in_default.ensures.steps
+    (append_known (g.W.Write.contents c.loop-below.out) (gathered_of c.loop-below.printer.lines)) c.loop-below.clean (c.loop-below.invariant.so_far known) c.in_default.ensures.steps

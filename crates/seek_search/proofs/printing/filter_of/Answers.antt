@@ -16,5 +16,5 @@ returns g c =
         wanted_so = sym (some_mapped front_of c.in_ok-path_of.field-0) ∙ c.in_ok-path_of.ensures.wanted;
         found = c.in_ok-path_of.ensures.front;
       };
-      sought = sought_by asked.prune (ap₂ (λ l sizes. let w : Wants = record { depths = asked.depths; kinds = asked.kinds; extensions = texts_of l; sizes = sizes; owner = asked.owner; times = asked.times } in w) c.as_slice.ensures.value c.as_slice-2.ensures.value) c.in_ok-new.ensures refl;
+      sought = λ fs. sought_by asked.prune fs (ap₂ (λ l sizes. let w : Wants = record { depths = asked.depths; kinds = asked.kinds; extensions = texts_of l; sizes = sizes; owner = asked.owner; times = asked.times } in w) c.as_slice.ensures.value c.as_slice-2.ensures.value) c.in_ok-new.ensures refl;
     }

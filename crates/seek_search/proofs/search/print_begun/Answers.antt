@@ -21,11 +21,12 @@ returns-clause-whole g c =
     let it = c.into_iter-answers.result in
     let begun = c.into_iter-answers.ensures in
     IfOk-weaker c.print_found.result _ _
-    (λ clean prints. λ given steady none is.
+    (λ clean printed. λ fixed given steady none is.
+    let prints = printed (λ empties. fixed) in
     let steadily = steady_begun _ _ _ _ _ given walk it begun.steady begun.starts steady in
     elim prints.calls [
       | inl drains ↦
-          let sought = sought_of takes_of c.args.printer.now.filter in
+          let sought = sought_of takes_of (g.S.FileSystem.functions c.args.disk.now) c.args.printer.now.filter in
           let deep = deep_errors sought prints.answered (sym prints.all ∙ is) in
           printed_whole given sought _ _ _ clean (map item prints.answered) _ is prints.all prints.lines
           (whole_unless_busy _ _ _ _ _ given walk it prints.answered begun.begins.0 begun.begins.1.holds steadily begun.starts steady drains (none_refused prints.answered deep) (none_busy prints.answered deep))
@@ -36,7 +37,7 @@ returns-clause-whole g c =
 pub returns-clause-yielded : goal.returns-clause-yielded
 returns-clause-yielded g c =
     IfOk-weaker c.print_found.result _ _
-    (λ clean prints. counted_printed stateless _ _ _ _ _ _ _ clean prints.answered (record {
+    (λ clean printed. λ empties. let prints = printed empties in counted_printed stateless _ _ _ _ _ _ _ clean prints.answered (record {
       walk = c.args.walk;
       is_so = refl;
       it = c.into_iter-answers.result;

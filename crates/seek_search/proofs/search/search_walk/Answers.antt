@@ -29,7 +29,7 @@ returns-clause-whole g c =
     let over : arc_value (file_system_of walk) ≡ arc_value (file_system_of c.args.walk) = ap arc_value set.file_system in
     let from : arc_value (texts_of (callback_of walk).rules) ≡ arc_value (texts_of rules.rules) = ap (λ x. arc_value (texts_of x.rules)) set.callback in
     IfOk-weaker c.print_begun.result _ _
-    (λ clean whole. λ fixed told state none is.
+    (λ clean whole. λ still fixed told state none is.
     let steady : IsSteady _ _ _ _ (file_system_of walk) (callback_of walk) given
     = record {
       file_system = subst g.S.FileSystem.IsFixed (sym over) fixed;
@@ -37,10 +37,10 @@ returns-clause-whole g c =
       clones = λ x y h. ap (λ chain. both (chain_worth chain) blank) h.0;
       default = λ x h. refl;
     } in
-    printed_as (ap (unpruned (sought_of takes_of c.args.printer.now.filter)) (whole_of made (ap g.S.FileSystem.functions over) set.options set.root (ap rules_alone set.state ∙ state))) (whole given steady none is))
+    printed_as (ap (unpruned (sought_of takes_of (g.S.FileSystem.functions (arc_value c.args.disk.now)) c.args.printer.now.filter)) (whole_of made (ap g.S.FileSystem.functions over) set.options set.root (ap rules_alone set.state ∙ state))) (whole still given steady none is))
     c.print_begun.ensures.whole
 
 pub returns-clause-yielded : goal.returns-clause-yielded
 returns-clause-yielded g c =
     let set = c.with_hidden_shown.ensures in
-    IfOk-weaker c.print_begun.result _ _ (λ clean. printed_such (yielded_so _ (λ it is. subst (Sets _) (sym is) set))) c.print_begun.ensures.yielded
+    IfOk-weaker c.print_begun.result _ _ (λ clean prints. λ empties. printed_such (yielded_so _ (λ it is. subst (Sets _) (sym is) set)) (prints empties)) c.print_begun.ensures.yielded

@@ -8,7 +8,7 @@ use Rattle.seek_found.proofs.RootsFacts.{one_printed_of, printed_such, such_prin
 use Rattle.seek_search.specs.KeptLinks.{functions_kept}
 use Rattle.seek_search.specs.Search.{form_before, positive, roots_asked, sought_before}
 use Rattle.seek_search.specs.declared.kept_links.KeptLinks.{KeptLinks}
-use Rattle.seek_search.proofs.RunFacts.{printed_over, written_last}
+use Rattle.seek_search.proofs.RunFacts.{empties_if, printed_over, sought_over, written_last}
 use Rattle.seek_search.proofs.SearchFacts.{same_below, stops_somewhere}
 use Rattle.seek_found.specs.Sought.{takes_by}
 use Rattle.seek_search.proofs.run.Seek.search_asked.Goals as goal
@@ -19,11 +19,12 @@ returns-clause-whole g c = λ none is fixed told.
     let made = c.in_ok-printer.ensures in
     let disk = c.in_ok-shared.ensures in
     let texts = c.in_ok-shared-2.ensures in
+    let looked = sought_over (λ (d : KeptLinks _). functions_kept d.follow (g.S.FileSystem.functions d.disk)) c.in_ok-printer.printer.filter asked disk made.filter.sought in
     let over = c.in_ok-clean.ensures.whole (subst (λ (d : KeptLinks _). g.S.FileSystem.IsFixed d.disk) (sym disk) fixed) (subst g.X.Texts.IsFixed (sym texts) told) (made.limit ∙ none) is in
     written_last (g.W.Write.contents c.args.out.now) (g.W.Write.contents c.below_roots.new.out) (g.W.Write.contents c.finish.new.out)
     (gathered_of c.in_ok-printer.printer.lines) (gathered_of c.below_roots.new.printer.lines) made.empty
     (printed_over c.args.given.now asked (ap (λ (d : KeptLinks _). functions_kept d.follow (g.S.FileSystem.functions d.disk)) disk) (ap g.X.Texts.functions texts)
-    (made.filter.sought ∙ ap (λ front. sought_before front asked (takes_by c.args.sought.now)) (made.filter.is_front.found told))
+    (looked ∙ ap (λ front. sought_before (g.S.FileSystem.functions c.args.self.disk) front asked (takes_by c.args.sought.now)) (made.filter.is_front.found told))
     (made.form ∙ ap (λ front. form_before front c.args.self.screen asked) (made.is_shown.found told)) over)
     c.in_ok-finish.ensures.written
 
@@ -31,29 +32,33 @@ pub returns-clause-yielded : goal.returns-clause-yielded
 returns-clause-yielded g c =
     let asked = c.args.asked.now in
     let made = c.in_ok-printer.ensures in
+    let looked = sought_over (λ (d : KeptLinks _). functions_kept d.follow (g.S.FileSystem.functions d.disk)) c.in_ok-printer.printer.filter asked c.in_ok-shared.ensures made.filter.sought in
+    let stays = subst (λ (d : KeptLinks _). g.S.FileSystem.IsFixed d.disk) (sym c.in_ok-shared.ensures) in
     record {
       front = made.filter.front;
       in_front = made.filter.is_front.wanted_so;
       shown = made.shown;
       is_shown = made.is_shown.wanted_so;
       left = c.below_roots.new.printer.left;
-      printed = such_written_last (g.W.Write.contents c.args.out.now) (g.W.Write.contents c.below_roots.new.out) (g.W.Write.contents c.finish.new.out)
+      printed = λ empties. such_written_last (g.W.Write.contents c.args.out.now) (g.W.Write.contents c.below_roots.new.out) (g.W.Write.contents c.finish.new.out)
           (gathered_of c.in_ok-printer.printer.lines) (gathered_of c.below_roots.new.printer.lines) made.empty
-          (such_printed_by made.filter.sought made.form made.limit
-          (printed_such (same_below _ _ _ asked _ (roots_asked asked) c.in_ok-shared.ensures c.in_ok-shared-2.ensures made.filter.sought) c.in_ok-clean.ensures.yielded))
+          (such_printed_by looked made.form made.limit
+          (printed_such (same_below _ _ _ asked _ (roots_asked asked) c.in_ok-shared.ensures c.in_ok-shared-2.ensures looked) (c.in_ok-clean.ensures.yielded (empties_if looked stays empties))))
           c.in_ok-finish.ensures.written;
     }
 
 pub returns-clause-found : goal.returns-clause-found
-returns-clause-found g c = λ quiet full.
+returns-clause-found g c = λ quiet full empties.
     let asked = c.args.asked.now in
     let made = c.in_ok-printer.ensures in
-    let yielded = c.in_ok-clean.ensures.yielded in
+    let looked = sought_over (λ (d : KeptLinks _). functions_kept d.follow (g.S.FileSystem.functions d.disk)) c.in_ok-printer.printer.filter asked c.in_ok-shared.ensures made.filter.sought in
+    let stays = subst (λ (d : KeptLinks _). g.S.FileSystem.IsFixed d.disk) (sym c.in_ok-shared.ensures) in
+    let yielded = c.in_ok-clean.ensures.yielded (empties_if looked stays empties) in
     let one = made.limit ∙ ap (λ b. if b then Some 1 else positive asked.max_results) quiet in
     record {
       front = made.filter.front;
       in_front = made.filter.is_front.wanted_so;
       answers = yielded.answers;
-      yielded = stops_somewhere _ _ _ _ _ asked _ _ (roots_asked asked) yielded.answers (same_below _ _ _ asked _ (roots_asked asked) c.in_ok-shared.ensures c.in_ok-shared-2.ensures made.filter.sought yielded.answers yielded.such);
-      found = subst (λ (s : Sought). list_any (is_hit s) yielded.answers ≡ true) made.filter.sought (one_printed_of yielded one (c.is_full.ensures.full full));
+      yielded = stops_somewhere _ _ _ _ _ asked _ _ (roots_asked asked) yielded.answers (same_below _ _ _ asked _ (roots_asked asked) c.in_ok-shared.ensures c.in_ok-shared-2.ensures looked yielded.answers yielded.such);
+      found = subst (λ (s : Sought). list_any (is_hit s) yielded.answers ≡ true) looked (one_printed_of yielded one (c.is_full.ensures.full full));
     }

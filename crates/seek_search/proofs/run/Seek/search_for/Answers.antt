@@ -12,7 +12,7 @@ returns-then-asked-clause-done g c = λ zero.
         colored = c.is_colored.ensures;
         times = λ both.
             let known = c.in-Ok.ensures both.0 in record { now = known.now; after = known.after; before = known.before; after_file = known.after_file };
-        quiet = λ quiet. (refl, found.2 quiet found.1);
+        quiet = λ quiet. (refl, λ empties. found.2 quiet found.1 empties);
         yielded = λ loud. absurd (true≢false (sym c.if-asked.true ∙ loud));
         prints = λ both none. absurd (one_not_none refl (rw c.if-asked.true at none));
       },

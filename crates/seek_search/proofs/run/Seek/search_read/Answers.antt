@@ -1,4 +1,4 @@
-use Rattle.std.proofs.Common.{◌≡◌, ◌∙◌, List, ℕ, true, ap, ap₂, subst, sym}
+use Rattle.std.proofs.Common.{◌≡◌, ◌∙◌, true, ap, ap₂, subst, sym}
 use Rattle.jwalk_ignore.specs.Rules.WithExcludes.{excludes_of, texts_behind, with_excludes}
 use Rattle.seek_search.specs.Goes.{PrintsYielded}
 use Rattle.seek_search.specs.Run.{PrintsRead}
@@ -8,11 +8,11 @@ use Rattle.seek_search.proofs.run.Seek.search_read.Goals as goal
 
 pub returns-clause-yielded : goal.returns-clause-yielded
 returns-clause-yielded g c = λ clean.
-    let all : PrintsYielded _ _ _ _ _ _ _ _ _ _ true = subst (PrintsYielded _ _ _ _ _ _ _ _ _ _) (first_true c.in_ok-ended.ended.clean c.in_ok-excludes.field-0.clean clean) c.in_ok-ended.ensures.yielded in
+    let all : PrintsYielded _ _ _ _ _ _ _ _ _ _ _ _ true = subst (PrintsYielded _ _ _ _ _ _ _ _ _ _ _ _) (first_true c.in_ok-ended.ended.clean c.in_ok-excludes.field-0.clean clean) c.in_ok-ended.ensures.yielded in
     (c.new-texts.result, c.new-texts.ensures.texts, (_, all))
 
 pub returns-clause-found : goal.returns-clause-found
-returns-clause-found g c = λ quiet full. (c.new-texts.result, c.new-texts.ensures.texts, (_, c.in_ok-ended.ensures.found quiet full))
+returns-clause-found g c = λ quiet full empties. (c.new-texts.result, c.new-texts.ensures.texts, (_, c.in_ok-ended.ensures.found quiet full empties))
 
 pub returns-clause-whole : goal.returns-clause-whole
 returns-clause-whole g c = λ none clean fixed told.

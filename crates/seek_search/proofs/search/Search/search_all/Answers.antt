@@ -57,10 +57,10 @@ returns-clause-whole g c =
       clones = λ x y h. refl;
       default = λ x h. refl;
     } in
-    printed_as (ap (unpruned (sought_of takes_of c.args.printer.now.filter))
+    printed_as (ap (unpruned (sought_of takes_of (g.S.FileSystem.functions (arc_value self.disk)) c.args.printer.now.filter))
     (whole_of (leaving_out named excluded) (ap g.S.FileSystem.functions over) options root refl
     ∙ same_by_crew (leaving_out named excluded) (is_some self.crew) (g.S.FileSystem.functions (arc_value self.disk)) (options_asked asked) c.args.root.now blank))
-    (whole given steady none is))
+    (whole fixed given steady none is))
     c.print_begun.ensures.whole
 
 pub returns-clause-yielded : goal.returns-clause-yielded
@@ -78,4 +78,4 @@ returns-clause-yielded g c =
       named = ap (λ it. excluded_of (first_of it)) set.callback ∙ ap excluded_of c.new.ensures.first ∙ c.in_ok-naming.ensures;
       excluded = ap (λ it. excluded_of (second_of it)) set.callback ∙ ap excluded_of c.new.ensures.second ∙ c.in_ok-excluding.ensures ∙ ap (λ l. excluded_by (flat_map lines_of (texts_of l)) c.args.root.now) c.as_slice.ensures.value;
     } in
-    IfOk-weaker c.print_begun.result _ _ (λ clean. printed_such (yielded_so _ (λ it is. subst (IsPlain (arc_value self.disk) self.lines.now asked c.args.root.now) (sym is) plain))) c.print_begun.ensures.yielded
+    IfOk-weaker c.print_begun.result _ _ (λ clean prints. λ empties. printed_such (yielded_so _ (λ it is. subst (IsPlain (arc_value self.disk) self.lines.now asked c.args.root.now) (sym is) plain)) (prints empties)) c.print_begun.ensures.yielded
