@@ -38,19 +38,19 @@ impl Call {
     }
 }
 
-fn at(fs: &Tree<'_>, path: &str) -> Option<Metadata> {
+fn at<S: FileSystem>(fs: &S, path: &str) -> Option<Metadata> {
     fs.symlink_metadata(path).ok()
 }
 
 /// The first attempt has a request refused, and must change nothing then. The second has all granted.
 fn is_made(player: &Player<'_>, fs: &mut Tree<'_>, call: &Call) -> bool {
-    let before = at(fs, call.path());
+    let before = at(&*fs, call.path());
     player.refuse();
     let first = call.make(fs);
     player.grant();
     match first {
         Ok(()) => true,
-        Err(BuildError::Memory) => at(fs, call.path()) == before && call.make(fs).is_ok(),
+        Err(BuildError::Memory) => at(&*fs, call.path()) == before && call.make(fs).is_ok(),
         Err(_) => false,
     }
 }
