@@ -86,11 +86,9 @@ fn a_folder_of_groups_in_batches(rt: HostRuntime) -> Result<(), Fail> {
 }
 
 /// Both the path and its target must be a file of this length.
-fn has_length(rt: &HostRuntime, folder: &str, below: &str, len: u64) -> Result<bool, Fault> {
-    let fs = RealFs::new(*rt);
-    let path = path_in(rt, folder, below)?;
-    let found = fs.metadata(path.as_str())?;
-    let itself = fs.symlink_metadata(path.as_str())?;
+fn has_length<S: FileSystem>(fs: &S, path: &str, len: u64) -> Result<bool, Fault> {
+    let found = fs.metadata(path)?;
+    let itself = fs.symlink_metadata(path)?;
     Ok(found.is_file() && found.len() == len && itself.is_file() && itself.len() == len)
 }
 
@@ -101,8 +99,12 @@ fn has_lengths(rt: &HostRuntime, folder: &str) -> bool {
         ("/group 1/d.txt", 5),
         ("/group 2/.hidden_file.txt", 3),
     ];
+    let fs = RealFs::new(*rt);
     for (below, len) in LENGTHS {
-        if !matches!(has_length(rt, folder, *below, *len), Ok(true)) {
+        let Ok(path) = path_in(rt, folder, *below) else {
+            return false;
+        };
+        if !matches!(has_length(&fs, path.as_str(), *len), Ok(true)) {
             return false;
         }
     }
