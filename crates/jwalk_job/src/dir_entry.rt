@@ -1,7 +1,7 @@
 //! An entry of a walk.
 ghost use Rattle.std.specs.Prelude.{◌≡◌, Some, Ok, Err, IfOk, IfErr, IfSome, MatchResult, string_bytes};
 ghost use Rattle.std.specs.declared.io.ErrorKind.{ErrorKind};
-ghost use Rattle.jwalk_model.specs.Error.{io};
+ghost use Rattle.jwalk_model.specs.Entry.{IsErrorAt};
 ghost use Rattle.jwalk_model.specs.FileSystem.{metadata_at};
 ghost use Rattle.jwalk_job.specs.Error.{failure, kind_of};
 
@@ -42,26 +42,26 @@ pub struct DirEntry<C: ClientState, A: Allocator + Copy = Global> {
     pub(crate) ancestors: Ancestors<A>,
 }
 
+/// Asks for the metadata of a path, of what a link there leads to if `through_link` says so.
 fn asked<S: FileSystem, A: Allocator + Copy>(
     fs: &S,
     depth: usize,
     path: String<A>,
     through_link: bool,
-) -> Result<Result<Metadata, Error<A>>, AllocError>
-    ensures value { S.IsFixed fs.now → IfOk result (λ r. MatchResult r
+) -> Result<Metadata, Error<A>>
+    ensures value { S.IsFixed fs.now → MatchResult result
         (λ m. metadata_at (S.functions fs.now) through_link (string_bytes path) ≡ Ok m)
         (λ e. IfSome (kind_of (failure e))
-        (λ kind. metadata_at (S.functions fs.now) through_link (string_bytes path) ≡ Err kind))) }
-    ensures error { IfOk result (λ r. IfErr r (λ e. (kind : ErrorKind)
-        × (failure e ≡ io depth (Some (string_bytes path)) kind))) }
+        (λ kind. metadata_at (S.functions fs.now) through_link (string_bytes path) ≡ Err kind)) }
+    ensures error { IfErr result (λ e. IsErrorAt depth (string_bytes path) (failure e)) }
 {
     match metadata_at(fs, path.as_str(), through_link) {
-        Ok(metadata) => Ok(Ok(metadata)),
-        Err(Fault::Io(err)) => {
-            let path = Arc::new(*path.allocator(), path)?;
-            Ok(Err(Error::from_path(depth, path, err)))
-        }
-        Err(Fault::Memory) => Err(AllocError),
+        Ok(metadata) => Ok(metadata),
+        Err(Fault::Io(err)) => match Arc::new(*path.allocator(), path) {
+            Ok(path) => Err(Error::from_path(depth, path, err)),
+            Err(AllocError) => Err(Error::memory()),
+        },
+        Err(Fault::Memory) => Err(Error::memory()),
     }
 }
 
@@ -206,10 +206,7 @@ impl<C: ClientState, A: Allocator + Copy> DirEntry<C, A> {
         let Ok(path) = self.path() else {
             return Err(Error::memory());
         };
-        match asked(fs, self.depth, path, self.through_link) {
-            Ok(answer) => answer,
-            Err(AllocError) => Err(Error::memory()),
-        }
+        asked(fs, self.depth, path, self.through_link)
     }
 
     pub(crate) fn with_directory(mut self, path: Arc<String<A>, A>, target: Metadata) -> Self

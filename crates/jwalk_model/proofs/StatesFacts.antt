@@ -6,7 +6,7 @@ use Rattle.jwalk_model.specs.Entry.{Item}
 use Rattle.jwalk_model.specs.ReadDir.{Spec, Outcome}
 use Rattle.jwalk_model.specs.Counted.{Worth, blank}
 use Rattle.jwalk_model.specs.Job as value
-use Rattle.jwalk_model.specs.Job.{Job, Processing}
+use Rattle.jwalk_model.specs.Job.{Job}
 use Rattle.jwalk_model.specs.Listing.{after_reading}
 use Rattle.jwalk_model.specs.States.{bare_children, bare_spec, bare_item, bare_outcome, without_callback, StatesChangeNothingElse}
 use Rattle.jwalk_model.proofs.ViewFacts.{View, viewed-after_reading, viewed-ordered, viewed-root_item, goes_as_viewed}

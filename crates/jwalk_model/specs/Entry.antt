@@ -42,6 +42,10 @@ is_hidden (c ∷ cs) = c == 46
 abbrev pub failed : {R : Type 0} → Failure → Children R → Children R
 failed f c = record c { error = Some f }
 
+-- An error of asking for the metadata of a path: memory ran out, or an error of the file system, with this depth and path.
+abbrev pub IsErrorAt : ℕ → List ℕ → Failure → Type 0
+IsErrorAt depth path f = (f ≡ memory) ⊎ ((kind : ErrorKind) × (f ≡ io depth (Some path) kind))
+
 module _ {R E : Type 0} where
   -- the path of an entry
   abbrev pub path_of : Entry R E → List ℕ
@@ -51,9 +55,9 @@ module _ {R E : Type 0} where
   abbrev pub metadata_of : Functions → Entry R E → Result Metadata ErrorKind
   metadata_of fs e = metadata_at fs e.through_link (path_of e)
 
-  -- An error of asking for it: memory ran out, or an error of the file system, with the entry's depth and path.
+  -- an error of asking for it
   abbrev pub IsErrorOf : Entry R E → Failure → Type 0
-  IsErrorOf e f = (f ≡ memory) ⊎ ((kind : ErrorKind) × (f ≡ io e.depth (Some (path_of e)) kind))
+  IsErrorOf e f = IsErrorAt e.depth (path_of e) f
 
   -- whether an item has a directory to be read
   abbrev pub has_directory : Item R E → Bool

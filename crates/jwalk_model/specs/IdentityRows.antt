@@ -1,5 +1,5 @@
 -- Walks over small trees whose file system knows which file is at a path, row by row: what they yield, a line each.
-use Rattle.std.specs.Prelude.{◌≡◌, ℕ, ◌+◌, ◌*◌, List, [], ◌∷◌, map, Some, None, Result, Ok, Err, codes, bytes_eq, if◌then◌else◌, fold, flat_map, pos, refl, true, false}
+use Rattle.std.specs.Prelude.{◌≡◌, ℕ, ◌+◌, ◌*◌, List, [], ◌∷◌, map, None, Result, Ok, Err, codes, bytes_eq, if◌then◌else◌, fold, flat_map, pos, refl, true, false}
 use Rattle.std.specs.Fmt.{digits}
 use Rattle.std.specs.declared.io.ErrorKind.{ErrorKind}
 use Rattle.jwalk_model.specs.declared.metadata.Identity.{Identity}
@@ -7,6 +7,7 @@ use Rattle.jwalk_model.specs.declared.metadata.Metadata.{Metadata}
 use Rattle.jwalk_model.specs.declared.metadata.Moment.{Moment}
 use Rattle.jwalk_model.specs.declared.seen.Seen.{Seen}
 use Rattle.jwalk_model.specs.declared.seen.Seen.TheVariants.{TypeAlone, Whole}
+use Rattle.jwalk_model.specs.Metadata.{with_details}
 use Rattle.jwalk_model.specs.FileSystem.{Functions, Listed}
 use Rattle.jwalk_model.specs.Tree.{Tree, Place, child, only_root, functions_of, look_up, at_found, listing_at, node_metadata}
 use Rattle.jwalk_model.specs.TreeRows.{Step, d, f, l, built}
@@ -27,20 +28,18 @@ abbrev at_no_time : Moment
 at_no_time = record { seconds = pos 0; nanoseconds = 0 }
 
 abbrev identified : Place → Metadata → Metadata
-identified place m = record m {
-  details = Some (record {
-    identity = file_at place;
-    links = 1;
-    blocks = 0;
-    modified = at_no_time;
-    accessed = at_no_time;
-    changed = at_no_time;
-    created = None;
-    mode = 0;
-    uid = 0;
-    gid = 0;
-  });
-}
+identified place m = with_details (record {
+  identity = file_at place;
+  links = 1;
+  blocks = 0;
+  modified = at_no_time;
+  accessed = at_no_time;
+  changed = at_no_time;
+  created = None;
+  mode = 0;
+  uid = 0;
+  gid = 0;
+}) m
 
 abbrev metadata_with : Place → Result Metadata ErrorKind → Result Metadata ErrorKind
 metadata_with place (Ok m) = Ok (identified place m)

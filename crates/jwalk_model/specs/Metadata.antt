@@ -1,9 +1,10 @@
 -- What a file system knows of a path.
-use Rattle.std.specs.Prelude.{ℕ, Bool, false, not, ◌&&◌, ◌||◌, ◌==◌, Option, Some, None, if◌then◌else◌}
+use Rattle.std.specs.Prelude.{ℕ, Bool, false, not, ◌&&◌, ◌||◌, ◌==◌, Option, Some, None, option_map, if◌then◌else◌}
 use Rattle.jwalk_model.specs.declared.file_type.FileType.{FileType}
 use Rattle.jwalk_model.specs.declared.metadata.Metadata.{Metadata}
 use Rattle.jwalk_model.specs.declared.metadata.Details.{Details}
 use Rattle.jwalk_model.specs.declared.metadata.Identity.{Identity}
+use Rattle.jwalk_model.specs.Packed.{packed, unpacked}
 
 -- the type
 abbrev pub type_of : Metadata → FileType
@@ -15,7 +16,7 @@ len_of m = m.len
 
 -- what else is known
 abbrev pub details_of : Metadata → Option Details
-details_of m = m.details
+details_of m = option_map unpacked m.details
 
 -- whether it says which file it is: no file has both numbers 0
 abbrev pub is_known : Identity → Bool
@@ -27,7 +28,7 @@ identity_in (Some d) = if is_known d.identity then Some d.identity else None
 
 -- which file it is, where that is known
 abbrev pub identity_of : Metadata → Option Identity
-identity_of m = identity_in m.details
+identity_of m = identity_in (details_of m)
 
 -- whether two identities are that of one file
 abbrev pub same_file : Identity → Identity → Bool
@@ -41,3 +42,7 @@ is_elsewhere _ _ = false
 -- the metadata of this type and length, without details
 abbrev pub metadata : FileType → ℕ → Metadata
 metadata type len = record { file_type = type; len = len; details = None }
+
+-- the metadata with these details
+abbrev pub with_details : Details → Metadata → Metadata
+with_details details m = record m { details = Some (packed details) }

@@ -1,9 +1,8 @@
 -- What details are kept as.
 use Rattle.std.specs.Prelude.{ℕ, ℤ, pos, Bool, true, false, Option, Some, None, ◌≡◌, refl}
-use Rattle.std.proofs.Common.{sym}
 use Rattle.jwalk_model.specs.declared.metadata.Details.{Details}
 use Rattle.jwalk_model.specs.declared.metadata.Moment.{Moment}
-use Rattle.jwalk_model.specs.declared.packed_details.PackedDetails.TheInside.{Inside}
+use Rattle.jwalk_model.specs.declared.packed_details.PackedDetails.{PackedDetails}
 
 -- the point in time of these seconds and nanoseconds
 abbrev moment : ℤ → ℕ → Moment
@@ -15,18 +14,18 @@ moment_if true m = Some m
 moment_if false _ = None
 
 -- the details that are kept so
-abbrev pub unpacked : Inside → Details
-unpacked a = record {
-  identity = a.identity;
-  links = a.links;
-  blocks = a.blocks;
-  modified = moment a.modified_seconds a.modified_nanoseconds;
-  accessed = moment a.accessed_seconds a.accessed_nanoseconds;
-  changed = moment a.changed_seconds a.changed_nanoseconds;
-  created = moment_if a.is_created_known (moment a.created_seconds a.created_nanoseconds);
-  mode = a.mode;
-  uid = a.uid;
-  gid = a.gid;
+abbrev pub unpacked : PackedDetails → Details
+unpacked p = record {
+  identity = p.identity;
+  links = p.links;
+  blocks = p.blocks;
+  modified = moment p.modified_seconds p.modified_nanoseconds;
+  accessed = moment p.accessed_seconds p.accessed_nanoseconds;
+  changed = moment p.changed_seconds p.changed_nanoseconds;
+  created = moment_if p.is_created_known (moment p.created_seconds p.created_nanoseconds);
+  mode = p.mode;
+  uid = p.uid;
+  gid = p.gid;
 }
 
 -- whether a time is known
@@ -39,17 +38,8 @@ abbrev moment_or_zero : Option Moment → Moment
 moment_or_zero (Some m) = m
 moment_or_zero None = moment (pos 0) 0
 
--- a time that isn't known is kept as 0
-abbrev IsZeroUnless : Bool → ℤ → ℕ → Type 0
-IsZeroUnless true _ _ = Unit {0}
-IsZeroUnless false seconds nanoseconds = (seconds ≡ pos 0) × (nanoseconds ≡ 0)
-
--- a time of creation that isn't known is kept as 0
-abbrev pub IsPacked : Inside → Type 0
-IsPacked a = IsZeroUnless a.is_created_known a.created_seconds a.created_nanoseconds
-
 -- what these details are kept as
-abbrev pub packed : Details → Inside
+abbrev pub packed : Details → PackedDetails
 packed d = record {
   identity = d.identity;
   links = d.links;
@@ -68,39 +58,10 @@ packed d = record {
   is_created_known = is_known d.created;
 }
 
--- the seconds of a time are kept
-kept_seconds : (known : Bool) (seconds : ℤ) (nanoseconds : ℕ) → IsZeroUnless known seconds nanoseconds
-    → (moment_or_zero (moment_if known (moment seconds nanoseconds))).seconds ≡ seconds
-kept_seconds true _ _ _ = refl
-kept_seconds false _ _ zero = sym zero.0
-
--- and its nanoseconds
-kept_nanoseconds : (known : Bool) (seconds : ℤ) (nanoseconds : ℕ) → IsZeroUnless known seconds nanoseconds
-    → (moment_or_zero (moment_if known (moment seconds nanoseconds))).nanoseconds ≡ nanoseconds
-kept_nanoseconds true _ _ _ = refl
-kept_nanoseconds false _ _ zero = sym zero.1
-
--- and whether it is known
-kept_known : (known : Bool) (m : Moment) → is_known (moment_if known m) ≡ known
-kept_known true _ = refl
-kept_known false _ = refl
-
--- packing what was unpacked gives it again
-pub packed_unpacked : (a : Inside) → IsPacked a → packed (unpacked a) ≡ a
-packed_unpacked a zero i = record {
-  identity = a.identity;
-  links = a.links;
-  blocks = a.blocks;
-  modified_seconds = a.modified_seconds;
-  accessed_seconds = a.accessed_seconds;
-  changed_seconds = a.changed_seconds;
-  created_seconds = kept_seconds a.is_created_known a.created_seconds a.created_nanoseconds zero i;
-  modified_nanoseconds = a.modified_nanoseconds;
-  accessed_nanoseconds = a.accessed_nanoseconds;
-  changed_nanoseconds = a.changed_nanoseconds;
-  created_nanoseconds = kept_nanoseconds a.is_created_known a.created_seconds a.created_nanoseconds zero i;
-  mode = a.mode;
-  uid = a.uid;
-  gid = a.gid;
-  is_created_known = kept_known a.is_created_known (moment a.created_seconds a.created_nanoseconds) i;
-}
+-- unpacking what was packed gives it again
+pub unpacked_packed : (d : Details) → unpacked (packed d) ≡ d
+unpacked_packed d i = record d { created = created_again d.created i }
+  where
+    created_again : (created : Option Moment) → moment_if (is_known created) (moment (moment_or_zero created).seconds (moment_or_zero created).nanoseconds) ≡ created
+    created_again (Some m) = refl
+    created_again None = refl

@@ -5,6 +5,6 @@ pub mod file_type;
 pub mod kept;
 pub mod laws;
 pub mod metadata;
-pub mod packed_details;
+mod packed_details;
 pub mod seen;
 pub mod states;

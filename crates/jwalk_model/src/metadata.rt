@@ -80,7 +80,7 @@ pub struct Metadata {
 }
 
 impl Metadata {
-    ghost use Rattle.jwalk_model.specs.Metadata.{type_of, len_of, details_of, identity_of, metadata};
+    ghost use Rattle.jwalk_model.specs.Metadata.{type_of, len_of, details_of, identity_of, metadata, with_details};
     ghost use Rattle.jwalk_model.specs.FileType.{is_dir, is_file};
 
     /// Returns the metadata with this type and this length in bytes, without details.
@@ -96,7 +96,8 @@ impl Metadata {
 
     /// Returns the same metadata with these details.
     pub fn with_details(self, details: Details) -> Self
-        ensures { result ≡ record self { details = Some details } }
+        ensures value { result ≡ with_details details self }
+        ensures kept { details_of result ≡ Some details }
     {
         Metadata {
             file_type: self.file_type,

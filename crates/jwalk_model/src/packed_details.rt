@@ -3,12 +3,9 @@ ghost use Rattle.std.specs.Prelude.{◌≡◌};
 
 use crate::metadata::{Details, Identity, Moment};
 use std::fmt;
-use std::marker::Model;
 
 /// The same as [`Details`], in 96 bytes instead of 120: seconds and nanoseconds stand apart.
-///
-/// A contract sees the details.
-#[derive(Clone, Copy)]
+#[derive(Clone, Copy, PartialEq, Eq)]
 pub struct PackedDetails {
     identity: Identity,
     links: u64,
@@ -26,32 +23,14 @@ pub struct PackedDetails {
     mode: u32,
     uid: u32,
     gid: u32,
-    /// Whether it is known when the file was created.
     is_created_known: bool,
 }
 
-impl Model for PackedDetails {
-    ghost use Rattle.jwalk_model.specs.declared.metadata.Details.{Details};
-
-    ghost Value = { Details };
-
-    ghost use Rattle.jwalk_model.specs.Packed.{unpacked, IsPacked, packed};
-
-    ghost view = { unpacked };
-
-    ghost invariant = { IsPacked };
-
-    ghost inverse = { packed };
-
-    ghost use Rattle.jwalk_model.specs.Packed.{packed_unpacked};
-
-    ghost inverse_ok = { packed_unpacked };
-}
-
 impl PackedDetails {
-    /// Returns these details, packed.
+    ghost use Rattle.jwalk_model.specs.Packed.{packed, unpacked};
+
     pub fn new(details: Details) -> Self
-        ensures { result ≡ details }
+        ensures { result ≡ packed details }
     {
         let created = details.created.unwrap_or(Moment {
             seconds: 0,
@@ -78,7 +57,7 @@ impl PackedDetails {
 
     /// Returns the details that it was made of.
     pub fn details(&self) -> Details
-        ensures { result ≡ self.now }
+        ensures { result ≡ unpacked self.now }
     {
         Details {
             identity: self.identity,
@@ -106,7 +85,6 @@ impl PackedDetails {
     }
 }
 
-/// Returns the point in time of these seconds and nanoseconds.
 fn moment(seconds: i64, nanoseconds: u32) -> Moment
     ensures { result ≡ record { seconds = seconds; nanoseconds = nanoseconds } }
 {
@@ -120,22 +98,4 @@ impl fmt::Debug for PackedDetails {
     fn fmt<W: fmt::Write>(&self, f: &mut fmt::Formatter<W>) -> fmt::Result {
         self.details().fmt(f)
     }
-}
-
-impl PartialEq for PackedDetails {
-    ghost eq = { ⟦<Details as PartialEq>⟧.eq };
-
-    ghost use Rattle.jwalk_model.specs.contracts.metadata.DetailsPartialEq.TheImpl.Laws.{laws-law};
-
-    ghost laws = { laws-law };
-
-    fn eq(&self, other: &PackedDetails) -> bool {
-        self.details() == other.details()
-    }
-}
-
-impl Eq for PackedDetails {
-    ghost use Rattle.jwalk_model.specs.contracts.metadata.DetailsEq.TheImpl.Laws.{laws-law};
-
-    ghost laws = { laws-law };
 }

@@ -73,7 +73,7 @@ impl<
     ghost use Rattle.jwalk_readings.specs.ReadDirIter.{by_crew, job_of, to_read, width_of, read_ahead, early_of, frontier_of, most_ahead, CountsAhead, StaysSteady, Gives, GivesOf};
     ghost use Rattle.jwalk_readings.specs.Sources.{base_of};
 
-    /// Returns readings that no crew makes, of no directory yet: [`begin`](ReadDirIter::begin) says of which.
+    /// Returns readings that no crew makes, of no directory yet. [`begin`](ReadDirIter::begin) names the directories.
     pub fn new(alloc: A, job: Job<C, S, P, A>, mode: Mode) -> Self
         ensures own { by_crew result ≡ false }
         ensures job { job_of result ≡ job }

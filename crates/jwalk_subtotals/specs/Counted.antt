@@ -1,5 +1,5 @@
 -- What each of a list of answers counts.
-use Rattle.std.specs.Prelude.{◌≡◌, ℕ, ◌*◌, nat_lt, Bool, true, false, ◌&&◌, ◌||◌, List, [], ◌∷◌, Option, Some, None, Ok, Err, if◌then◌else◌}
+use Rattle.std.specs.Prelude.{◌≡◌, ℕ, ◌*◌, nat_lt, Bool, true, false, ◌&&◌, ◌||◌, List, [], ◌∷◌, Option, Some, None, Ok, Err, option_and_then, if◌then◌else◌}
 use Rattle.std.specs.List.{list_any}
 use Rattle.jwalk.specs.jwalk_model.declared.file_type.FileType.{FileType}
 use Rattle.jwalk.specs.jwalk_model.declared.metadata.Metadata.{Metadata}
@@ -14,34 +14,24 @@ use Rattle.jwalk_subtotals.specs.declared.subtotal.Subtotal.{Subtotal}
 use Rattle.jwalk_subtotals.specs.declared.options.SubtotalOptions.{SubtotalOptions}
 use Rattle.jwalk_subtotals.specs.Subtotal.{nothing}
 
--- the bytes on the disk by metadata: its blocks where details are known, and else the length
-abbrev allocated_in : ℕ → Option Details → ℕ
-allocated_in length None = length
-allocated_in length (Some d) = 512 * d.blocks
+-- the bytes on the disk: the blocks where details are known, and else the length
+abbrev allocated : ℕ → Option Details → ℕ
+allocated length None = length
+allocated length (Some d) = 512 * d.blocks
 
--- the bytes on the disk by metadata that are kept, and 0 if none are
-abbrev allocated : Option Metadata → ℕ
-allocated None = 0
-allocated (Some m) = allocated_in m.len m.details
+-- the bytes that count: the length if lengths are asked for, and else the bytes on the disk
+abbrev pub size_in : Bool → ℕ → Option Details → ℕ
+size_in apparent length details = if apparent then length else allocated length details
 
--- the bytes of metadata that are kept: its length if lengths are asked for, and else the bytes on the disk
+-- the bytes of metadata that are kept, and 0 if none are
 abbrev pub size_kept : Bool → Option Metadata → ℕ
-size_kept apparent seen = if apparent then length_kept seen else allocated seen
-
--- the details of metadata that are kept
-abbrev pub details_seen : Option Metadata → Option Details
-details_seen None = None
-details_seen (Some m) = m.details
+size_kept apparent None = 0
+size_kept apparent (Some m) = size_in apparent (len_of m) (details_of m)
 
 -- which file it is, if another name may lead to it: where links are followed, or if it has more than one
 abbrev pub shared_in : Bool → Option Details → Option Identity
 shared_in follows None = None
 shared_in follows (Some d) = if is_known d.identity && (follows || nat_lt 1 d.links) then Some d.identity else None
-
--- the same by metadata that are kept
-abbrev pub shared_by : Bool → Option Metadata → Option Identity
-shared_by follows None = None
-shared_by follows (Some m) = shared_in follows m.details
 
 -- whether the directories above an entry are kept, as where links are followed
 abbrev pub is_kept : List (List ℕ) → Bool
@@ -79,9 +69,13 @@ abbrev pub Weighed : Type 0 → Type 0 → Type 0
 Weighed R E = Item R E × Subtotal
 
 module _ {R E : Type 0} where
-  -- which file an entry is, if it is no directory and its size is counted once only
+  -- which file an entry with these details is, if it is no directory and its size is counted once only
+  abbrev pub file_counted : SubtotalOptions → Option Details → Entry R E → Option Identity
+  file_counted options details e = if options.each_name || is_dir e.file_type then None else shared_in (is_kept e.ancestors) details
+
+  -- the same by what it keeps
   abbrev pub counted_once : SubtotalOptions → Entry R E → Option Identity
-  counted_once options e = if options.each_name || is_dir e.file_type then None else shared_by (is_kept e.ancestors) e.seen
+  counted_once options e = file_counted options (option_and_then details_of e.seen) e
 
   -- what an entry of these bytes and this length counts by itself: its size and that of a file unless they were counted before, its type, and the error of its directory
   abbrev pub own_sized : ℕ → ℕ → Bool → Entry R E → Subtotal

@@ -5,6 +5,7 @@ use Rattle.jwalk.specs.jwalk_model.declared.file_type.FileType.{FileType}
 use Rattle.jwalk.specs.jwalk_model.declared.file_type.FileType.TheVariants.{File, Dir}
 use Rattle.jwalk.specs.jwalk_model.declared.metadata.Moment.{Moment}
 use Rattle.jwalk.specs.jwalk_model.declared.metadata.Metadata.{Metadata}
+use Rattle.jwalk.specs.jwalk_model.Metadata.{metadata, with_details}
 use Rattle.jwalk.specs.jwalk_model.Error.{Failure, io}
 use Rattle.jwalk.specs.jwalk_model.Entry.{Item}
 use Rattle.jwalk_subtotals.specs.declared.subtotal.Subtotal.{Subtotal}
@@ -30,32 +31,28 @@ found depth name type seen above = Ok (record {
 
 -- a directory of 10 bytes, and a file of this length
 abbrev d : ℕ → List ℕ → Answer
-d depth name = found depth name Dir (record { file_type = Dir; len = 10; details = None }) []
+d depth name = found depth name Dir (metadata Dir 10) []
 
 abbrev f : ℕ → ℕ → List ℕ → Answer
-f len depth name = found depth name File (record { file_type = File; len = len; details = None }) []
+f len depth name = found depth name File (metadata File len) []
 
 abbrev moment : Moment
 moment = record { seconds = pos 0; nanoseconds = 0 }
 
 -- a file of 5 bytes in two blocks, with its number and how many names it has
 abbrev kept : ℕ → ℕ → Metadata
-kept inode names = record {
-  file_type = File;
-  len = 5;
-  details = Some (record {
-    identity = record { device = 1; inode = inode };
-    links = names;
-    blocks = 2;
-    modified = moment;
-    accessed = moment;
-    changed = moment;
-    created = None;
-    mode = 0;
-    uid = 0;
-    gid = 0;
-  });
-}
+kept inode names = with_details (record {
+  identity = record { device = 1; inode = inode };
+  links = names;
+  blocks = 2;
+  modified = moment;
+  accessed = moment;
+  changed = moment;
+  created = None;
+  mode = 0;
+  uid = 0;
+  gid = 0;
+}) (metadata File 5)
 
 -- one of its names
 abbrev h : ℕ → ℕ → ℕ → List ℕ → Answer

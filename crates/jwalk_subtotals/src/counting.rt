@@ -2,7 +2,7 @@
 ghost use Rattle.std.specs.Prelude.{◌≡◌, Some};
 ghost use Rattle.jwalk.specs.jwalk_job.Entry.{entry};
 ghost use Rattle.jwalk_usage.specs.Kept.{length_kept};
-ghost use Rattle.jwalk_subtotals.specs.Counted.{size_kept, details_seen, shared_in, counted_once, counted_by_type, one_error, own_sized};
+ghost use Rattle.jwalk_subtotals.specs.Counted.{size_in, size_kept, shared_in, file_counted, counted_once, counted_by_type, one_error, own_sized};
 
 use crate::options::SubtotalOptions;
 use crate::subtotal::Subtotal;
@@ -21,14 +21,13 @@ pub(crate) struct Size {
     pub(crate) file: Option<Identity>,
 }
 
-/// Returns the bytes of metadata with these details.
-fn size_kept(apparent: bool, metadata: &Metadata, details: &Option<Details>) -> u128
-    requires { details.now ≡ metadata.now.details }
-    ensures { result ≡ size_kept apparent (Some metadata.now) }
+/// Returns the bytes that count of this length and these details.
+fn size_in(apparent: bool, length: u128, details: &Option<Details>) -> u128
+    ensures { result ≡ size_in apparent length details.now }
 {
     match details {
         Some(details) if !apparent => 512 * details.blocks as u128,
-        _ => metadata.len() as u128,
+        _ => length,
     }
 }
 
@@ -45,13 +44,12 @@ fn shared_in(follows: bool, details: &Option<Details>) -> Option<Identity>
 }
 
 /// Returns which file an entry with these details is, if it is no directory and its size is counted once only.
-fn counted_once<C: ClientState, A: Allocator + Copy>(
+fn file_counted<C: ClientState, A: Allocator + Copy>(
     options: &SubtotalOptions,
-    found: &DirEntry<C, A>,
     details: &Option<Details>,
+    found: &DirEntry<C, A>,
 ) -> Option<Identity>
-    requires { details.now ≡ details_seen (entry found.now).seen }
-    ensures { result ≡ counted_once options.now (entry found.now) }
+    ensures { result ≡ file_counted options.now details.now (entry found.now) }
 {
     if options.each_name || found.file_type().is_dir() {
         return None;
@@ -73,14 +71,15 @@ pub(crate) fn size_of<C: ClientState, A: Allocator + Copy>(
         return Size {
             bytes: 0,
             length: 0,
-            file: counted_once(options, found, &None),
+            file: file_counted(options, &None, found),
         };
     };
     let details = metadata.details();
+    let length = metadata.len() as u128;
     Size {
-        bytes: size_kept(options.apparent, metadata, &details),
-        length: metadata.len() as u128,
-        file: counted_once(options, found, &details),
+        bytes: size_in(options.apparent, length, &details),
+        length,
+        file: file_counted(options, &details, found),
     }
 }
 

@@ -1,4 +1,4 @@
-use Rattle.std.proofs.Common.{◌≡◌, ◌∙◌, ◌∷◌, ◌<◌, ◌+◌, ℕ, List, [], ◌&&◌, true, false, map, drop, length, get_or, sym, ap}
+use Rattle.std.proofs.Common.{◌≡◌, ◌∙◌, ◌∷◌, ◌<◌, ◌+◌, ℕ, List, [], ◌&&◌, false, map, drop, length, get_or, sym, ap}
 use Rattle.std.proofs.lemmas.List.{at_drop_more}
 use Rattle.std.specs.declared.path.components.Component.{Component as StdComponent}
 use Rattle.std.specs.declared.path.components.Component.TheVariants.{RootDir}
