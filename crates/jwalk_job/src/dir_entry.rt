@@ -59,7 +59,7 @@ fn asked<S: FileSystem, A: Allocator + Copy>(
         Ok(metadata) => Ok(metadata),
         Err(Fault::Io(err)) => match Arc::new(*path.allocator(), path) {
             Ok(path) => Err(Error::from_path(depth, path, err)),
-            Err(AllocError) => Err(Error::memory()),
+            Err(_) => Err(Error::memory()),
         },
         Err(Fault::Memory) => Err(Error::memory()),
     }
