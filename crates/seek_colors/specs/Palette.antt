@@ -1,7 +1,7 @@
 -- The colours of entries.
 use Rattle.std.specs.Prelude.{◌≡◌, ℕ, ◌==◌, Bool, true, ◌&&◌, not, List, [], ◌∷◌, ◌++◌, length, bytes_eq, codes, Option, Some, None, IfSome, if◌then◌else◌}
 use Rattle.std.specs.List.{filter, filter_map, list_all}
-use Rattle.std.specs.Option.{is_none, option_map, option_or}
+use Rattle.std.specs.Option.{is_none, option_eq, option_map, option_or}
 use Rattle.jwalk_model.specs.Paths.{starts_with_slash, with_slash}
 use Rattle.seek_colors.specs.Entries.{entries_in, is_color_byte}
 use Rattle.seek_colors.specs.Painted.{painted}
@@ -72,6 +72,10 @@ own_color colors Other name = None
 -- the colour of an entry: its own, or that of all without one, if it is visible
 abbrev pub color_of : Colors → Kind → List ℕ → Option (List ℕ)
 color_of colors kind name = visible (option_or (own_color colors kind name) (key_color colors.kinds (codes "no")))
+
+-- whether the colour of a link tells if it leads nowhere: it has another colour then
+abbrev pub tells_broken : Colors → Bool
+tells_broken colors = not (option_eq bytes_eq (color_of colors BrokenLink []) (color_of colors Link []))
 
 -- each colour of an entry is of digits and `;` alone
 abbrev pub GivesColorsAlone : Colors → Type 0

@@ -1,6 +1,6 @@
 -- The colours of values of `LS_COLORS`, row by row.
-use Rattle.std.specs.Prelude.{◌≡◌, ℕ, List, [], ◌∷◌, ◌++◌, codes, Option, Some, None, refl}
-use Rattle.seek_colors.specs.Palette.{color_of, colored_path, palette_in}
+use Rattle.std.specs.Prelude.{◌≡◌, ℕ, true, false, List, [], ◌∷◌, ◌++◌, codes, Option, Some, None, refl}
+use Rattle.seek_colors.specs.Palette.{color_of, colored_path, palette_in, tells_broken}
 use Rattle.seek_colors.specs.declared.kind.Kind.{Kind}
 use Rattle.seek_colors.specs.declared.kind.Kind.TheVariants.{Directory, Link, BrokenLink, Executable, File}
 
@@ -24,6 +24,15 @@ row_malformed = refl
 
 row_broken : color (codes "or=:ln=31") BrokenLink (codes "l") ≡ Some (codes "31")
 row_broken = refl
+
+row_tells : tells_broken (palette_in []) ≡ true
+row_tells = refl
+
+row_tells_nothing : tells_broken (palette_in (codes "or=0")) ≡ false
+row_tells_nothing = refl
+
+row_tells_the_same : tells_broken (palette_in (codes "or=31:ln=31")) ≡ false
+row_tells_the_same = refl
 
 row_suffix : color (codes "fi=31:*.c=32") File (codes "A.C") ≡ Some (codes "32")
 row_suffix = refl

@@ -43,7 +43,7 @@ fn visible(color: Option<&str>) -> Option<&str>
 }
 
 impl Palette {
-    ghost use Rattle.seek_colors.specs.Palette.{color_of, colored_folder, colored_path, colors_of, file_color, own_color, palette_in, GivesColorsAlone};
+    ghost use Rattle.seek_colors.specs.Palette.{color_of, colored_folder, colored_path, colors_of, file_color, own_color, palette_in, tells_broken, GivesColorsAlone};
 
     fn add_entry(&mut self, alloc: Global, text: &str) -> Result<(), AllocError>
         ensures kinds { OnOk result ((colors_of self.new).kinds ≡ (colors_of self.old).kinds ++ kinds_in (entries_among (text.now ∷ []))) }
@@ -135,6 +135,13 @@ impl Palette {
             self.own_color(kind, name)
                 .or_else(|| self.kinds.key_color("no")),
         )
+    }
+
+    /// Returns whether the colour of a link tells if it leads nowhere: it has another colour then.
+    pub fn tells_broken(&self) -> bool
+        ensures { result ≡ tells_broken (colors_of self.now) }
+    {
+        self.color_of(Kind::BrokenLink, "") != self.color_of(Kind::Link, "")
     }
 
     fn write_folder<A: Allocator>(
