@@ -1,7 +1,7 @@
 -- Details as `ls -ln` writes them in UTC, in columns of fixed widths, row by row.
 use Rattle.std.specs.Prelude.{◌≡◌, ℕ, ℤ, pos, Option, None, Some, codes, refl}
 use Rattle.std.specs.Fmt.{digits}
-use Rattle.jwalk_model.specs.Metadata.{metadata}
+use Rattle.jwalk_model.specs.Metadata.{metadata, with_details}
 use Rattle.jwalk_model.specs.declared.file_type.FileType.TheVariants.{File, Symlink, Other}
 use Rattle.jwalk_model.specs.declared.metadata.Metadata.{Metadata}
 use Rattle.jwalk_model.specs.declared.metadata.Moment.{Moment}
@@ -15,22 +15,18 @@ moment second = record { seconds = second; nanoseconds = 999999999 }
 -- metadata with a length, the number of names, a mode, a user, a group, and a time
 abbrev known : ℕ → ℕ → ℕ → ℕ → ℕ → ℤ → Option Metadata
 known len links mode uid gid second =
-    Some (record {
-      file_type = File;
-      len = len;
-      details = Some (record {
-        identity = record { device = 1; inode = 1 };
-        links = links;
-        blocks = 0;
-        modified = moment second;
-        accessed = moment (pos 1);
-        changed = moment (pos 1);
-        created = None;
-        mode = mode;
-        uid = uid;
-        gid = gid;
-      });
-    })
+    Some (with_details (record {
+      identity = record { device = 1; inode = 1 };
+      links = links;
+      blocks = 0;
+      modified = moment second;
+      accessed = moment (pos 1);
+      changed = moment (pos 1);
+      created = None;
+      mode = mode;
+      uid = uid;
+      gid = gid;
+    }) (metadata File len))
 
 short_numbers : details_text (known 0 1 33188 0 0 (pos 0)) ≡ codes "-rw-r--r--   1     0     0          0 1970-01-01 00:00:00 "
 unfolding details_text digits part_of clock_text date_text time_text
