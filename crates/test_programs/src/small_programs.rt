@@ -3,13 +3,16 @@ use examples::{
     all_errors, archive, batch_walk, crew_walk, finder, ignore_walk, newest, one_disk, to_csv,
     totals, unmarked, usage_walk,
 };
-use jwalk::file_system::{BuildError, MemoryFs};
+use jwalk::file_system::{BuildError, FileSystem, MemoryFs};
 use jwalk::read_dir::NoProcess;
 use jwalk::{WalkDir, WalkDirGeneric};
 use std::alloc::{AllocError, Global};
 use std::str::from_utf8;
+use std::sync::Arc;
+use std::test::Fail;
 use std::time::{Duration, UNIX_EPOCH};
 use std::{env, fs, io, process};
+use test_fixtures::host::Host;
 
 /// The tree of the walks in memory. A path that ends with a slash is a directory, and each file has four bytes.
 const PHOTOS: &[&str] = &[
@@ -39,8 +42,78 @@ fn root(alloc: Global) -> Result<String, AllocError> {
     String::from_str(alloc, "photos")
 }
 
-fn walk(alloc: Global) -> Result<WalkDirGeneric<((), ()), MemoryFs, NoProcess>, BuildError> {
-    Ok(WalkDirGeneric::new(photos(alloc)?, root(alloc)?))
+/// A program over a tree in memory.
+#[derive(Clone, Copy)]
+enum Program {
+    Batches,
+    Crew,
+    Totals,
+    Finder,
+    Unmarked,
+    OneDisk,
+    Csv,
+}
+
+fn write_totals<R: Host, S: FileSystem + Send + Sync + 'static>(
+    rt: &R,
+    disk: Arc<S>,
+    root: String,
+    out: &mut Vec<u8>,
+) -> anyhow::Result<()> {
+    let lengths = disk.clone()?;
+    totals::run(rt, WalkDirGeneric::new(disk, root), lengths, out)
+}
+
+fn write_one_disk<R: Host, S: FileSystem + Send + Sync + 'static>(
+    rt: &R,
+    disk: Arc<S>,
+    root: String,
+    out: &mut Vec<u8>,
+) -> anyhow::Result<()> {
+    let unread = String::from_str(rt.alloc(), "2026")?;
+    one_disk::run(rt, WalkDirGeneric::new(disk, root), unread, out)
+}
+
+fn write_csv<R: Host, S: FileSystem + Send + Sync + 'static>(
+    rt: &R,
+    disk: Arc<S>,
+    root: String,
+    out: &mut Vec<u8>,
+) -> anyhow::Result<()> {
+    let lengths = disk.clone()?;
+    to_csv::run(rt, WalkDirGeneric::new(disk, root), &lengths, out)
+}
+
+// The file system is a parameter, as each call at the type of a walk over a tree in memory costs seconds.
+fn run<R: Host, S: FileSystem + Send + Sync + 'static>(
+    rt: &R,
+    program: Program,
+    disk: Arc<S>,
+    root: String,
+    out: &mut Vec<u8>,
+) -> anyhow::Result<()> {
+    match program {
+        Program::Batches => batch_walk::run(rt, WalkDirGeneric::new(disk, root), out),
+        Program::Crew => crew_walk::run(rt, disk, root, out),
+        Program::Totals => write_totals(rt, disk, root, out),
+        Program::Finder => finder::run(rt, disk, root, "n.jpg", out),
+        Program::Unmarked => unmarked::run(rt, WalkDirGeneric::new(disk, root), out),
+        Program::OneDisk => write_one_disk(rt, disk, root, out),
+        Program::Csv => write_csv(rt, disk, root, out),
+    }
+}
+
+fn written(rt: &impl Host, program: Program) -> anyhow::Result<Vec<u8>> {
+    let mut out = Vec::new(rt.alloc());
+    let root = root(rt.alloc())?;
+    let disk = Arc::new(rt.alloc(), photos(rt.alloc())?)?;
+    run(rt, program, disk, root, &mut out)?;
+    Ok(out)
+}
+
+/// Returns whether the program writes this text over the tree in memory.
+fn writes(rt: &impl Host, program: Program, wanted: &str) -> bool {
+    matches!(written(rt, program), Ok(out) if is(&out, wanted))
 }
 
 /// The paths that aren't hidden, by name.
@@ -54,73 +127,45 @@ fn is(out: &Vec<u8>, wanted: &str) -> bool {
 }
 
 #[test]
-fn paths_in_batches(rt: HostRuntime) -> anyhow::Result<()> {
-    let mut out = Vec::new(rt.alloc());
-    batch_walk::run(&rt, walk(rt.alloc())?, &mut out)?;
-    assert!(rt; is(&out, PATHS));
-    Ok(())
+fn paths_in_batches(rt: HostRuntime) {
+    assert!(rt; writes(&rt, Program::Batches, PATHS));
 }
 
 #[test]
-fn paths_by_a_crew(rt: HostRuntime) -> anyhow::Result<()> {
-    let mut out = Vec::new(rt.alloc());
-    crew_walk::run(&rt, photos(rt.alloc())?, root(rt.alloc())?, &mut out)?;
-    assert!(rt; is(&out, PATHS));
-    Ok(())
+fn paths_by_a_crew(rt: HostRuntime) {
+    assert!(rt; writes(&rt, Program::Crew, PATHS));
 }
 
 #[test]
-fn files_and_bytes(rt: HostRuntime) -> anyhow::Result<()> {
-    let mut out = Vec::new(rt.alloc());
-    totals::run(&rt, walk(rt.alloc())?, photos(rt.alloc())?, &mut out)?;
-    assert!(rt; is(&out, "6 files, 24 bytes, 0 errors\n"));
-    Ok(())
+fn files_and_bytes(rt: HostRuntime) {
+    assert!(rt; writes(&rt, Program::Totals, "6 files, 24 bytes, 0 errors\n"));
 }
 
 #[test]
-fn files_by_their_ending(rt: HostRuntime) -> anyhow::Result<()> {
-    let mut out = Vec::new(rt.alloc());
-    finder::run(
-        &rt,
-        photos(rt.alloc())?,
-        root(rt.alloc())?,
-        "n.jpg",
-        &mut out,
-    )?;
-    assert!(rt; is(&out, "photos/2025/mountain.jpg\n"));
-    Ok(())
+fn files_by_their_ending(rt: HostRuntime) {
+    assert!(rt; writes(&rt, Program::Finder, "photos/2025/mountain.jpg\n"));
 }
 
 #[test]
-fn directories_that_are_not_marked(rt: HostRuntime) -> anyhow::Result<()> {
-    let mut out = Vec::new(rt.alloc());
-    unmarked::run(&rt, walk(rt.alloc())?, &mut out)?;
+fn directories_that_are_not_marked(rt: HostRuntime) {
     let wanted = "photos\nphotos/2025\nphotos/2026\nphotos/2026/.draft.jpg\n\
                   photos/2026/sea, north.jpg\nphotos/2026/sea.jpg\nphotos/index.txt\n";
-    assert!(rt; is(&out, wanted));
-    Ok(())
+    assert!(rt; writes(&rt, Program::Unmarked, wanted));
 }
 
 #[test]
-fn what_is_on_one_disk(rt: HostRuntime) -> anyhow::Result<()> {
-    let mut out = Vec::new(rt.alloc());
-    let unread = String::from_str(rt.alloc(), "2026")?;
-    one_disk::run(&rt, walk(rt.alloc())?, unread, &mut out)?;
+fn what_is_on_one_disk(rt: HostRuntime) {
     let wanted =
         "photos\nphotos/2025\nphotos/2025/.nobackup\nphotos/2025/mountain.jpg\nphotos/2026\n\
                   photos/index.txt\n";
-    assert!(rt; is(&out, wanted));
-    Ok(())
+    assert!(rt; writes(&rt, Program::OneDisk, wanted));
 }
 
 #[test]
-fn lines_of_csv(rt: HostRuntime) -> anyhow::Result<()> {
-    let mut out = Vec::new(rt.alloc());
-    to_csv::run(&rt, walk(rt.alloc())?, &photos(rt.alloc())?, &mut out)?;
+fn lines_of_csv(rt: HostRuntime) {
     let wanted = "bytes,path\n4,photos/2025/mountain.jpg\n4,\"photos/2026/sea, north.jpg\"\n\
                   4,photos/2026/sea.jpg\n4,photos/index.txt\n";
-    assert!(rt; is(&out, wanted));
-    Ok(())
+    assert!(rt; writes(&rt, Program::Csv, wanted));
 }
 
 #[test]
@@ -162,23 +207,59 @@ fn folder(rt: &HostRuntime, test: &str, files: &[[&str; 3]]) -> io::Result<Strin
     Ok(folder)
 }
 
+/// A program over a folder on the disk.
+#[derive(Clone, Copy)]
+enum OnDisk {
+    Totals,
+    Ignore,
+    Newest,
+}
+
+fn run_walk<S: FileSystem>(
+    alloc: Global,
+    program: OnDisk,
+    walk: WalkDirGeneric<((), ()), S, NoProcess>,
+    out: &mut Vec<u8>,
+) -> anyhow::Result<()> {
+    match program {
+        OnDisk::Newest => newest::run(alloc, walk, out),
+        _ => usage_walk::run(walk, out),
+    }
+}
+
+/// The path of the folder is `t` in the text.
+fn written_of(rt: &HostRuntime, program: OnDisk, folder: &str) -> anyhow::Result<String> {
+    let mut out = Vec::new(rt.alloc());
+    match program {
+        OnDisk::Ignore => ignore_walk::run(rt, folder, &mut out)?,
+        _ => run_walk(rt.alloc(), program, WalkDir::at(rt, folder)?, &mut out)?,
+    }
+    let text = from_utf8(out.as_slice()).unwrap_or("");
+    Ok(text.replace(rt.alloc(), folder, "t")?)
+}
+
+/// Removes the folder after the run.
+fn shows(rt: &HostRuntime, program: OnDisk, folder: &str, wanted: &str) -> bool {
+    let written = written_of(rt, program, folder);
+    fs::remove_dir_all(rt, folder).is_ok()
+        && matches!(&written, Ok(text) if text.as_str() == wanted)
+}
+
 #[test]
-fn totals_of_the_disk(rt: HostRuntime) -> anyhow::Result<()> {
+fn totals_of_the_disk(rt: HostRuntime) -> Result<(), Fail> {
     const FILES: &[[&str; 3]] = &[
         ["", "index.txt", "index\n"],
         ["/2025", "mountain.jpg", "mountain\n"],
         ["/2026", "sea.jpg", "sea\n"],
     ];
     let folder = folder(&rt, "usage", FILES)?;
-    let mut out = Vec::new(rt.alloc());
-    usage_walk::run(WalkDir::at(&rt, &folder)?, &mut out)?;
-    fs::remove_dir_all(&rt, folder.as_str())?;
-    assert!(rt; is(&out, "files 3 dirs 3 links 0 others 0 errors 0 bytes 19\n"));
+    let wanted = "files 3 dirs 3 links 0 others 0 errors 0 bytes 19\n";
+    assert!(rt; shows(&rt, OnDisk::Totals, &folder, wanted));
     Ok(())
 }
 
 #[test]
-fn what_ignore_files_leave(rt: HostRuntime) -> anyhow::Result<()> {
+fn what_ignore_files_leave(rt: HostRuntime) -> Result<(), Fail> {
     const FILES: &[[&str; 3]] = &[
         [
             "",
@@ -192,15 +273,8 @@ fn what_ignore_files_leave(rt: HostRuntime) -> anyhow::Result<()> {
         ["/target", "out.txt", ""],
     ];
     let folder = folder(&rt, "ignore", FILES)?;
-    let mut out = Vec::new(rt.alloc());
-    ignore_walk::run(&rt, &folder, &mut out)?;
-    fs::remove_dir_all(&rt, folder.as_str())?;
-    let paths = from_utf8(out.as_slice())
-        .unwrap_or("")
-        .replace(rt.alloc(), &folder, "project")?;
-    let wanted =
-        "project\nproject/docs\nproject/docs/guide.txt\nproject/docs/kept.log\nproject/notes.txt\n";
-    assert!(rt; paths.as_str() == wanted);
+    let wanted = "t\nt/docs\nt/docs/guide.txt\nt/docs/kept.log\nt/notes.txt\n";
+    assert!(rt; shows(&rt, OnDisk::Ignore, &folder, wanted));
     Ok(())
 }
 
@@ -213,18 +287,13 @@ fn set_written(rt: &HostRuntime, path: &str, seconds: u64) -> io::Result<()> {
 }
 
 #[test]
-fn the_newest_files(rt: HostRuntime) -> anyhow::Result<()> {
+fn the_newest_files(rt: HostRuntime) -> Result<(), Fail> {
     let files: &[[&str; 3]] = &[["", "a", ""], ["/s", "b", ""], ["/s", "c", ""]];
     let folder = folder(&rt, "newest", files)?;
     for (name, seconds) in [("a", 20), ("s/b", 30), ("s/c", 10)] {
         set_written(&rt, &format!(in rt.alloc(); "{folder}/{name}")?, seconds)?;
     }
-    let mut out = Vec::new(rt.alloc());
-    newest::run(rt.alloc(), WalkDir::at(&rt, &folder)?, &mut out)?;
-    fs::remove_dir_all(&rt, folder.as_str())?;
-    let paths = from_utf8(out.as_slice())
-        .unwrap_or("")
-        .replace(rt.alloc(), &folder, "t")?;
-    assert!(rt; paths.as_str() == "30 t/s/b\n20 t/a\n10 t/s/c\n");
+    let wanted = "30 t/s/b\n20 t/a\n10 t/s/c\n";
+    assert!(rt; shows(&rt, OnDisk::Newest, &folder, wanted));
     Ok(())
 }

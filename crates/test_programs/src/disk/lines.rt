@@ -27,26 +27,24 @@ pub fn lines(alloc: Global, answers: &[Answer], folder: &str) -> Result<String, 
         .replace(alloc, folder, "/t")
 }
 
-/// Returns all answers of a walk with these settings. A test names a file system alone, since walks over the disk have
+/// A walk that has not begun.
+#[derive(Clone, Copy)]
+pub struct Walk<'w> {
+    /// The root.
+    pub root: &'w str,
+    /// The options, set one after another.
+    pub settings: &'w [Setting],
+    /// Whether entries keep their metadata.
+    pub keep: bool,
+}
+
+/// Returns all answers of a walk over a file system. A test names a file system alone, since walks over the disk have
 /// long types.
 pub fn answers<S: FileSystem>(
     alloc: Global,
     fs: S,
-    root: &str,
-    settings: &[Setting],
+    asked: &Walk<'_>,
 ) -> Result<Vec<Answer>, AllocError> {
-    let walk: Builder<S> = with_all(builder(alloc, fs, root)?, settings);
-    all_of(alloc, walk.into_iter())
-}
-
-/// Returns the lines of such a walk, with `/t` where a path begins with the folder.
-pub fn found<S: FileSystem>(
-    alloc: Global,
-    fs: S,
-    root: &str,
-    settings: &[Setting],
-    folder: &str,
-) -> Result<String, AllocError> {
-    let found = answers(alloc, fs, root, settings)?;
-    lines(alloc, found.as_slice(), folder)
+    let walk: Builder<S> = with_all(builder(alloc, fs, asked.root)?, asked.settings);
+    all_of(alloc, walk.keep_metadata(asked.keep).into_iter())
 }

@@ -1,8 +1,6 @@
 //! Walks over links on the disk.
 use crate::disk::folder::{Step, make, remove};
-use crate::disk::lines::found;
-use crate::disk::real::{shows, shows_from};
-use jwalk::file_system::RealFs;
+use crate::disk::real::{BY_NAME, FOLLOWED, Row, found, holds};
 use std::alloc::{AllocError, Global};
 use std::test::Fail;
 use std::{env, io};
@@ -19,86 +17,100 @@ const LINKED: &[Step] = &[
 
 #[test]
 fn links_that_are_not_followed(rt: HostRuntime) {
-    let wanted = "0 d /t\n1 d /t/a\n2 f /t/a/x\n1 L /t/to_a\n1 L /t/to_none\n1 L /t/to_x\n";
-    assert!(rt; shows(&rt, "links", LINKED, false, wanted));
+    let row = Row {
+        name: "links",
+        steps: LINKED,
+        below: "",
+        settings: BY_NAME,
+        lines: "0 d /t\n1 d /t/a\n2 f /t/a/x\n1 L /t/to_a\n1 L /t/to_none\n1 L /t/to_x\n",
+    };
+    assert!(rt; holds(&rt, &row));
 }
 
 #[test]
 fn links_that_are_followed(rt: HostRuntime) {
-    let wanted = "0 d /t\n1 d /t/a\n2 f /t/a/x\n1 D /t/to_a\n2 f /t/to_a/x\n1 F /t/to_x\n\
-                  ! 1 /t/to_none NotFound\n";
-    assert!(rt; shows(&rt, "followed", LINKED, true, wanted));
+    let row = Row {
+        name: "followed",
+        steps: LINKED,
+        below: "",
+        settings: FOLLOWED,
+        lines: "0 d /t\n1 d /t/a\n2 f /t/a/x\n1 D /t/to_a\n2 f /t/to_a/x\n1 F /t/to_x\n\
+                ! 1 /t/to_none NotFound\n",
+    };
+    assert!(rt; holds(&rt, &row));
 }
 
 #[test]
 fn a_link_to_a_directory_above_is_a_loop(rt: HostRuntime) {
-    const STEPS: &[Step] = &[
-        Step::Dir("/a"),
-        Step::Dir("/a/b"),
-        Step::Dir("/a/b/c"),
-        Step::LinkTo("/a", "/a/b/c/a-link"),
-    ];
-    let wanted = "0 d /t\n1 d /t/a\n2 d /t/a/b\n3 d /t/a/b/c\n! 4 /t/a/b/c/a-link loop /t/a\n";
-    assert!(rt; shows(&rt, "loop", STEPS, true, wanted));
-}
-
-/// The rows are names in the folder and answers. The walks don't follow links.
-fn show(rt: &HostRuntime, folder: &str, rows: &[(&str, &str)]) -> bool {
-    for (below, wanted) in rows {
-        if !shows_from(rt, folder, below, false, wanted) {
-            return false;
-        }
-    }
-    true
+    let row = Row {
+        name: "loop",
+        steps: &[
+            Step::Dir("/a"),
+            Step::Dir("/a/b"),
+            Step::Dir("/a/b/c"),
+            Step::LinkTo("/a", "/a/b/c/a-link"),
+        ],
+        below: "",
+        settings: FOLLOWED,
+        lines: "0 d /t\n1 d /t/a\n2 d /t/a/b\n3 d /t/a/b/c\n! 4 /t/a/b/c/a-link loop /t/a\n",
+    };
+    assert!(rt; holds(&rt, &row));
 }
 
 #[test]
-fn roots_that_are_no_directories(rt: HostRuntime) -> Result<(), Fail> {
+fn roots_that_are_no_directories(rt: HostRuntime) {
     const ROWS: &[(&str, &str)] = &[
         ("/to_a", "0 L /t/to_a\n1 f /t/to_a/x\n"),
         ("/to_none", "! 0 /t/to_none NotFound\n"),
         ("/a/x", "0 f /t/a/x\n"),
         ("/none", "! 0 /t/none NotFound\n"),
     ];
-    let folder = make(&rt, "roots", LINKED)?;
-    let are_shown = show(&rt, folder.as_str(), ROWS);
-    remove(&rt, folder.as_str())?;
-    assert!(rt; are_shown);
-    Ok(())
+    for (below, lines) in ROWS {
+        let row = Row {
+            name: "roots",
+            steps: LINKED,
+            below: *below,
+            settings: BY_NAME,
+            lines: *lines,
+        };
+        assert!(rt; holds(&rt, &row), "from {below}");
+    }
 }
 
 #[test]
-fn a_root_that_is_a_followed_link_to_a_directory(rt: HostRuntime) -> Result<(), Fail> {
-    let folder = make(&rt, "root_link", LINKED)?;
-    let wanted = "0 D /t/to_a\n1 f /t/to_a/x\n";
-    let is_shown = shows_from(&rt, folder.as_str(), "/to_a", true, wanted);
-    remove(&rt, folder.as_str())?;
-    assert!(rt; is_shown);
-    Ok(())
+fn a_root_that_is_a_followed_link_to_a_directory(rt: HostRuntime) {
+    let row = Row {
+        name: "root_link",
+        steps: LINKED,
+        below: "/to_a",
+        settings: FOLLOWED,
+        lines: "0 D /t/to_a\n1 f /t/to_a/x\n",
+    };
+    assert!(rt; holds(&rt, &row));
 }
 
-/// Goes down to the depth of 6.
-fn followed(rt: &HostRuntime, root: &str, folder: &str) -> io::Result<String> {
-    const SETTINGS: &[Setting] = &[Setting::Sort, Setting::Follow, Setting::Max(6)];
-    Ok(found(rt.alloc(), RealFs::new(*rt), root, SETTINGS, folder)?)
-}
+/// The settings of a walk by name that follows links, down to the depth of 6.
+const DOWN_TO_6: &[Setting] = &[Setting::Sort, Setting::Follow, Setting::Max(6)];
 
 /// A directory with a link whose text is the whole path of the folder.
 const BACK: &[Step] = &[Step::Dir("/a"), Step::LinkTo("", "/a/l")];
 
 #[test]
-fn a_link_by_a_whole_path_is_a_loop_below_a_whole_path(rt: HostRuntime) -> Result<(), Fail> {
-    let folder = make(&rt, "back", BACK)?;
-    let found = followed(&rt, folder.as_str(), folder.as_str());
-    remove(&rt, folder.as_str())?;
-    assert_eq!(rt; found?.as_str(), "0 d /t\n1 d /t/a\n! 2 /t/a/l loop /t\n");
-    Ok(())
+fn a_link_by_a_whole_path_is_a_loop_below_a_whole_path(rt: HostRuntime) {
+    let row = Row {
+        name: "back",
+        steps: BACK,
+        below: "",
+        settings: DOWN_TO_6,
+        lines: "0 d /t\n1 d /t/a\n! 2 /t/a/l loop /t\n",
+    };
+    assert!(rt; holds(&rt, &row));
 }
 
 /// The folder becomes the current directory of the process.
 fn followed_here(rt: &HostRuntime, folder: &str) -> io::Result<String> {
     env::set_current_dir(rt, folder)?;
-    followed(rt, ".", folder)
+    Ok(found(rt, ".", DOWN_TO_6, folder)?)
 }
 
 #[test]
@@ -146,7 +158,7 @@ fn in_order(alloc: Global, lines: &str) -> Result<String, AllocError> {
 #[test]
 fn two_links_each_in_two_directories_to_each_other_are_loops(rt: HostRuntime) -> Result<(), Fail> {
     let folder = make(&rt, "each_other", TO_EACH_OTHER)?;
-    let found = followed(&rt, folder.as_str(), folder.as_str());
+    let found = found(&rt, folder.as_str(), DOWN_TO_6, folder.as_str());
     remove(&rt, folder.as_str())?;
     assert_eq!(rt; in_order(rt.alloc(), found?.as_str())?.as_str(), ENDED);
     Ok(())

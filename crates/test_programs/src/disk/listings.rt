@@ -1,5 +1,5 @@
 //! Walks over a disk whose answers are in a table.
-use crate::disk::lines::{answers, lines};
+use crate::disk::lines::{Walk, answers, lines};
 use crate::disk::told::{Call, Calls, Readings, Told, ToldDisk};
 use jwalk::file_system::RealFs;
 use std::alloc::{AllocError, Global};
@@ -13,7 +13,12 @@ type Failing = (Call, &'static str);
 /// Yields in the order of the listing.
 fn found_on(alloc: Global, disk: ToldDisk, follow: bool) -> Result<Vec<Answer>, AllocError> {
     let settings: &[Setting] = if follow { &[Setting::Follow] } else { &[] };
-    answers(alloc, RealFs::new(disk), "/t", settings)
+    let walk = Walk {
+        root: "/t",
+        settings,
+        keep: false,
+    };
+    answers(alloc, RealFs::new(disk), &walk)
 }
 
 fn found_of(alloc: Global, told: Told, follow: bool) -> Result<Vec<Answer>, AllocError> {

@@ -1,7 +1,9 @@
 //! The metadata that entries of the disk keep.
 use crate::disk::folder::{Step, make, path_in, remove};
-use jwalk::file_system::{Details, FileSystem, FileType, Metadata, Moment, RealFs};
-use std::alloc::{AllocError, Global};
+use crate::disk::lines::Walk;
+use crate::disk::real::{BY_NAME, answers_of};
+use jwalk::file_system::{Details, FileType, Metadata, Moment};
+use std::alloc::AllocError;
 use std::fs::{File, FileTimes, Permissions};
 use std::io::ErrorKind;
 use std::os::unix::fs::{MetadataExt, PermissionsExt};
@@ -9,8 +11,6 @@ use std::test::Fail;
 use std::time::{Duration, SystemTime, UNIX_EPOCH};
 use std::{fs, io};
 use test_fixtures::answers::Answer;
-use test_fixtures::builders::builder;
-use test_fixtures::ways::all_of;
 
 /// A directory, a file, a link to it, and a file that will have two names.
 const KINDS: &[Step] = &[
@@ -62,18 +62,13 @@ fn make_kinds(rt: &HostRuntime, name: &str) -> io::Result<String> {
 }
 
 /// The walk is by name.
-fn answers<S: FileSystem>(
-    alloc: Global,
-    fs: S,
-    root: &str,
-    keep: bool,
-) -> Result<Vec<Answer>, AllocError> {
-    let walk = builder(alloc, fs, root)?.sort(true).keep_metadata(keep);
-    all_of(alloc, walk.into_iter())
-}
-
-fn found(rt: &HostRuntime, folder: &str, keep: bool) -> io::Result<Vec<Answer>> {
-    Ok(answers(rt.alloc(), RealFs::new(*rt), folder, keep)?)
+fn found(rt: &HostRuntime, folder: &str, keep: bool) -> Result<Vec<Answer>, AllocError> {
+    let walk = Walk {
+        root: folder,
+        settings: BY_NAME,
+        keep,
+    };
+    answers_of(rt, &walk)
 }
 
 fn seen(answer: &Answer) -> Option<&Metadata> {

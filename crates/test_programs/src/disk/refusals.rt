@@ -1,28 +1,33 @@
 //! Walks over directories on the disk that can't be read.
+ghost use Rattle.jwalk.specs.DirEntryIter.{reads_of};
+
 use crate::disk::folder::{Step, make, path_in, remove};
 use crate::disk::real::{BY_NAME, shows_from};
-use jwalk::DirEntryIter;
+use jwalk::entries::Entries;
 use jwalk::file_system::{FileSystem, RealFs};
-use jwalk::read_dir::NoProcess;
+use jwalk::readings::Readings;
+use std::alloc::Global;
 use std::os::unix::fs::PermissionsExt;
 use std::rt::Files;
 use std::test::Fail;
 use std::{fs, io};
 use test_fixtures::answers::{Answer, are_lines};
-use test_fixtures::builders::builder;
+use test_fixtures::builders::{Builder, builder};
 use test_fixtures::ways::with_all;
 
-/// Removes the directory after the first answer.
-fn around_removal<S: FileSystem>(
+/// Adds the first answer, removes the directory, and adds the other answers.
+fn add_around_removal<B: Readings<((), ()), Global>>(
     rt: &HostRuntime,
-    walk: &mut DirEntryIter<((), ()), S, NoProcess>,
+    walk: &mut Entries<((), ()), Global, B>,
     removed: &str,
-) -> io::Result<Vec<Answer>> {
-    let mut found = Vec::new(rt.alloc());
-    walk.fill(1, &mut found)?;
+    found: &mut Vec<Answer>,
+) -> io::Result<()>
+    requires { B.can_read (B.base (reads_of walk.old)) }
+{
+    walk.fill(1, found)?;
     remove(rt, removed)?;
-    walk.fill(usize::MAX, &mut found)?;
-    Ok(found)
+    walk.fill(usize::MAX, found)?;
+    Ok(())
 }
 
 /// Removes the directory after the first answer.
@@ -32,8 +37,11 @@ fn answers_around_removal<S: FileSystem>(
     root: &str,
     removed: &str,
 ) -> io::Result<Vec<Answer>> {
-    let walk = with_all(builder(rt.alloc(), disk, root)?, BY_NAME);
-    around_removal(rt, &mut walk.into_iter(), removed)
+    let mut found = Vec::new(rt.alloc());
+    let walk: Builder<S> = with_all(builder(rt.alloc(), disk, root)?, BY_NAME);
+    let added = add_around_removal(rt, &mut walk.into_iter(), removed, &mut found);
+    added?;
+    Ok(found)
 }
 
 /// The error must come where the directory would have been read.
@@ -74,7 +82,7 @@ fn shows_closed(rt: &HostRuntime, folder: &str) -> io::Result<bool> {
     } else {
         "0 d /t\n1 d /t/a\n2 f /t/a/x\n1 f /t/b\n"
     };
-    let is_shown = shows_from(rt, folder, "", false, wanted);
+    let is_shown = shows_from(rt, folder, "", BY_NAME, wanted);
     fs::set_permissions(rt, closed.as_str(), fs::Permissions::from_mode(0o700))?;
     Ok(is_shown)
 }

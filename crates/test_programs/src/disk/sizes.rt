@@ -1,8 +1,7 @@
 //! Walks over large folders on the disk.
 use crate::disk::folder::{make, path_in, remove};
-use crate::disk::lines::answers;
-use crate::disk::real::{BY_NAME, shows_from};
-use jwalk::file_system::RealFs;
+use crate::disk::lines::Walk;
+use crate::disk::real::{BY_NAME, answers_of, shows_from};
 use std::test::Fail;
 use std::{fs, io};
 use test_fixtures::answers::Answer;
@@ -25,7 +24,7 @@ fn finds_all_files(rt: &HostRuntime, folder: &str) -> io::Result<bool> {
     for number in 10_000..15_000 {
         make_file(rt, folder, number, &mut lines)?;
     }
-    Ok(shows_from(rt, folder, "", false, lines.as_str()))
+    Ok(shows_from(rt, folder, "", BY_NAME, lines.as_str()))
 }
 
 #[test]
@@ -63,7 +62,12 @@ fn is_at(answer: &Answer, depth: usize) -> bool {
 /// Each directory must be one deeper than the one before.
 fn goes_down(rt: &HostRuntime, folder: &str) -> io::Result<bool> {
     make_directories(rt, folder)?;
-    let found = answers(rt.alloc(), RealFs::new(*rt), folder, BY_NAME)?;
+    let walk = Walk {
+        root: folder,
+        settings: BY_NAME,
+        keep: false,
+    };
+    let found = answers_of(rt, &walk)?;
     for (depth, answer) in found.iter().enumerate() {
         if !is_at(answer, depth) {
             return Ok(false);

@@ -1,15 +1,15 @@
 //! Walks from folders, files and other things on the disk.
 use crate::disk::folder::{Step, make, path_in, remove};
-use crate::disk::lines::{found, lines};
-use crate::disk::real::{shows, shows_from};
+use crate::disk::lines::lines;
+use crate::disk::real::{Row, found, holds, shows_from};
 use crate::program::runs::comes_unread;
+use jwalk::Parallelism;
 use jwalk::file_system::{Fault, FileSystem, RealFs};
-use jwalk::read_dir::NoProcess;
-use jwalk::{Parallelism, WalkDir, WalkDirGeneric};
 use std::alloc::AllocError;
 use std::test::Fail;
 use std::thread::Threads;
 use std::{env, io};
+use test_fixtures::builders::{Builder, builder};
 use test_fixtures::host::Host;
 use test_fixtures::ways::{Setting, all_on_threads};
 
@@ -31,7 +31,14 @@ const BY_NAME: &str = "0 d /t\n1 f /t/a.txt\n1 f /t/b.txt\n1 f /t/c.txt\n\
 
 #[test]
 fn a_folder_of_groups_by_name(rt: HostRuntime) {
-    assert!(rt; shows(&rt, "groups", GROUPED, false, BY_NAME));
+    let row = Row {
+        name: "groups",
+        steps: GROUPED,
+        below: "",
+        settings: &[Setting::Sort],
+        lines: BY_NAME,
+    };
+    assert!(rt; holds(&rt, &row));
 }
 
 /// The words to read one directory at a time, one or eight together, and by a crew.
@@ -67,9 +74,10 @@ fn the_same_lines_of_a_folder_one_at_a_time_in_batches_and_by_a_crew(
 /// Reads several directories at a time, by name.
 fn found_in_batches<R: Threads + AllocGlobal + Sync, S: FileSystem + Send + Sync>(
     rt: &R,
-    walk: WalkDirGeneric<((), ()), S, NoProcess>,
+    disk: S,
     folder: &str,
 ) -> Result<String, AllocError> {
+    let walk: Builder<S> = builder(rt.alloc(), disk, folder)?;
     let walk = walk.sort(true).parallelism(Parallelism::RayonNewPool(2));
     let found = all_on_threads(rt, rt.alloc(), walk.into_iter())?;
     lines(rt.alloc(), found.as_slice(), folder)
@@ -78,8 +86,7 @@ fn found_in_batches<R: Threads + AllocGlobal + Sync, S: FileSystem + Send + Sync
 #[test]
 fn a_folder_of_groups_in_batches(rt: HostRuntime) -> Result<(), Fail> {
     let folder = make(&rt, "batches", GROUPED)?;
-    let walk = WalkDir::at(&rt, folder.as_str())?;
-    let found = found_in_batches(&rt, walk, folder.as_str());
+    let found = found_in_batches(&rt, RealFs::new(rt), folder.as_str());
     remove(&rt, folder.as_str())?;
     assert_eq!(rt; found?.as_str(), BY_NAME);
     Ok(())
@@ -125,7 +132,7 @@ const NESTED: &[Step] = &[Step::Dir("/r"), Step::Dir("/r/s")];
 
 /// Walks to the depth of 1, from a path that begins at the current directory of the process.
 fn found_here(rt: &HostRuntime, root: &str) -> io::Result<String> {
-    Ok(found(rt.alloc(), RealFs::new(*rt), root, &[Setting::Max(1)], "/t")?)
+    Ok(found(rt, root, &[Setting::Max(1)], "/t")?)
 }
 
 /// Walks from the folder three times, as the current directory moves further down.
@@ -150,5 +157,5 @@ fn roots_from_where_the_process_stands(rt: HostRuntime) -> Result<(), Fail> {
 
 #[test]
 fn a_device_is_something_else(rt: HostRuntime) {
-    assert!(rt; shows_from(&rt, "/dev", "/null", false, "0 o /t/null\n"));
+    assert!(rt; shows_from(&rt, "/dev", "/null", &[], "0 o /t/null\n"));
 }

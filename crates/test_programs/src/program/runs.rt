@@ -41,7 +41,7 @@ fn ran<S: FileSystem + Send + Sync + 'static>(
 }
 
 /// Returns whether the run over this disk has this outcome. The words of `front` come first.
-pub fn comes<S: FileSystem + Send + Sync + 'static>(
+fn comes<S: FileSystem + Send + Sync + 'static>(
     rt: &impl Host,
     disk: S,
     front: &[&str],
@@ -93,6 +93,21 @@ pub fn watched_over(alloc: Global, lines: &str, failing: Failing) -> Result<Arc<
     Ok(shared(alloc, Watched::new(tree, failing))?)
 }
 
+/// Returns whether the run over the tree of these lines has this outcome. The words of `front` come first.
+pub fn comes_over(
+    rt: &impl Host,
+    lines: &str,
+    front: &[&str],
+    words: &[&str],
+    input: &mut Input<'_>,
+    want: &Want<'_>,
+) -> bool {
+    match watched_over(rt.alloc(), lines, Failing::Never) {
+        Ok(disk) => comes(rt, disk, front, words, input, want),
+        Err(_) => false,
+    }
+}
+
 /// The words in front of a call's own, and whether the disk is the tree of a row's lines. If it isn't, the lines are
 /// the input, and the disk is empty.
 type Way = (&'static [&'static str], bool);
@@ -130,12 +145,7 @@ fn comes_by(rt: &impl Host, (front, is_on_disk): &Way, (words, lines, want): &Ro
         ("", *lines)
     };
     let mut input = Input::of(on_input);
-    match watched_over(rt.alloc(), on_disk, Failing::Never) {
-        Ok(disk) => {
-            comes(rt, disk, front, words, &mut input, want) && !(*is_on_disk && input.is_read())
-        }
-        Err(_) => false,
-    }
+    comes_over(rt, on_disk, front, words, &mut input, want) && !(*is_on_disk && input.is_read())
 }
 
 /// Returns the number of the first row that is wrong in one of the ways.

@@ -1,7 +1,7 @@
 //! Inputs and outputs that fail, and long ones.
 use crate::program::input::Input;
 use crate::program::output::Output;
-use crate::program::runs::{BAD_WORDS, TREE_A, Want, comes, ends, watched_over};
+use crate::program::runs::{BAD_WORDS, TREE_A, Want, comes_over, ends, watched_over};
 use std::alloc::AllocError;
 use std::io::ErrorKind;
 use test_fixtures::watched::Failing;
@@ -11,7 +11,7 @@ use walk_text::failure::Failure;
 type Row = (&'static [&'static str], ErrorKind, Want<'static>);
 
 #[test]
-fn an_input_that_cannot_be_read_is_told(rt: HostRuntime) -> Result<(), Failure> {
+fn an_input_that_cannot_be_read_is_told(rt: HostRuntime) {
     const ROWS: &[Row] = &[
         (
             &["--tree", "/r"],
@@ -27,11 +27,9 @@ fn an_input_that_cannot_be_read_is_told(rt: HostRuntime) -> Result<(), Failure> 
         (&["/"], ErrorKind::Other, ("0 d /\n", "", 0)),
     ];
     for (words, kind, want) in ROWS {
-        let disk = watched_over(rt.alloc(), "", Failing::Never)?;
         let mut input = Input::broken(*kind);
-        assert!(rt; comes(&rt, disk, &[], words, &mut input, want));
+        assert!(rt; comes_over(&rt, "", &[], words, &mut input, want));
     }
-    Ok(())
 }
 
 #[test]
@@ -78,14 +76,13 @@ fn push_files(input: &mut String, out: &mut String, count: u64) -> Result<(), Al
 }
 
 #[test]
-fn a_long_input_is_read_whole(rt: HostRuntime) -> Result<(), Failure> {
+fn a_long_input_is_read_whole(rt: HostRuntime) -> Result<(), AllocError> {
     let mut text = String::new(rt.alloc());
     let mut out = String::new(rt.alloc());
     push_files(&mut text, &mut out, 6000)?;
-    let disk = watched_over(rt.alloc(), "", Failing::Never)?;
     let mut input = Input::in_pieces(text.as_str(), 1000);
     let want = (out.as_str(), "", 0);
-    let is_whole = comes(&rt, disk, &[], &["--tree", "/r"], &mut input, &want);
+    let is_whole = comes_over(&rt, "", &[], &["--tree", "/r"], &mut input, &want);
     assert!(rt; text.len() > 100000 && is_whole);
     Ok(())
 }
