@@ -1,13 +1,12 @@
 //! The texts of a file system's errors.
 ghost use Rattle.jwalk_model.specs.Tree.{functions_of, only_root};
 
+use crate::found::found;
 use jwalk::file_system::{Fault, FileSystem, FileType, Listed, Metadata};
 use std::alloc::{AllocError, Allocator, Global};
 use std::io;
 use std::io::ErrorKind;
 use test_fixtures::answers::Answer;
-use test_fixtures::builders::builder;
-use test_fixtures::ways::all_of;
 
 #[derive(Clone, Copy)]
 enum Failing {
@@ -93,8 +92,7 @@ fn io_error_of(answer: &Answer) -> Option<&io::Error> {
 
 fn is_told(alloc: Global, failing: Failing) -> Result<bool, AllocError> {
     let text = "block 17 can't be read";
-    let walk = builder(alloc, Telling { failing, text }, "/d")?;
-    let found = all_of(alloc, walk.into_iter())?;
+    let found = found(alloc, Telling { failing, text }, "/d", &[])?;
     let mut told = String::new(alloc);
     for answer in &found {
         if let Some(err) = io_error_of(answer) {

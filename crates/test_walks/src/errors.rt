@@ -1,16 +1,24 @@
 //! What errors report, and the metadata of entries.
+use crate::found::found;
 use jwalk::Error;
 use jwalk::file_system::{FileSystem, FileType, MemoryFs, Metadata};
 use std::alloc::Global;
 use std::io::ErrorKind;
 use test_fixtures::answers::Answer;
-use test_fixtures::builders::{Builder, builder, over_tree};
+use test_fixtures::builders::{Builder, builder};
 use test_fixtures::listed_directory::{Item, ListedDirectory};
 use test_fixtures::trees::{DENIED, LOOPED, Step, tree};
 use test_fixtures::watched::{Failing, Watched};
+use test_fixtures::ways::Setting;
 
-fn last<S: FileSystem>(walk: Builder<S>) -> Option<Answer> {
-    walk.into_iter().last()
+/// Returns the last answer of a walk.
+fn last<S: FileSystem>(alloc: Global, fs: S, root: &str, settings: &[Setting]) -> Option<Answer> {
+    found(alloc, fs, root, settings).ok()?.pop()
+}
+
+/// Returns the last answer of a walk over the tree that these steps build.
+fn last_in(alloc: Global, steps: &[Step], root: &str, settings: &[Setting]) -> Option<Answer> {
+    last(alloc, tree(alloc, steps).ok()?, root, settings)
 }
 
 /// The error must also be printed as this text.
@@ -43,7 +51,7 @@ fn kind_of(error: Error) -> Option<ErrorKind> {
 const LOOP_TEXT: &str = "File system loop found: /r/a/b/c/a-link points to an ancestor /r/a";
 
 fn tells_of_the_loop(alloc: Global) -> Option<bool> {
-    let error = last(over_tree(alloc, LOOPED, "/r").ok()?.follow_links(true))?.err()?;
+    let error = last_in(alloc, LOOPED, "/r", &[Setting::Follow])?.err()?;
     Some(tells(alloc, &error, ErrorKind::Other, LOOP_TEXT) && kind_of(error).is_none())
 }
 
@@ -54,7 +62,7 @@ fn a_loop_tells_of_the_link_and_of_the_ancestor(rt: HostRuntime) {
 
 /// The error is that of the entry's directory.
 fn meets_denied(alloc: Global) -> Option<bool> {
-    let entry = last(over_tree(alloc, DENIED, "/t").ok()?.sort(true))?.ok()?;
+    let entry = last_in(alloc, DENIED, "/t", &[Setting::Sort])?.ok()?;
     let error = entry.read_children_error()?;
     let lead = "IO error for operation on /t/group 2: ";
     let is_told = tells_own(alloc, error, ErrorKind::PermissionDenied, lead)?;
@@ -73,7 +81,7 @@ fn unread(alloc: Global, kind: ErrorKind) -> Option<Error> {
         target: Some(FileType::Dir),
         items: &[Item::Unread(kind)],
     };
-    last(builder(alloc, fs, "/d").ok()?)?.err()
+    last(alloc, fs, "/d", &[])?.err()
 }
 
 /// The error has no path, and the item's own text alone.
@@ -114,16 +122,22 @@ fn errors_of_a_crew_and_of_memory(rt: HostRuntime) {
 }
 
 /// The first error ends the walk.
-fn bytes_of<S: FileSystem>(walk: Builder<S>) -> anyhow::Result<usize> {
+fn bytes_of<S: FileSystem>(
+    alloc: Global,
+    fs: S,
+    root: &str,
+    follow: bool,
+) -> anyhow::Result<usize> {
+    let walk: Builder<S> = builder(alloc, fs, root)?;
     let mut bytes: usize = 0;
-    for answer in walk {
+    for answer in walk.follow_links(follow) {
         bytes = bytes.saturating_add(answer?.path()?.len());
     }
     Ok(bytes)
 }
 
 fn looped_bytes(alloc: Global, follow: bool) -> anyhow::Result<usize> {
-    bytes_of(over_tree(alloc, LOOPED, "/r")?.follow_links(follow))
+    bytes_of(alloc, tree(alloc, LOOPED)?, "/r", follow)
 }
 
 fn loop_text(alloc: Global) -> Option<String> {
@@ -152,8 +166,8 @@ fn link_metadata(
     fs: MemoryFs,
     failing: Failing,
 ) -> Option<Result<Metadata, Error>> {
-    let walk = over_tree(alloc, LINKED_FILE, "/r").ok()?;
-    let entry = last(walk.follow_links(follow))?.ok()?;
+    let settings: &[Setting] = if follow { &[Setting::Follow] } else { &[] };
+    let entry = last_in(alloc, LINKED_FILE, "/r", settings)?.ok()?;
     Some(entry.metadata(&Watched::new(fs, failing)))
 }
 
@@ -206,7 +220,7 @@ fn the_metadata_where_memory_is_refused(rt: HostRuntime) {
 
 /// Shows the entry of an empty root, and an error.
 fn shown(alloc: Global) -> Option<String> {
-    let entry = last(over_tree(alloc, &[Step::Dir("/r")], "/r").ok()?)?.ok();
+    let entry = last_in(alloc, &[Step::Dir("/r")], "/r", &[])?.ok();
     let answers = (entry, Error::<Global>::lost());
     format!(in alloc; "{answers:?}").ok()
 }

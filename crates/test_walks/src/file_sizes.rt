@@ -1,7 +1,9 @@
 //! Walks whose callback asks for the sizes of files.
+ghost use Rattle.jwalk.specs.WalkDir.{callback_of};
+
 use example_proofs::by_crew::walk_by_crew;
 use jwalk::file_system::{BuildError, FileSystem, MemoryFs};
-use jwalk::read_dir::{Size, WithSizes};
+use jwalk::read_dir::{ProcessReadDir, Size, WithSizes};
 use jwalk::{Crew, DirEntry, Parallelism, WalkDirGeneric};
 use std::alloc::{AllocError, Global};
 use std::sync::Arc;
@@ -38,19 +40,21 @@ fn sizes_of(alloc: Global, found: &[Answer<States>]) -> Result<String, AllocErro
     Ok(text)
 }
 
-/// Walks by name, and asks another file system for the sizes.
-fn walked<S: FileSystem, T: FileSystem>(
+/// Walks by name, with a callback that asks for the sizes.
+fn walked<S: FileSystem, P: ProcessReadDir<States, Global>>(
     alloc: Global,
     fs: S,
-    asked: T,
     root: &str,
     follow: bool,
-) -> Result<String, AllocError> {
+    process: P,
+) -> Result<String, AllocError>
+    requires { P.IsLawful process }
+{
     let root = String::from_str(alloc, root)?;
     let walk = WalkDirGeneric::<((), Size), _, _, _>::new(fs, root)
         .sort(true)
         .follow_links(follow)
-        .process_read_dir(WithSizes::new(asked));
+        .process_read_dir(process);
     let found = all_of(alloc, walk.into_iter())?;
     sizes_of(alloc, found.as_slice())
 }
@@ -80,6 +84,19 @@ fn files_with_their_sizes(rt: HostRuntime) {
     }
 }
 
+fn sizes_by_crew<
+    R: Host,
+    S: FileSystem + Send + Sync + 'static,
+    P: ProcessReadDir<States, Global> + Send + Sync + 'static,
+>(alloc: Global, walk: WalkDirGeneric<States, S, P, Global, Crew<R>>) -> Result<String, AllocError>
+    requires { P.IsLawful (callback_of walk) }
+{
+    match walk_by_crew(alloc, walk) {
+        Ok(found) => sizes_of(alloc, found.as_slice()),
+        Err(_) => Err(AllocError),
+    }
+}
+
 fn sized_by_crew<R: Host, S: FileSystem + Send + Sync + 'static>(
     rt: &R,
     fs: S,
@@ -100,10 +117,7 @@ fn sized_by_crew<R: Host, S: FileSystem + Send + Sync + 'static>(
         .parallelism(by_crew)
         .process_read_dir(sizes);
     // end with-sizes
-    match walk_by_crew(alloc, walk) {
-        Ok(found) => sizes_of(alloc, found.as_slice()),
-        Err(_) => Err(AllocError),
-    }
+    sizes_by_crew(alloc, walk)
 }
 
 // If the thread that takes the answers asked for the sizes, the first of the two files would be an error.
@@ -140,7 +154,7 @@ fn shows(
     let fs = tree(alloc, steps)?;
     let (steps, failing) = asked;
     let asked = Watched::new(tree(alloc, steps)?, failing);
-    Ok(walked(alloc, &fs, asked, root, follow)?.as_str() == wanted)
+    Ok(walked(alloc, &fs, root, follow, WithSizes::new(asked))?.as_str() == wanted)
 }
 
 #[test]

@@ -1,9 +1,9 @@
 //! The returns of each getter of each entry.
-use jwalk::file_system::BuildError;
+use jwalk::file_system::{BuildError, FileSystem};
 use std::alloc::{AllocError, Global};
 use test_fixtures::answers::{Answer, letter};
-use test_fixtures::builders::{Entry, in_a_for_loop, over_tree};
-use test_fixtures::trees::{SMALL, Step};
+use test_fixtures::builders::{Entry, builder, in_a_for_loop};
+use test_fixtures::trees::{SMALL, Step, tree};
 
 /// The text is the depth, the name, the parent, the letter of the type, and `+` for a directory to be read.
 fn push_getters(text: &mut String, entry: &Entry) -> Result<(), AllocError> {
@@ -36,8 +36,12 @@ struct Row {
     getters: &'static str,
 }
 
+fn looped<S: FileSystem>(alloc: Global, fs: S, root: &str) -> Result<Vec<Answer>, AllocError> {
+    in_a_for_loop(alloc, builder(alloc, fs, root)?)
+}
+
 fn holds(alloc: Global, row: &Row) -> Result<bool, BuildError> {
-    let found = in_a_for_loop(alloc, over_tree(alloc, row.steps, row.root)?)?;
+    let found = looped(alloc, tree(alloc, row.steps)?, row.root)?;
     let mut text = String::new(alloc);
     for answer in &found {
         push_answer(&mut text, answer)?;

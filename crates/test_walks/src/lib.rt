@@ -11,6 +11,8 @@ mod errors;
 #[cfg(test)]
 mod file_sizes;
 #[cfg(test)]
+mod found;
+#[cfg(test)]
 mod getters;
 #[cfg(test)]
 mod rows;

@@ -1,11 +1,11 @@
 //! Walks over large trees.
+use crate::found::found;
 use crate::wide::{FILES, name, scrambled, wide_directory};
 use jwalk::file_system::{BuildError, MemoryFs};
 use std::alloc::{AllocError, Global};
 use test_fixtures::answers::{Answer, are_lines};
-use test_fixtures::builders::builder;
 use test_fixtures::watched::{Failing, Watched};
-use test_fixtures::ways::all_of;
+use test_fixtures::ways::Setting;
 
 /// The files are by name, or in the order in which they were made.
 fn wide_lines(alloc: Global, by_name: bool) -> Result<String, AllocError> {
@@ -20,8 +20,8 @@ fn wide_lines(alloc: Global, by_name: bool) -> Result<String, AllocError> {
 /// The directory must be listed once, and nothing may follow its files.
 fn has_all_files(alloc: Global, by_name: bool) -> Result<bool, BuildError> {
     let fs = Watched::new(wide_directory(alloc)?, Failing::Never);
-    let walk = builder(alloc, &fs, "/d")?.sort(by_name);
-    let found = all_of(alloc, walk.into_iter())?;
+    let settings: &[Setting] = if by_name { &[Setting::Sort] } else { &[] };
+    let found = found(alloc, &fs, "/d", settings)?;
     let lines = wide_lines(alloc, by_name)?;
     Ok(are_lines(alloc, found.as_slice(), lines.as_str()) && fs.lists() == 1)
 }
@@ -60,7 +60,7 @@ fn go_down(found: &[Answer]) -> bool {
 /// Each directory must be listed once.
 fn goes_down_once(alloc: Global) -> Result<bool, BuildError> {
     let fs = Watched::new(chain(alloc)?, Failing::Never);
-    let found = all_of(alloc, builder(alloc, &fs, "/c")?.into_iter())?;
+    let found = found(alloc, &fs, "/c", &[])?;
     Ok(found.len() == 31 && go_down(found.as_slice()) && fs.lists() == 31)
 }
 

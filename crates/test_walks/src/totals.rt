@@ -1,9 +1,12 @@
 //! Totals over walks.
+ghost use Rattle.std.specs.Iterator.{IsFinite};
+
 use jwalk::file_system::{BuildError, FileSystem, MemoryFs};
-use jwalk::read_dir::{NoProcess, Size, WithSizes};
+use jwalk::read_dir::{NoProcess, ProcessReadDir, Size, WithSizes};
 use jwalk::{ClientState, WalkDirGeneric};
 use jwalk_usage::{Usage, UsageFault, usage, usage_kept, usage_sized};
 use std::alloc::{AllocError, Global};
+use test_fixtures::answers::Answer;
 use test_fixtures::trees::{GROUPED, tree};
 use test_fixtures::watched::{Failing, Watched};
 
@@ -30,6 +33,43 @@ enum Asking {
     KeptAndCounted,
 }
 
+// The functions that count promise nothing: a function that names the type of a walk carries no contract of a count to
+// its end.
+
+/// Asks for the size of each file whose entry keeps no metadata, or for none.
+fn count<S: FileSystem, I: Iterator<Item = Answer> + Drop>(
+    sizes: &S,
+    answers: I,
+    ask: bool,
+) -> Result<Usage, UsageFault>
+    requires can { I.can_next answers }
+    requires ends { IsFinite (I.remaining answers) }
+{
+    if ask {
+        usage(sizes, answers)
+    } else {
+        usage_kept(answers)
+    }
+}
+
+fn count_sized<I: Iterator<Item = Answer<((), Size)>> + Drop>(
+    answers: I,
+) -> Result<Usage, UsageFault>
+    requires can { I.can_next answers }
+    requires ends { IsFinite (I.remaining answers) }
+{
+    usage_sized(answers)
+}
+
+fn count_read<S: FileSystem, P: ProcessReadDir<((), Size), Global>>(
+    walk: WalkDirGeneric<((), Size), S, NoProcess>,
+    process: P,
+) -> Result<Usage, UsageFault>
+    requires { P.IsLawful process }
+{
+    count_sized(walk.process_read_dir(process).into_iter())
+}
+
 /// A walk that has not begun, and the file system that is asked for sizes.
 #[derive(Drop)]
 struct Asked<'a, S: FileSystem> {
@@ -51,8 +91,7 @@ impl<'a, S: FileSystem> Asked<'a, S> {
     /// Each file is asked for its size when its directory is read.
     fn read(&self, alloc: Global) -> Result<Result<Usage, UsageFault>, AllocError> {
         let walk = self.builder::<((), Size)>(alloc)?;
-        let walk = walk.process_read_dir(WithSizes::new(self.sizes));
-        Ok(usage_sized(walk.into_iter()))
+        Ok(count_read(walk, WithSizes::new(self.sizes)))
     }
 
     /// No file is asked for its size when its directory is read.
@@ -62,15 +101,8 @@ impl<'a, S: FileSystem> Asked<'a, S> {
         keep: bool,
         ask: bool,
     ) -> Result<Result<Usage, UsageFault>, AllocError> {
-        let walk = self
-            .builder::<((), ())>(alloc)?
-            .keep_metadata(keep)
-            .into_iter();
-        Ok(if ask {
-            usage(self.sizes, walk)
-        } else {
-            usage_kept(walk)
-        })
+        let walk = self.builder::<((), ())>(alloc)?.keep_metadata(keep);
+        Ok(count(self.sizes, walk.into_iter(), ask))
     }
 
     fn totals(
@@ -87,10 +119,10 @@ impl<'a, S: FileSystem> Asked<'a, S> {
     }
 }
 
-/// The same file system is read and asked for sizes.
 fn totals_from(
     alloc: Global,
     fs: &Watched,
+    sizes: &Watched,
     root: &str,
     min_depth: usize,
     asking: Asking,
@@ -99,21 +131,24 @@ fn totals_from(
         root,
         min_depth,
         fs,
-        sizes: fs,
+        sizes,
     };
     asked.totals(alloc, asking)
 }
 
-/// The files are asked for their sizes, when counted or when read.
-fn has_totals(
+/// The same file system is read and asked for sizes, which happens when the files are counted, and then when they are
+/// read.
+fn counted_twice(
     alloc: Global,
     failing: Failing,
-    wanted: Result<Usage, UsageFault>,
-) -> Result<bool, BuildError> {
+    root: &str,
+    least: usize,
+) -> Result<[Result<Usage, UsageFault>; 2], BuildError> {
     let fs = Watched::new(tree(alloc, GROUPED)?, failing);
-    let one = totals_from(alloc, &fs, "/t", 0, Asking::Counted)?;
-    let other = totals_from(alloc, &fs, "/t", 0, Asking::Read)?;
-    Ok(one == wanted && other == wanted)
+    Ok([
+        totals_from(alloc, &fs, &fs, root, least, Asking::Counted)?,
+        totals_from(alloc, &fs, &fs, root, least, Asking::Read)?,
+    ])
 }
 
 #[test]
@@ -126,21 +161,9 @@ fn totals_of_a_walk_or_that_memory_ran_out(rt: HostRuntime) {
         (Failing::ListForMemory("/t/group 1"), refused),
     ];
     for (failing, wanted) in rows {
-        assert!(rt; matches!(has_totals(rt.alloc(), failing, wanted), Ok(true)));
+        let counted = counted_twice(rt.alloc(), failing, "/t", 0);
+        assert!(rt; matches!(counted, Ok(both) if both == [wanted, wanted]));
     }
-}
-
-/// The files are asked for their sizes when counted, and when read.
-fn counted_twice(
-    alloc: Global,
-    root: &str,
-    least: usize,
-) -> Result<(Result<Usage, UsageFault>, Result<Usage, UsageFault>), BuildError> {
-    let fs = Watched::new(tree(alloc, GROUPED)?, Failing::Never);
-    Ok((
-        totals_from(alloc, &fs, root, least, Asking::Counted)?,
-        totals_from(alloc, &fs, root, least, Asking::Read)?,
-    ))
 }
 
 #[test]
@@ -159,8 +182,8 @@ fn one_walk_counted_in_both_ways(rt: HostRuntime) {
     };
     let rows = [("/t", 0, WHOLE), ("/t", 2, below), ("/t/a.txt", 0, file)];
     for (root, least, wanted) in rows {
-        let counted = counted_twice(rt.alloc(), root, least);
-        assert!(rt; matches!(counted, Ok(both) if both == (Ok(wanted), Ok(wanted))));
+        let counted = counted_twice(rt.alloc(), Failing::Never, root, least);
+        assert!(rt; matches!(counted, Ok(both) if both == [Ok(wanted), Ok(wanted)]));
     }
 }
 
@@ -172,15 +195,9 @@ fn has_totals_of_missing(
 ) -> Result<bool, BuildError> {
     let fs = Watched::new(tree(alloc, GROUPED)?, Failing::Never);
     let sizes = Watched::new(MemoryFs::new(alloc), Failing::Never);
-    let asked = Asked {
-        root: "/t",
-        min_depth: 0,
-        fs: &fs,
-        sizes: &sizes,
-    };
     let mut are_so = true;
     for asking in ways {
-        are_so &= asked.totals(alloc, asking)? == Ok(wanted);
+        are_so &= totals_from(alloc, &fs, &sizes, "/t", 0, asking)? == Ok(wanted);
     }
     Ok(are_so)
 }

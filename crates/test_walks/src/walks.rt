@@ -1,9 +1,9 @@
 //! The paths of walks over trees in memory.
-use jwalk::file_system::MemoryFs;
+use jwalk::file_system::{FileSystem, MemoryFs};
 use jwalk::{Options, WalkDirGeneric};
 use std::alloc::Global;
-use test_fixtures::builders::over_tree;
-use test_fixtures::trees::GROUPED;
+use test_fixtures::builders::{Builder, builder};
+use test_fixtures::trees::{GROUPED, tree};
 
 /// The paths are one on each line.
 fn paths_in_memory(alloc: Global) -> anyhow::Result<String> {
@@ -27,16 +27,21 @@ fn a_tree_built_in_memory(rt: HostRuntime) {
 }
 
 /// The paths are one on each line.
-fn paths_by_options(alloc: Global) -> anyhow::Result<String> {
+fn paths_by<S: FileSystem>(alloc: Global, fs: S, options: Options) -> anyhow::Result<String> {
+    let walk: Builder<S> = builder(alloc, fs, "/t")?;
     let mut text = String::new(alloc);
+    for answer in walk.with_options(options) {
+        writeln!(text, "{}", answer?.path()?)?;
+    }
+    Ok(text)
+}
+
+fn paths_by_options(alloc: Global) -> anyhow::Result<String> {
     let options = Options::new()
         .with_sort(true)
         .with_skip_hidden(false)
         .with_min_depth(2);
-    for answer in over_tree(alloc, GROUPED, "/t")?.with_options(options) {
-        writeln!(text, "{}", answer?.path()?)?;
-    }
-    Ok(text)
+    paths_by(alloc, tree(alloc, GROUPED)?, options)
 }
 
 #[test]

@@ -5,6 +5,7 @@ use std::alloc::Global;
 use std::process::Abort;
 use std::thread::Threads;
 use test_fixtures::answers::are_lines;
+use test_fixtures::resting::CountsLists;
 use test_fixtures::trees::{Step, tree};
 use test_fixtures::watched::{Failing, Watched};
 use test_fixtures::ways::{Asked, Setting};
@@ -30,18 +31,18 @@ pub struct Course {
 }
 
 /// Each answer must be an entry. The end must list nothing.
-fn goes_on<S: FileSystem + Send + Sync, R: Threads + Sync>(
+fn goes_on<S: CountsLists + Send + Sync, R: Threads + Sync>(
     walk: &mut Begun<'_, S, R>,
-    fs: &Watched,
+    fs: &S,
     counts: &[(usize, usize)],
 ) -> bool {
     for count in counts {
         let (coming, ahead) = walk.next();
-        if !matches!(coming, Coming::Entry) || (ahead, fs.lists()) != *count {
+        if !matches!(coming, Coming::Entry) || (ahead, fs.lists_so_far()) != *count {
             return false;
         }
     }
-    walk.is_over() && counts.last().map(|(_, lists)| *lists) == Some(fs.lists())
+    walk.is_over() && counts.last().map(|(_, lists)| *lists) == Some(fs.lists_so_far())
 }
 
 /// Nothing may be left of the walk after the error.
@@ -72,6 +73,40 @@ fn comes_in_parts<S: FileSystem + Send + Sync, R: Threads + Sync>(
     true
 }
 
+fn takes_course<S: CountsLists + Send + Sync, R: Threads + Sync>(
+    alloc: Global,
+    walk: &mut Begun<'_, S, R>,
+    fs: &S,
+    seen: &Seen,
+) -> bool {
+    match seen {
+        Seen::Counts(counts) => goes_on(walk, fs, counts),
+        Seen::Refused(before) => ends_with_memory(walk, *before),
+        Seen::Parts(parts) => comes_in_parts(alloc, walk, parts),
+    }
+}
+
+/// Nothing may be listed before the walk is asked for an answer.
+fn takes_over<S: CountsLists + Send + Sync, R: Threads + AllocGlobal + Sync>(
+    rt: &R,
+    fs: &S,
+    root: &str,
+    course: &Course,
+    on_threads: bool,
+) -> bool {
+    let asked = Asked {
+        fs,
+        root,
+        settings: course.settings,
+    };
+    match Begun::new(rt, rt.alloc(), &asked, on_threads) {
+        Ok(mut walk) => {
+            fs.lists_so_far() == 0 && takes_course(rt.alloc(), &mut walk, fs, &course.seen)
+        }
+        Err(_) => false,
+    }
+}
+
 fn takes<R: Threads + AllocGlobal + Sync>(
     rt: &R,
     start: &Start,
@@ -79,24 +114,10 @@ fn takes<R: Threads + AllocGlobal + Sync>(
     on_threads: bool,
 ) -> bool {
     let (steps, failing, root) = *start;
-    let Ok(tree) = tree(rt.alloc(), steps) else {
-        return false;
-    };
-    let fs = Watched::new(tree, failing);
-    let asked = Asked {
-        fs: &fs,
-        root,
-        settings: course.settings,
-    };
-    let Ok(mut walk) = Begun::new(rt, rt.alloc(), &asked, on_threads) else {
-        return false;
-    };
-    fs.lists() == 0
-        && match course.seen {
-            Seen::Counts(counts) => goes_on(&mut walk, &fs, counts),
-            Seen::Refused(before) => ends_with_memory(&mut walk, before),
-            Seen::Parts(parts) => comes_in_parts(rt.alloc(), &mut walk, parts),
-        }
+    match tree(rt.alloc(), steps) {
+        Ok(tree) => takes_over(rt, &Watched::new(tree, failing), root, course, on_threads),
+        Err(_) => false,
+    }
 }
 
 /// Asserts that each walk takes its course, on threads or not.

@@ -87,21 +87,25 @@ const SEVEN: &[Option<bool>] = &[
 ];
 
 /// No reading may follow them.
-fn gives_seven<R: Threads + AllocGlobal + Sync, S: FileSystem + Send + Sync>(
-    rt: &R,
-    fs: &S,
-    width: Width,
-    on_threads: bool,
-) -> bool {
-    let Some(mut reads) = Reads::new(rt, rt.alloc(), fs, width, on_threads) else {
-        return false;
-    };
+fn are_seven<R: Threads + Sync, S: FileSystem + Send + Sync>(reads: &mut Reads<'_, S, R>) -> bool {
     for wanted in SEVEN {
         if reads.next() != *wanted {
             return false;
         }
     }
     true
+}
+
+fn gives_seven<R: Threads + AllocGlobal + Sync, S: FileSystem + Send + Sync>(
+    rt: &R,
+    fs: &S,
+    width: Width,
+    on_threads: bool,
+) -> bool {
+    match Reads::new(rt, rt.alloc(), fs, width, on_threads) {
+        Some(mut reads) => are_seven(&mut reads),
+        None => false,
+    }
 }
 
 fn root<S: FileSystem>(alloc: Global, fs: &S) -> Option<DirEntry<((), ())>> {

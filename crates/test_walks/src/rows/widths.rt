@@ -3,13 +3,13 @@ ghost use Rattle.jwalk.specs.DirEntryIter.{reads_of};
 
 use crate::rows::courses::{Course, Seen, all_take};
 use jwalk::entries::Entries;
-use jwalk::file_system::{BuildError, FileSystem};
+use jwalk::file_system::FileSystem;
 use jwalk::readings::Readings;
 use jwalk::{Options, Parallelism};
 use std::alloc::{AllocError, Global};
 use test_fixtures::answers::Answer;
-use test_fixtures::builders::{Builder, over_tree};
-use test_fixtures::trees::{FORKED, GROUPED, Step};
+use test_fixtures::builders::{Builder, builder};
+use test_fixtures::trees::{FORKED, GROUPED, Step, tree};
 use test_fixtures::watched::Failing;
 use test_fixtures::ways::Setting;
 use test_fixtures::width::Width;
@@ -197,29 +197,32 @@ fn ahead_at_first_group<S: FileSystem>(
 
 /// The first walk has a clone of a width, set before its greatest depth of 1. The second has the width itself, set
 /// after it.
-fn ahead_by_clones(alloc: Global) -> Result<(usize, usize), BuildError> {
+fn ahead_by_clones<S: FileSystem>(alloc: Global, fs: &S) -> Result<(usize, usize), AllocError> {
     let three: Parallelism = Parallelism::RayonNewPool(3);
-    let before = over_tree(alloc, GROUPED, "/t")?.parallelism(three.clone()?);
-    let after = over_tree(alloc, GROUPED, "/t")?.max_depth(1);
+    let before: Builder<&S> = builder(alloc, fs, "/t")?.parallelism(three.clone()?);
+    let ahead = ahead_at_first_group(alloc, before.max_depth(1))?;
+    let after: Builder<&S> = builder(alloc, fs, "/t")?.max_depth(1);
     Ok((
-        ahead_at_first_group(alloc, before.max_depth(1))?,
+        ahead,
         ahead_at_first_group(alloc, after.parallelism(three))?,
     ))
 }
 
 #[test]
 fn clones_of_one_parallelism(rt: HostRuntime) {
-    assert!(rt; matches!(ahead_by_clones(rt.alloc()), Ok((0, 1))));
+    let tree = tree(rt.alloc(), GROUPED);
+    assert!(rt; matches!(&tree, Ok(tree) if ahead_by_clones(rt.alloc(), tree) == Ok((0, 1))));
 }
 
 /// The width is set before the greatest depth of 1, which is among the options.
-fn ahead_by_options(alloc: Global) -> Result<usize, BuildError> {
-    let walk = over_tree(alloc, GROUPED, "/t")?.parallelism(Parallelism::RayonNewPool(3));
+fn ahead_by_options<S: FileSystem>(alloc: Global, fs: &S) -> Result<usize, AllocError> {
+    let walk: Builder<&S> = builder(alloc, fs, "/t")?.parallelism(Parallelism::RayonNewPool(3));
     let options = Options::new().with_max_depth(1);
-    Ok(ahead_at_first_group(alloc, walk.with_options(options))?)
+    ahead_at_first_group(alloc, walk.with_options(options))
 }
 
 #[test]
 fn options_leave_the_width_as_it_was(rt: HostRuntime) {
-    assert!(rt; matches!(ahead_by_options(rt.alloc()), Ok(1)));
+    let tree = tree(rt.alloc(), GROUPED);
+    assert!(rt; matches!(&tree, Ok(tree) if ahead_by_options(rt.alloc(), tree) == Ok(1)));
 }
