@@ -109,10 +109,10 @@ where
 }
 
 /// The text is as `push_all` writes it.
-fn gives(
+fn gives<S: FileSystem + Send + Sync>(
     rt: &(impl Threads + Sync),
     alloc: Global,
-    fs: &Watched,
+    fs: &S,
     width: usize,
     by: By,
     wanted: &str,
@@ -124,7 +124,19 @@ fn gives(
     text.as_str() == wanted
 }
 
-/// Reads one after another and on threads. Memory runs out for the directory at the path.
+/// Reads one after another and on threads.
+fn gives_both<S: FileSystem + Send + Sync>(
+    rt: &(impl Threads + Sync),
+    alloc: Global,
+    fs: &S,
+    width: usize,
+    wanted: &str,
+) -> bool {
+    gives(rt, alloc, fs, width, By::Turn, wanted)
+        && gives(rt, alloc, fs, width, By::Threads, wanted)
+}
+
+/// Memory runs out for the directory at the path.
 fn both_give(
     rt: &(impl Threads + Sync + AllocGlobal),
     dirs: &[&str],
@@ -134,10 +146,7 @@ fn both_give(
 ) -> bool {
     let alloc = rt.alloc();
     match &tree(alloc, dirs, at) {
-        Some(fs) => {
-            gives(rt, alloc, fs, width, By::Turn, wanted)
-                && gives(rt, alloc, fs, width, By::Threads, wanted)
-        }
+        Some(fs) => gives_both(rt, alloc, fs, width, wanted),
         None => false,
     }
 }

@@ -1,6 +1,7 @@
 //! The addresses of the directories below a reading. That a job is rehearsed in preorder is proved: the clauses
 //! `in_order` and `matches_run` of `rehearse`.
 use crate::given::{self, States, address, is_at, roots_of};
+use jwalk_fs::file_system::FileSystem;
 use jwalk_job::job::Job;
 use jwalk_job::options::Options;
 use jwalk_job::process_read_dir::NoProcess;
@@ -19,9 +20,9 @@ fn tree(alloc: Global) -> Option<MemoryFs> {
     Some(fs)
 }
 
-type TreeJob<'f> = Job<States, &'f MemoryFs, NoProcess>;
+type TreeJob<'f, S> = Job<States, &'f S, NoProcess>;
 
-fn job_of(alloc: Global, fs: &MemoryFs) -> TreeJob<'_> {
+fn job_of<S: FileSystem>(alloc: Global, fs: &S) -> TreeJob<'_, S> {
     Job::new(alloc, fs, NoProcess, Options::new().with_sort(true))
 }
 
@@ -38,7 +39,7 @@ fn stand_at(items: &[Ordered<ReadDirSpec<States>>], wanted: Places) -> bool {
 }
 
 /// The root must be the only directory of its list.
-fn root_reading(job: &TreeJob<'_>, root: &str) -> Option<ReadDir<States>> {
+fn root_reading<S: FileSystem>(job: &TreeJob<'_, S>, root: &str) -> Option<ReadDir<States>> {
     let roots = roots_of(job, root, ())?;
     match roots.as_slice() {
         [only] => job.read_one(only).ok()?.ok(),
@@ -47,18 +48,27 @@ fn root_reading(job: &TreeJob<'_>, root: &str) -> Option<ReadDir<States>> {
 }
 
 /// The directories are those in the reading of the root.
-fn have_addresses(
+fn have_addresses<S: FileSystem>(
+    alloc: Global,
+    fs: &S,
+    root: &str,
+    above: &[usize],
+    wanted: Places,
+) -> Option<bool> {
+    let above = address(alloc, above)?;
+    let read = root_reading(&job_of(alloc, fs), root)?;
+    let below = read.ordered_read_children_specs(&above).ok()?;
+    Some(stand_at(below.as_slice(), wanted))
+}
+
+fn stand_in(
     alloc: Global,
     fs: Option<MemoryFs>,
     root: &str,
     above: &[usize],
     wanted: Places,
-) -> Option<bool> {
-    let fs = fs?;
-    let above = address(alloc, above)?;
-    let read = root_reading(&job_of(alloc, &fs), root)?;
-    let below = read.ordered_read_children_specs(&above).ok()?;
-    Some(stand_at(below.as_slice(), wanted))
+) -> bool {
+    matches!(&fs, Some(fs) if have_addresses(alloc, fs, root, above, wanted) == Some(true))
 }
 
 #[test]
@@ -68,6 +78,6 @@ fn directories_below_a_reading_have_their_addresses(rt: HostRuntime) {
     const BELOW_OTHER: Places = &[(&[3, 1, 0], "/t/b"), (&[3, 1, 1], "/t/c")];
     let alloc = rt.alloc();
     let forked = given::tree(alloc, FORKED);
-    assert!(rt; have_addresses(alloc, forked, "/r", &[0], BELOW_ROOT) == Some(true));
-    assert!(rt; have_addresses(alloc, tree(alloc), "/t", &[3, 1], BELOW_OTHER) == Some(true));
+    assert!(rt; stand_in(alloc, forked, "/r", &[0], BELOW_ROOT));
+    assert!(rt; stand_in(alloc, tree(alloc), "/t", &[3, 1], BELOW_OTHER));
 }

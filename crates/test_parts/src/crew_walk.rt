@@ -64,36 +64,71 @@ fn each<R: Wait + Threads + Clock + Drop + Send + Sync + 'static>(
 }
 
 /// The crew has one place. It reads one ahead, or as many as it has workers.
-fn crew<R: Wait + Clock + Drop>(alloc: Global, rt: R, workers: usize) -> Option<Arc<Crew<R>>> {
-    Arc::new(alloc, Crew::new(rt, 1, workers).with_read_ahead(1)).ok()
+fn crew<R: Wait + Clock + Clone + Drop>(
+    alloc: Global,
+    rt: &R,
+    workers: usize,
+) -> Option<Arc<Crew<R>>> {
+    let crew = Crew::new(rt.clone().ok()?, 1, workers);
+    Arc::new(alloc, crew.with_read_ahead(1)).ok()
+}
+
+/// The way in which the readings are taken.
+#[derive(Clone, Copy)]
+enum Pace {
+    AllAtOnce,
+    OneByOne,
+}
+
+/// Walks 20 times. No wait may have ended late.
+fn takes<R: Wait + Threads + Clock + Drop + Send + Sync + 'static>(
+    alloc: Global,
+    crew: &Arc<Crew<R>>,
+    pace: Pace,
+    most: usize,
+) -> bool {
+    for _ in 0..20 {
+        let Ok(place) = Place::take(crew, None) else {
+            return false;
+        };
+        let is_right = match pace {
+            Pace::AllAtOnce => {
+                are(whole_family(alloc, place), PREORDER.as_slice()) && crew.in_use() == 0
+            }
+            Pace::OneByOne => are(each(alloc, place, most), OF_TWO_ROOTS.as_slice()),
+        };
+        if !is_right {
+            return false;
+        }
+    }
+    crew.late_wakes() == 0
+}
+
+/// The crews are of one, of two and of four workers.
+fn crews_take<R: Wait + Threads + Clock + Clone + Drop + Send + Sync + 'static>(
+    alloc: Global,
+    rt: &R,
+    pace: Pace,
+) -> bool {
+    for workers in [1, 2, 4] {
+        let Some(crew) = crew(alloc, rt, workers) else {
+            return false;
+        };
+        if !takes(alloc, &crew, pace, workers + 1) {
+            return false;
+        }
+    }
+    true
 }
 
 #[test]
 fn all_readings_of_a_family_by_a_crew(rt: HostRuntime) {
-    let alloc = rt.alloc();
-    for workers in [1, 2, 4] {
-        let crew = crew(alloc, rt.clone().expect(&rt, "runtime"), workers).expect(&rt, "crew");
-        for _ in 0..20 {
-            let place = Place::take(&crew, None).expect(&rt, "place");
-            assert!(rt; are(whole_family(alloc, place), PREORDER.as_slice()));
-            assert_eq!(rt; crew.in_use(), 0);
-        }
-        assert_eq!(rt; crew.late_wakes(), 0);
-    }
+    assert!(rt; crews_take(rt.alloc(), &rt, Pace::AllAtOnce));
 }
 
 #[test]
 fn readings_of_two_families_by_a_crew_one_at_a_time(rt: HostRuntime) {
-    let alloc = rt.alloc();
-    for workers in [1, 2, 4] {
-        let crew = crew(alloc, rt.clone().expect(&rt, "runtime"), workers).expect(&rt, "crew");
-        for _ in 0..20 {
-            let place = Place::take(&crew, None).expect(&rt, "place");
-            let found = each(alloc, place, workers + 1);
-            assert!(rt; are(found, OF_TWO_ROOTS.as_slice()));
-        }
-        assert_eq!(rt; crew.late_wakes(), 0);
-    }
+    assert!(rt; crews_take(rt.alloc(), &rt, Pace::OneByOne));
 }
 
 // Places.
@@ -128,16 +163,22 @@ fn is_taken_once<R: Wait + Clock + Drop>(crew: &Arc<Crew<R>>) -> bool {
     crew.in_use() == 0
 }
 
+/// Returns whether a crew that is made with this number of places has one.
+fn has_one_place<R: Wait + Clock + Clone + Drop>(
+    alloc: Global,
+    rt: &R,
+    places: usize,
+) -> Option<bool> {
+    let crew = Arc::new(alloc, Crew::new(rt.clone().ok()?, places, 1)).ok()?;
+    Some(is_taken_once(&crew))
+}
+
 #[test]
 fn a_place_is_taken_once_until_it_is_given_back(rt: HostRuntime) {
-    let crew = Crew::new(rt.clone().expect(&rt, "runtime"), 1, 1);
-    let crew = Arc::new(rt.alloc(), crew).expect(&rt, "crew");
-    assert!(rt; is_taken_once(&crew));
+    assert!(rt; has_one_place(rt.alloc(), &rt, 1) == Some(true));
 }
 
 #[test]
 fn no_places_count_as_one(rt: HostRuntime) {
-    let crew = Crew::new(rt.clone().expect(&rt, "runtime"), 0, 1);
-    let crew = Arc::new(rt.alloc(), crew).expect(&rt, "crew");
-    assert!(rt; is_taken_once(&crew));
+    assert!(rt; has_one_place(rt.alloc(), &rt, 0) == Some(true));
 }

@@ -56,6 +56,16 @@ fn comes_to<P: Plan<Global, Spec = u8, Reading = u8>>(
     }
 }
 
+fn family_comes_to(
+    alloc: Global,
+    roots: &[u8],
+    workers: usize,
+    moves: &[Move],
+    wanted: &Outcome,
+) -> bool {
+    comes_to(alloc, &Family, roots, workers, moves, wanted)
+}
+
 static WHOLE: Outcome = Outcome {
     taken: &[&[0], &[0, 0], &[0, 1], &[0, 0, 0]],
     handed_out: &[
@@ -69,7 +79,7 @@ static WHOLE: Outcome = Outcome {
 
 #[test]
 fn a_rehearsal_plays_every_move(rt: HostRuntime) {
-    assert!(rt; comes_to(rt.alloc(), &Family, &[0], 2, MOVES, &WHOLE));
+    assert!(rt; family_comes_to(rt.alloc(), &[0], 2, MOVES, &WHOLE));
 }
 
 static PART: Outcome = Outcome {
@@ -80,7 +90,7 @@ static PART: Outcome = Outcome {
 
 #[test]
 fn a_rehearsal_leaves_the_board_as_the_moves_did(rt: HostRuntime) {
-    assert!(rt; comes_to(rt.alloc(), &Family, &[0], 2, &MOVES[..9], &PART));
+    assert!(rt; family_comes_to(rt.alloc(), &[0], 2, &MOVES[..9], &PART));
 }
 
 static WITHOUT_WORKERS: Outcome = Outcome {
@@ -98,8 +108,8 @@ static WITHOUT_ROOTS: Outcome = Outcome {
 #[test]
 fn without_workers_or_roots_nothing_moves(rt: HostRuntime) {
     const BOTH: &[Move] = &[Move::Take(0), Move::HandOut];
-    assert!(rt; comes_to(rt.alloc(), &Family, &[0], 0, BOTH, &WITHOUT_WORKERS));
-    assert!(rt; comes_to(rt.alloc(), &Family, &[], 2, BOTH, &WITHOUT_ROOTS));
+    assert!(rt; family_comes_to(rt.alloc(), &[0], 0, BOTH, &WITHOUT_WORKERS));
+    assert!(rt; family_comes_to(rt.alloc(), &[], 2, BOTH, &WITHOUT_ROOTS));
 }
 
 // Worker 1 takes and finishes the second child, while worker 0 holds the first.
@@ -115,7 +125,7 @@ const TURNED: &[Move] = &[
 
 #[test]
 fn a_worker_may_finish_out_of_turn(rt: HostRuntime) {
-    assert!(rt; comes_to(rt.alloc(), &Family, &[0], 2, TURNED, &PART));
+    assert!(rt; family_comes_to(rt.alloc(), &[0], 2, TURNED, &PART));
 }
 
 #[test]
