@@ -1,8 +1,12 @@
 //! Acts on walks over a crew, one after another.
-use crate::crewed::{Asked, Stand, States, Walk, WalkBy};
+ghost use Rattle.jwalk.specs.DirEntryIter.{reads_of};
+
+use crate::crewed::{Asked, Stand, States, Walk};
+use jwalk::entries::Entries;
 use jwalk::file_system::FileSystem;
 use jwalk::read_dir::NoProcess;
-use jwalk::{Crew, Readers};
+use jwalk::readings::Readings;
+use jwalk::{Crew, DirEntryIter, Readers};
 use std::alloc::{AllocError, Global};
 use std::process::Abort;
 use std::sync::Arc;
@@ -13,8 +17,11 @@ use test_fixtures::host::Host;
 use test_fixtures::resting::{CountsLists, rests};
 use test_fixtures::trees::{Step, tree};
 use test_fixtures::watched::{Failing, Watched};
-use test_fixtures::ways::all_of;
+use test_fixtures::ways::add_in_turn;
 use tree_crew::crew::Place;
+
+/// A walk under way, whoever reads for it.
+type WalkBy<B> = Entries<States, Global, B>;
 
 /// An act, which may fail.
 #[derive(Clone, Copy)]
@@ -94,11 +101,10 @@ fn are(alloc: Global, found: Result<Vec<Answer>, AllocError>, wanted: Option<&st
     }
 }
 
-fn comes<S: FileSystem, L: Readers<States, S, NoProcess, Global>>(
-    walk: &mut WalkBy<S, L>,
-    count: usize,
-) -> bool {
-    for _ in 0..count {
+fn comes<B: Readings<States, Global>>(walk: &mut WalkBy<B>, count: usize) -> bool
+    requires { B.can_read (B.base (reads_of walk.old)) }
+{
+    'entries: for _ in 0..count {
         if !matches!(walk.next(), Some(Ok(_))) {
             return false;
         }
@@ -107,9 +113,9 @@ fn comes<S: FileSystem, L: Readers<States, S, NoProcess, Global>>(
 }
 
 /// Waits up to some seconds.
-fn come_ahead<S: FileSystem, L: Readers<States, S, NoProcess, Global>>(
+fn come_ahead<B: Readings<States, Global>>(
     clock: &impl Clock,
-    walk: &WalkBy<S, L>,
+    walk: &WalkBy<B>,
     count: usize,
 ) -> bool {
     for _ in 0..5_000 {
@@ -123,15 +129,17 @@ fn come_ahead<S: FileSystem, L: Readers<States, S, NoProcess, Global>>(
 
 /// After each answer, at most one more reading than the bound may be ahead, and no other directory may have been listed
 /// than those and the directories of the answers.
-fn keeps<S: FileSystem, L: Readers<States, S, NoProcess, Global>>(
+fn keeps<B: Readings<States, Global>>(
     clock: &impl Clock,
     fs: &impl CountsLists,
-    walk: &mut WalkBy<S, L>,
+    walk: &mut WalkBy<B>,
     bound: &Bound,
-) -> bool {
+) -> bool
+    requires { B.can_read (B.base (reads_of walk.old)) }
+{
     let most = bound.readings.saturating_add(1);
-    for answers in 0..bound.answers {
-        let is_there = comes(walk, 1);
+    'entries: for answers in 0..bound.answers {
+        let is_there = matches!(walk.next(), Some(Ok(_)));
         let may_be_listed = answers.saturating_add(1).saturating_add(most);
         if !is_there || walk.ahead() > most || fs.lists_so_far() > may_be_listed {
             return false;
@@ -141,41 +149,45 @@ fn keeps<S: FileSystem, L: Readers<States, S, NoProcess, Global>>(
     walk.next().is_none()
 }
 
-/// Returns `false` for a walk that is to end.
-fn goes_on<S: FileSystem, L: Readers<States, S, NoProcess, Global>>(
-    clock: &impl Clock,
+fn ends<B: Readings<States, Global>>(alloc: Global, walk: &mut WalkBy<B>, wanted: &str) -> bool
+    requires { B.can_read (B.base (reads_of walk.old)) }
+{
+    let mut found = Vec::new(alloc);
+    add_in_turn(walk, &mut found) && are_lines(alloc, found.as_slice(), wanted)
+}
+
+fn goes_on<R: Clock + AllocGlobal, B: Readings<States, Global>>(
+    rt: &R,
     fs: &impl CountsLists,
-    walk: &mut WalkBy<S, L>,
+    walk: &mut WalkBy<B>,
     going: &Going<'_>,
-) -> bool {
+) -> bool
+    requires { B.can_read (B.base (reads_of walk.old)) }
+{
     match going {
-        Going::Ahead(count) => come_ahead(clock, walk, *count),
+        Going::Ahead(count) => come_ahead(rt, walk, *count),
         Going::Comes(count) => comes(walk, *count),
-        Going::Keeps(bound) => keeps(clock, fs, walk, bound),
-        Going::Ends(_) | Going::Drops => false,
+        Going::Keeps(bound) => keeps(rt, fs, walk, bound),
+        Going::Ends(wanted) => ends(rt.alloc(), walk, *wanted),
+        Going::Drops => true,
     }
 }
 
-fn last_goes_on<S: FileSystem, L: Readers<States, S, NoProcess, Global>>(
-    clock: &impl Clock,
+/// A walk that ended, or that is to be dropped, is dropped.
+fn last_goes_on<R: Clock + AllocGlobal, S: FileSystem, L: Readers<States, S, NoProcess, Global>>(
+    rt: &R,
     fs: &impl CountsLists,
-    walks: &mut Vec<WalkBy<S, L>>,
+    walks: &mut Vec<DirEntryIter<States, S, NoProcess, Global, L>>,
     going: &Going<'_>,
 ) -> bool {
-    match going {
-        Going::Ends(wanted) => match walks.pop() {
-            Some(walk) => {
-                let alloc = *walks.allocator();
-                are(alloc, all_of(alloc, walk), Some(*wanted))
-            }
-            None => false,
-        },
-        Going::Drops => walks.pop().is_some(),
-        _ => match walks.last_mut() {
-            Some(walk) => goes_on(clock, fs, walk, going),
-            None => false,
-        },
+    let Some(walk) = walks.last_mut() else {
+        return false;
+    };
+    let is_so = goes_on(rt, fs, walk, going);
+    if matches!(going, Going::Ends(_) | Going::Drops) {
+        walks.pop();
     }
+    is_so
 }
 
 /// Another thread gives the place back a while later.
@@ -188,6 +200,16 @@ fn holds<R: Host>(rt: &R, crew: &Arc<Crew<R>>) -> Option<()> {
     });
     holder.ok()?;
     Some(())
+}
+
+/// Returns the walk of an act that takes all answers of a walk, and what these must be, or `None` if only that the crew
+/// is busy.
+fn all_answers<'a>(act: &Act<'a>) -> Option<(Asked<'a>, Option<&'a str>)> {
+    match act {
+        Act::Answers(asked, wanted) => Some((*asked, Some(*wanted))),
+        Act::IsBusy(asked) => Some((*asked, None)),
+        _ => None,
+    }
 }
 
 /// Takes the acts that need no walk.
@@ -214,11 +236,10 @@ fn comes_off<R: Host, S: CountsLists + Send + Sync + 'static>(
             Err(error) => matches!(act, Act::IsRefused(_)) && error.is_busy(),
         },
         Act::Last(going) => last_goes_on(rt, &*stand.fs, walks, going),
-        Act::Answers(asked, wanted) => {
-            are(stand.alloc, stand.found(asked, NoProcess), Some(*wanted))
-        }
-        Act::IsBusy(asked) => are(stand.alloc, stand.found(asked, NoProcess), None),
-        _ => is_so(rt, stand, act),
+        _ => match all_answers(act) {
+            Some((asked, wanted)) => are(stand.alloc, stand.found(&asked, NoProcess), wanted),
+            None => is_so(rt, stand, act),
+        },
     }
 }
 

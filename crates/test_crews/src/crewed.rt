@@ -18,11 +18,14 @@ pub type States = ((), ());
 /// A walk that has not begun, and that a crew may read for.
 type Builder<R, S, C> = WalkDirGeneric<C, Arc<S>, NoProcess, Global, Crew<R>>;
 
-/// A walk under way, over any file system and with any readers.
-pub type WalkBy<S, L> = DirEntryIter<States, S, NoProcess, Global, L>;
-
 /// A walk under way that a crew may read for.
-pub type Walk<R, S> = WalkBy<Arc<S>, Session<R, States, Arc<S>, NoProcess>>;
+pub type Walk<R, S> = DirEntryIter<
+    States,
+    Arc<S>,
+    NoProcess,
+    Global,
+    Session<R, States, Arc<S>, NoProcess>,
+>;
 
 /// The reader of a walk.
 #[derive(Clone, Copy)]
@@ -111,11 +114,17 @@ impl<R: Host, S: FileSystem + Send + Sync + 'static> Stand<R, S> {
 
     /// Begins the walk and appends it to `walks`, or returns why it doesn't begin.
     pub fn begin(&self, asked: &Asked<'_>, walks: &mut Vec<Walk<R, S>>) -> Result<(), Error> {
+        if walks.reserve(1).is_err() {
+            return Err(Error::memory());
+        }
         let Ok(walk) = self.builder(asked) else {
             return Err(Error::memory());
         };
         match walk.try_into_iter() {
-            Ok(walk) => walks.push(walk).map_err(|_| Error::memory()),
+            Ok(walk) => {
+                walks.push_reserved(walk);
+                Ok(())
+            }
             Err(error) => Err(error),
         }
     }
