@@ -2,7 +2,7 @@
 use crate::crewed::{Stand, States};
 use jwalk::crew::Session;
 use jwalk::file_system::FileSystem;
-use jwalk::read_dir::{Job, NoProcess, Options};
+use jwalk::read_dir::{Job, NoProcess, Options, ReadDirSpec};
 use jwalk::read_dir_iter::ReadDirIter;
 use jwalk::{Error, Parallelism, Readers};
 use std::alloc::{AllocError, Global};
@@ -17,18 +17,34 @@ type ReadsBy<S, L> = ReadDirIter<States, S, NoProcess, Global, L>;
 /// Readings that a crew may make.
 type Reads<R, S> = ReadsBy<Arc<S>, Session<R, States, Arc<S>, NoProcess>>;
 
-/// Reads the root and everything below it by the crew, if a place is free at once.
-fn tried<R: Host, S: FileSystem + Send + Sync + 'static>(
+/// Returns the directories of the root's list.
+fn roots<S: FileSystem>(
+    job: &Job<States, S, NoProcess>,
+) -> Result<Vec<ReadDirSpec<States>>, AllocError> {
+    job.root_list("/r", ())?.read_children_specs()
+}
+
+/// Begins to read the root and everything below it by the crew, if a place is free at once. The readings come to
+/// `begun`.
+fn begin<R: Host, S: FileSystem + Send + Sync + 'static>(
     stand: &Stand<R, S>,
-) -> Result<Result<Reads<R, S>, Error>, AllocError> {
+    begun: &mut Vec<Reads<R, S>>,
+) -> Result<Result<(), Error>, AllocError> {
+    begun.reserve(1)?;
     let fs = stand.fs.clone()?;
+    let job: Job<States, Arc<S>, NoProcess> = Job::new(stand.alloc, fs, NoProcess, Options::new());
+    let roots = roots(&job)?;
     let by_crew = Parallelism::RayonExistingPool {
         pool: stand.crew.clone()?,
         busy_timeout: Some(Duration::from_millis(0)),
     };
-    let job: Job<States, Arc<S>, NoProcess> = Job::new(stand.alloc, fs, NoProcess, Options::new());
-    let roots = job.root_list("/r", ())?.read_children_specs()?;
-    Ok(ReadDirIter::try_with_crew(job, roots, by_crew))
+    match ReadDirIter::try_with_crew(job, roots, by_crew) {
+        Ok(reads) => {
+            begun.push_reserved(reads);
+            Ok(Ok(()))
+        }
+        Err(error) => Ok(Err(error)),
+    }
 }
 
 /// No reading may follow the seventh.
@@ -45,28 +61,25 @@ fn are_seven<S: FileSystem, L: Readers<States, S, NoProcess, Global>>(
     ended && ended_for_good
 }
 
-fn are_refused<R: Host, S: FileSystem + Send + Sync + 'static>(stand: &Stand<R, S>) -> bool {
-    match tried(stand) {
-        Ok(Err(error)) => error.is_busy(),
-        Ok(Ok(_reads)) => false,
-        Err(_) => false,
+/// Returns whether the readings that began last are seven.
+fn are_last_seven<S: FileSystem, L: Readers<States, S, NoProcess, Global>>(
+    begun: &mut Vec<ReadsBy<S, L>>,
+) -> bool {
+    match begun.last_mut() {
+        Some(reads) => are_seven(reads),
+        None => false,
     }
 }
 
 /// Others must be refused meanwhile.
-fn have_the_place<
-    R: Host,
-    S: FileSystem + Send + Sync + 'static,
-    L: Readers<States, Arc<S>, NoProcess, Global>,
->(stand: &Stand<R, S>, held: &mut ReadsBy<Arc<S>, L>) -> bool {
-    stand.crew.in_use() == 1 && are_refused(stand) && are_seven(held)
-}
-
 fn come<R: Host, S: FileSystem + Send + Sync + 'static>(stand: &Stand<R, S>) -> bool {
-    match tried(stand) {
-        Ok(Ok(mut held)) => have_the_place(stand, &mut held),
+    let mut begun = Vec::new(stand.alloc);
+    let has_place = matches!(begin(stand, &mut begun), Ok(Ok(()))) && stand.crew.in_use() == 1;
+    let are_refused = match begin(stand, &mut begun) {
+        Ok(Err(error)) => error.is_busy(),
         _ => false,
-    }
+    };
+    has_place && are_refused && are_last_seven(&mut begun)
 }
 
 /// The place must be free afterwards.
