@@ -9,6 +9,7 @@ use std::alloc::{AllocError, Global};
 use std::sync::{Arc, Wait};
 use std::time::{Clock, Duration};
 use test_fixtures::answers::Answer;
+use test_fixtures::builders::builder;
 use test_fixtures::host::Host;
 use test_fixtures::ways::{Setting, all_of, with_all};
 
@@ -160,4 +161,16 @@ where
     requires { P.IsLawful (callback_of walk) }
 {
     all_of(alloc, walk.into_iter())
+}
+
+/// Returns all that a walk yields, for which this number of workers of its own read.
+pub fn all_by_own<R: Host, S: FileSystem + Send + Sync + 'static>(
+    rt: &R,
+    fs: S,
+    root: &str,
+    settings: &[Setting],
+    workers: usize,
+) -> Result<Vec<Answer>, AllocError> {
+    let walk = with_all(builder(rt.alloc(), fs, root)?, settings);
+    all_by_crew(rt.alloc(), walk.workers(rt, workers)?)
 }

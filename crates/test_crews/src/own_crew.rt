@@ -1,18 +1,17 @@
 //! Walks that are read by a crew of their own.
 ghost use Rattle.jwalk.specs.WalkDir.{callback_of};
 
-use crate::crewed::all_by_crew;
+use crate::crewed::all_by_own;
 use jwalk::file_system::{BuildError, FileSystem};
 use jwalk::read_dir::ProcessReadDir;
 use jwalk::{Crew, WalkDirGeneric};
 use std::alloc::{AllocError, Global};
-use std::sync::Arc;
 use test_fixtures::answers::{Answer, are_lines};
-use test_fixtures::builders::{builder, over_tree};
+use test_fixtures::builders::over_tree;
 use test_fixtures::host::Host;
 use test_fixtures::trees::{DENIED, FORKED, GROUPED, LOOPED, Step, tree};
 use test_fixtures::watched::{Failing, Watched};
-use test_fixtures::ways::{Setting, with_all};
+use test_fixtures::ways::Setting;
 
 /// A tree, the root and the options of a walk over it, and its answers.
 struct Row {
@@ -26,9 +25,7 @@ impl Row {
     fn holds<R: Host>(&self, rt: &R, workers: usize) -> Result<bool, BuildError> {
         let alloc = rt.alloc();
         let watched = Watched::new(tree(alloc, self.steps)?, Failing::Never);
-        let fs = Arc::new(alloc, watched).map_err(AllocError::from)?;
-        let walk = with_all(builder(alloc, fs, self.root)?, self.settings);
-        let found = all_by_crew(alloc, walk.workers(rt, workers)?)?;
+        let found = all_by_own(rt, watched, self.root, self.settings, workers)?;
         Ok(are_lines(alloc, found.as_slice(), self.answers))
     }
 }

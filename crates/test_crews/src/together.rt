@@ -1,10 +1,8 @@
 //! Two directories that are read at the same time.
-use crate::crewed::{Asked, Reader, Stand, all_by_crew};
+use crate::crewed::{Asked, Reader, Stand, all_by_own};
 use jwalk::read_dir::NoProcess;
 use std::alloc::AllocError;
-use std::sync::Arc;
 use test_fixtures::answers::{Answer, are_lines};
-use test_fixtures::builders::builder;
 use test_fixtures::host::Host;
 use test_fixtures::meeting::{Meeting, Place};
 
@@ -29,9 +27,7 @@ fn answers_by_own<R: Host>(
     patience: u64,
     workers: usize,
 ) -> Result<Vec<Answer>, AllocError> {
-    let fs = Arc::new(rt.alloc(), both(rt, patience)?)?;
-    let walk = builder(rt.alloc(), fs, "/r")?.workers(rt, workers)?;
-    all_by_crew(rt.alloc(), walk)
+    all_by_own(rt, both(rt, patience)?, "/r", &[], workers)
 }
 
 /// The answers if the two are read at the same time.
