@@ -4,7 +4,7 @@ use test_fixtures::answers::Answer;
 use test_fixtures::builders::Entry;
 
 /// The end of a walk.
-#[derive(Clone, Copy, PartialEq, Eq, Debug)]
+#[derive(Clone, Copy)]
 pub enum End {
     /// With its last answer.
     Whole,

@@ -135,7 +135,8 @@ impl Drawn {
     }
 }
 
-#[derive(Clone, Copy, Debug, PartialEq, Eq)]
+/// The course of a walk.
+#[derive(Clone, Copy)]
 struct Course {
     end: End,
     /// The number of listings that were asked for.
@@ -144,27 +145,19 @@ struct Course {
     given: usize,
 }
 
-/// A seed, and its walks in the drawn way and by a crew.
-type Played = (
-    usize,
-    Result<Course, AllocError>,
-    Result<Course, AllocError>,
-);
-
-fn may_go(drawn: &Drawn, (_, in_way, by_crew): &Played) -> bool {
-    match (in_way, by_crew) {
-        (Ok(in_way), Ok(by_crew)) => drawn.lets(in_way) && drawn.lets(by_crew),
+/// Returns whether the walks in the drawn way and by a crew go by the rules.
+fn may_go<R: Host>(rt: &R, drawn: &Drawn) -> bool {
+    match (drawn.in_way(rt), drawn.by_crew(rt)) {
+        (Ok(in_way), Ok(by_crew)) => drawn.lets(&in_way) && drawn.lets(&by_crew),
         _ => false,
     }
 }
 
 /// Returns the first of these seeds where a walk breaks a rule.
-fn first_wrong<R: Host>(rt: &R, from: usize, count: usize) -> Option<Played> {
+fn first_wrong<R: Host>(rt: &R, from: usize, count: usize) -> Option<usize> {
     for seed in from..from.saturating_add(count) {
-        let drawn = Drawn::new(seed);
-        let played = (seed, drawn.in_way(rt), drawn.by_crew(rt));
-        if !may_go(&drawn, &played) {
-            return Some(played);
+        if !may_go(rt, &Drawn::new(seed)) {
+            return Some(seed);
         }
     }
     None
