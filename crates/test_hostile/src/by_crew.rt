@@ -6,8 +6,8 @@ use jwalk::entries::Entries;
 use jwalk::file_system::FileSystem;
 use jwalk::read_dir::{NoProcess, ProcessReadDir};
 use jwalk::readings::Readings;
-use jwalk::{Crew, Parallelism, WalkDirGeneric};
-use std::alloc::{AllocError, Global};
+use jwalk::{ClientState, Crew, Error, Parallelism, WalkDirGeneric};
+use std::alloc::{AllocError, Allocator, Global};
 use std::sync::Arc;
 use test_fixtures::answers::{Answer, are_lines};
 use test_fixtures::builders::Builder;
@@ -15,60 +15,92 @@ use test_fixtures::host::Host;
 use test_fixtures::ways::{Asked, Setting, WAYS, add_in_turn, with_all};
 
 /// A walk that has not begun, for which a crew will read.
-pub type CrewWalk<R, S, P = NoProcess> = WalkDirGeneric<((), ()), Arc<S>, P, Global, Crew<R>>;
+pub type CrewWalk<R, S> = WalkDirGeneric<((), ()), Arc<S>, NoProcess, Global, Crew<R>>;
 
 /// A walk under way, whoever reads for it.
 pub type Walk<B> = Entries<((), ()), Global, B>;
 
 /// What a test does with a walk under way, whoever reads for it.
-pub trait Visit {
+pub trait Visit<C: ClientState, A: Allocator + Copy> {
     /// Returns whether the walk went as it must.
-    fn visit<B: Readings<((), ()), Global>>(&mut self, walk: &mut Walk<B>) -> bool
+    fn visit<B: Readings<C, A>>(&mut self, walk: &mut Entries<C, A, B>) -> bool
         requires { B.can_read (B.base (reads_of walk.old)) };
 }
 
-/// Begins a walk, lends it and drops it. A walk over a crew has a long type, so this is the one function that owns one.
+/// Begins a walk, lends it and drops it, or returns why it doesn't begin. A walk over a crew has a long type, so this is
+/// the one function that owns one.
 pub fn lend<
     R: Host,
+    C: ClientState + Send + 'static,
     S: FileSystem + Send + Sync + 'static,
-    P: ProcessReadDir<((), ()), Global> + Send + Sync + 'static,
->(walk: CrewWalk<R, S, P>, visit: &mut impl Visit) -> bool
+    P: ProcessReadDir<C, A> + Send + Sync + 'static,
+    A: Allocator + Copy + Send + Sync + 'static,
+>(walk: WalkDirGeneric<C, S, P, A, Crew<R>>, visit: &mut impl Visit<C, A>) -> Result<bool, Error<A>>
+where
+    C::ReadDirState: Send + 'static,
+    C::DirEntryState: Send + 'static,
     requires { P.IsLawful (callback_of walk) }
 {
-    let mut walk = walk.into_iter();
-    visit.visit(&mut walk)
-}
-
-/// Begins a walk that no crew reads for, lends it and drops it.
-pub fn lend_alone<S: FileSystem>(walk: Builder<S>, visit: &mut impl Visit) -> bool {
-    let mut walk = walk.into_iter();
-    visit.visit(&mut walk)
-}
-
-/// A visit that takes all answers.
-#[derive(Drop)]
-struct All {
-    found: Vec<Answer>,
-}
-
-impl Visit for All {
-    fn visit<B: Readings<((), ()), Global>>(&mut self, walk: &mut Walk<B>) -> bool {
-        add_in_turn(walk, &mut self.found)
+    match walk.try_into_iter() {
+        Ok(mut walk) => Ok(visit.visit(&mut walk)),
+        Err(error) => Err(error),
     }
 }
 
-/// A visit that takes the first answers.
+/// Begins a walk that no crew reads for, lends it and drops it.
+pub fn lend_alone<S: FileSystem>(
+    walk: Builder<S>,
+    visit: &mut impl Visit<((), ()), Global>,
+) -> bool {
+    let mut walk = walk.into_iter();
+    visit.visit(&mut walk)
+}
+
+/// A visit that takes answers.
 #[derive(Drop)]
-pub struct First {
-    /// The greatest number of answers.
-    pub count: usize,
+pub struct Takes {
+    /// The greatest number of answers, or `None` if all are taken, and nothing may come after them.
+    count: Option<usize>,
     /// The answers.
     pub found: Vec<Answer>,
 }
 
-impl Visit for First {
+impl Takes {
+    /// Returns a visit that takes the first answers.
+    pub fn first(alloc: Global, count: usize) -> Self {
+        Takes {
+            count: Some(count),
+            found: Vec::new(alloc),
+        }
+    }
+
+    /// Returns a visit that takes all answers.
+    pub fn all(alloc: Global) -> Self {
+        Takes {
+            count: None,
+            found: Vec::new(alloc),
+        }
+    }
+
+    /// Returns the answers after the visit. If the walk didn't begin, the error is the only answer.
+    fn after(mut self, visited: Result<bool, Error>) -> Result<Vec<Answer>, AllocError> {
+        match visited {
+            Ok(true) => Ok(self.found),
+            Ok(false) => Err(AllocError),
+            Err(error) => {
+                self.found.push(Err(error))?;
+                Ok(self.found)
+            }
+        }
+    }
+}
+
+impl Visit<((), ()), Global> for Takes {
     fn visit<B: Readings<((), ()), Global>>(&mut self, walk: &mut Walk<B>) -> bool {
-        walk.fill(self.count, &mut self.found).is_ok()
+        match self.count {
+            Some(count) => walk.fill(count, &mut self.found).is_ok(),
+            None => add_in_turn(walk, &mut self.found),
+        }
     }
 }
 
@@ -99,14 +131,26 @@ impl<'a, S: FileSystem + Send + Sync + 'static> ByCrew<'a, S> {
         Ok(with_all(walk, self.settings).parallelism(by_crew))
     }
 
-    /// Begins the walk, lends it and drops it. Workers of this crew read for it.
+    /// Begins the walk, lends it and drops it. Workers of this crew read for it. Returns `false` if it doesn't begin.
     pub fn lend<R: Host>(
         &self,
         alloc: Global,
         pool: Arc<Crew<R>>,
-        visit: &mut impl Visit,
+        visit: &mut impl Visit<((), ()), Global>,
     ) -> Result<bool, AllocError> {
-        Ok(lend(self.builder(alloc, pool)?, visit))
+        let visited = lend(self.builder(alloc, pool)?, visit);
+        Ok(matches!(visited, Ok(true)))
+    }
+
+    /// Does the same with a crew of its own, which has the given number of workers.
+    pub fn lend_by<R: Host>(
+        &self,
+        rt: &R,
+        workers: usize,
+        visit: &mut impl Visit<((), ()), Global>,
+    ) -> Result<bool, AllocError> {
+        let pool = Arc::new(rt.alloc(), Crew::new(rt.clone()?, 1, workers))?;
+        self.lend(rt.alloc(), pool, visit)
     }
 
     /// Returns all that the walk yields. A crew of its own reads for it, with the given number of workers.
@@ -118,17 +162,11 @@ impl<'a, S: FileSystem + Send + Sync + 'static> ByCrew<'a, S> {
     ) -> Result<Vec<Answer>, AllocError>
         requires { P.IsLawful process }
     {
-        let alloc = rt.alloc();
-        let pool = Arc::new(alloc, Crew::new(rt.clone()?, 1, workers))?;
-        let walk = self.builder(alloc, pool)?.process_read_dir(process);
-        let mut all = All {
-            found: Vec::new(alloc),
-        };
-        if lend(walk, &mut all) {
-            Ok(all.found)
-        } else {
-            Err(AllocError)
-        }
+        let pool = Arc::new(rt.alloc(), Crew::new(rt.clone()?, 1, workers))?;
+        let walk = self.builder(rt.alloc(), pool)?.process_read_dir(process);
+        let mut takes = Takes::all(rt.alloc());
+        let visited = lend(walk, &mut takes);
+        takes.after(visited)
     }
 
     /// Returns whether the walk yields these lines when a crew of the given number of workers reads for it.

@@ -1,9 +1,10 @@
 //! Walks that a crew reads for, where each request for memory is refused, or all from each on.
-ghost use Rattle.jwalk.specs.WalkDir.{callback_of};
-
+use crate::by_crew::{Visit, lend};
 use crate::refused::rows::{GROUPS, HANDED_ON, MOVED, Row};
+use jwalk::entries::Entries;
 use jwalk::file_system::{FileSystem, MemoryFs};
 use jwalk::read_dir::{NoProcess, ProcessReadDir};
+use jwalk::readings::Readings;
 use jwalk::{ClientState, Crew, Error, Parallelism, WalkDirGeneric};
 use std::alloc::{Allocator, Global};
 use std::sync::Arc;
@@ -29,22 +30,21 @@ fn not_begun<A: Allocator + Copy>(error: &Error<A>) -> Outcome {
     }
 }
 
-/// Returns how a walk comes out that must yield these lines.
-fn comes_out<
-    R: Host,
-    C: ClientState + Send + 'static,
-    S: FileSystem + Send + Sync + 'static,
-    P: ProcessReadDir<C, A> + Send + Sync + 'static,
-    A: Allocator + Copy + Send + Sync + 'static,
->(alloc: Global, walk: WalkDirGeneric<C, S, P, A, Crew<R>>, lines: &[&str]) -> Outcome
+/// A visit of a walk that must yield these lines.
+#[derive(Drop)]
+struct Yields<'a> {
+    alloc: Global,
+    lines: &'a [&'a str],
+    came: Outcome,
+}
+
+impl<C: ClientState, A: Allocator + Copy> Visit<C, A> for Yields<'_>
 where
-    C::ReadDirState: Send + 'static,
-    C::DirEntryState: Shown + Send + 'static,
-    requires { P.IsLawful (callback_of walk) }
+    C::DirEntryState: Shown,
 {
-    match walk.try_into_iter() {
-        Ok(mut walk) => goes(alloc, &mut walk, lines),
-        Err(error) => not_begun(&error),
+    fn visit<B: Readings<C, A>>(&mut self, walk: &mut Entries<C, A, B>) -> bool {
+        self.came = goes(self.alloc, walk, self.lines);
+        true
     }
 }
 
@@ -72,7 +72,15 @@ where
         .sort(true)
         .follow_links(row.follow)
         .parallelism(by_crew);
-    comes_out(alloc, walk.process_read_dir(process), row.lines)
+    let mut yields = Yields {
+        alloc,
+        lines: row.lines,
+        came: Outcome::Wrong,
+    };
+    match lend(walk.process_read_dir(process), &mut yields) {
+        Ok(_) => yields.came,
+        Err(error) => not_begun(&error),
+    }
 }
 
 /// Returns how the walk of the row comes out with its callback.
@@ -107,16 +115,19 @@ struct Refusals {
     many: usize,
 }
 
+/// Returns how the walk comes out, or `None` if the crew or the tree can't be shared.
 fn comes_refused<R: Host>(
     rt: &R,
     memory: Memory,
-    fs: Arc<MemoryFs>,
-    pool: Arc<Crew<R>, Memory>,
+    fs: &Arc<MemoryFs>,
+    pool: &Arc<Crew<R>, Memory>,
     row: &Row,
     refusals: Refusals,
-) -> Outcome {
+) -> Option<Outcome> {
+    let fs = fs.clone().ok()?;
+    let pool = pool.clone().ok()?;
     memory.refuse(refusals.first, refusals.many);
-    comes(rt.alloc(), memory, fs, pool, row)
+    Some(comes(rt.alloc(), memory, fs, pool, row))
 }
 
 /// Returns how many requests were refused. Returns `None` if the walk came out wrong, if it left a place in use, or if
@@ -131,8 +142,7 @@ fn refused<R: Host>(
 ) -> Option<usize> {
     memory.refuse(0, 0);
     let before = memory.pieces();
-    let own = pool.clone().ok()?;
-    let came = comes_refused(rt, memory, fs.clone().ok()?, own, row, refusals);
+    let came = comes_refused(rt, memory, fs, pool, row, refusals)?;
     let is_free = pool.in_use() == 0;
     let is_right = came != Outcome::Wrong && is_free && are_back(rt, memory, before);
     let refused = memory.refused();
@@ -145,14 +155,18 @@ fn refused<R: Host>(
 
 /// Returns how many requests were refused one after another until five walks of the row met no refusal, or `None` if
 /// one came out wrong.
-fn plays<R: Host>(rt: &R, row: &Row, many: usize) -> Option<usize> {
-    let memory: Memory = Box::leak(Box::new(rt.alloc(), Refusing::new(rt.alloc())).ok()?);
-    let fs = Arc::new(rt.alloc(), tree(rt.alloc(), row.steps).ok()?).ok()?;
-    let pool = Arc::new(memory, Crew::new(rt.clone().ok()?, 1, 2)).ok()?;
+fn plays_on<R: Host>(
+    rt: &R,
+    memory: Memory,
+    fs: &Arc<MemoryFs>,
+    pool: &Arc<Crew<R>, Memory>,
+    row: &Row,
+    many: usize,
+) -> Option<usize> {
     let mut quiet: usize = 0;
     for first in 1..MOST {
         let refusals = Refusals { first, many };
-        if refused(rt, memory, &fs, &pool, row, refusals)? > 0 {
+        if refused(rt, memory, fs, pool, row, refusals)? > 0 {
             quiet = 0;
         } else {
             quiet = quiet.saturating_add(1);
@@ -162,6 +176,14 @@ fn plays<R: Host>(rt: &R, row: &Row, many: usize) -> Option<usize> {
         }
     }
     None
+}
+
+/// Plays the row on a crew of two, which the memory is for too.
+fn plays<R: Host>(rt: &R, row: &Row, many: usize) -> Option<usize> {
+    let memory: Memory = Box::leak(Box::new(rt.alloc(), Refusing::new(rt.alloc())).ok()?);
+    let fs = Arc::new(rt.alloc(), tree(rt.alloc(), row.steps).ok()?).ok()?;
+    let pool = Arc::new(memory, Crew::new(rt.clone().ok()?, 1, 2)).ok()?;
+    plays_on(rt, memory, &fs, &pool, row, many)
 }
 
 /// Refuses each request alone, and all from each on. More than 20 must be met.

@@ -1,4 +1,5 @@
 //! A tree for whose listings no descriptor is left for a while, or for good.
+use crate::by_crew::{Takes, lend_alone};
 use crate::gated::{Gate, Gated};
 use jwalk::file_system::{Fault, FileSystem, Patient};
 use std::alloc::{AllocError, Global};
@@ -9,7 +10,6 @@ use std::time::{Clock, Duration};
 use test_fixtures::answers::are_lines;
 use test_fixtures::builders::builder;
 use test_fixtures::trees::{SMALL, tree};
-use test_fixtures::ways::all_of;
 
 /// A clock that doesn't sleep, and adds up the microseconds that it should have slept.
 #[derive(Drop)]
@@ -99,9 +99,10 @@ const ENFILE: i32 = 23;
 const EACCES: i32 = 13;
 
 fn shows_all<S: FileSystem>(alloc: Global, fs: S) -> Result<bool, AllocError> {
-    let found = all_of(alloc, builder(alloc, fs, "/r")?.into_iter())?;
+    let mut all = Takes::all(alloc);
+    let are_taken = lend_alone(builder(alloc, fs, "/r")?, &mut all);
     let wanted = "0 d /r; 1 f /r/b; 1 d /r/s; 2 f /r/s/x; 1 f /r/a";
-    Ok(are_lines(alloc, found.as_slice(), wanted))
+    Ok(are_taken && are_lines(alloc, all.found.as_slice(), wanted))
 }
 
 /// The first five listings fail with this number. The walk must sleep meanwhile.
@@ -128,20 +129,24 @@ fn tries(alloc: Global, fs: &impl FileSystem, failing: &Failing) -> (bool, usize
 
 /// Returns whether one directory is tried for at most 100 milliseconds, the next ones once each, and more often again
 /// after one was listed.
+fn is_patient_once(alloc: Global, fs: &impl FileSystem, failing: &Failing, slept: &Slept) -> bool {
+    failing.gate.fail(1_000_000);
+    let (is_listed, often) = tries(alloc, fs, failing);
+    let micros = slept.micros();
+    let is_over_soon = !is_listed && often > 1 && micros <= 100_000;
+    let is_once = tries(alloc, fs, failing) == (false, 1) && slept.micros() == micros;
+    failing.gate.fail(0);
+    let is_listed_again = tries(alloc, fs, failing) == (true, 1);
+    failing.gate.fail(2);
+    let is_tried_again = tries(alloc, fs, failing) == (true, 3);
+    is_over_soon && is_once && is_listed_again && is_tried_again
+}
+
 fn is_tried_once(alloc: Global, number: i32) -> Option<bool> {
     let slept = Slept::not_yet();
     let failing = failing_with(alloc, number)?;
     let fs = Patient::new(&failing, &slept);
-    failing.gate.fail(1_000_000);
-    let (is_listed, often) = tries(alloc, &fs, &failing);
-    let micros = slept.micros();
-    let is_over_soon = !is_listed && often > 1 && micros <= 100_000;
-    let is_once = tries(alloc, &fs, &failing) == (false, 1) && slept.micros() == micros;
-    failing.gate.fail(0);
-    let is_listed_again = tries(alloc, &fs, &failing) == (true, 1);
-    failing.gate.fail(2);
-    let is_tried_again = tries(alloc, &fs, &failing) == (true, 3);
-    Some(is_over_soon && is_once && is_listed_again && is_tried_again)
+    Some(is_patient_once(alloc, &fs, &failing, &slept))
 }
 
 #[test]

@@ -1,8 +1,7 @@
 //! Directories without end: each has one directory.
 ghost use Rattle.jwalk.specs.jwalk_model.Tree.{functions_of, only_root};
 
-use crate::by_crew::{ByCrew, First, lend_alone};
-use jwalk::Crew;
+use crate::by_crew::{ByCrew, Takes, lend_alone};
 use jwalk::file_system::{Fault, FileSystem, FileType, Listed, Metadata};
 use jwalk::read_dir::NoProcess;
 use std::alloc::{AllocError, Allocator, Global};
@@ -117,10 +116,7 @@ fn are_a_hundred(found: &[Answer]) -> bool {
 
 fn gives_a_hundred(alloc: Global) -> Result<bool, AllocError> {
     let fs = Endless::new();
-    let mut first = First {
-        count: 100,
-        found: Vec::new(alloc),
-    };
+    let mut first = Takes::first(alloc, 100);
     let are_taken = lend_alone(builder(alloc, &fs, "/")?, &mut first);
     Ok(are_taken && are_a_hundred(first.found.as_slice()))
 }
@@ -130,49 +126,36 @@ fn a_hundred_answers_of_an_endless_walk(rt: HostRuntime) {
     assert!(rt; gives_a_hundred(rt.alloc()) == Ok(true));
 }
 
-/// Drops the walk of a crew of two after them.
-fn first_of_crew<R: Host>(
-    rt: &R,
-    asked: &ByCrew<'_, Endless>,
-    count: usize,
-) -> Result<Vec<Answer>, AllocError> {
-    let alloc = rt.alloc();
-    let pool = Arc::new(alloc, Crew::new(rt.clone()?, 1, 2))?;
-    let mut first = First {
-        count,
-        found: Vec::new(alloc),
+/// Drops the walk of a crew of two after them. No directory may be listed any more soon after.
+fn first_of_crew<R: Host>(rt: &R, count: usize) -> Result<Vec<Answer>, AllocError> {
+    let asked = ByCrew {
+        fs: Arc::new(rt.alloc(), Endless::new())?,
+        root: "/",
+        settings: &[],
     };
-    if asked.lend(alloc, pool, &mut first)? {
+    let mut first = Takes::first(rt.alloc(), count);
+    let are_taken = asked.lend_by(rt, 2, &mut first)?;
+    if are_taken && rests(rt, &*asked.fs) {
         Ok(first.found)
     } else {
         Err(AllocError)
     }
 }
 
-fn gives_a_hundred_and_rests<R: Host>(rt: &R) -> Result<bool, AllocError> {
-    let asked = ByCrew {
-        fs: Arc::new(rt.alloc(), Endless::new())?,
-        root: "/",
-        settings: &[],
-    };
-    let found = first_of_crew(rt, &asked, 100)?;
-    Ok(are_a_hundred(found.as_slice()) && rests(rt, &*asked.fs))
+fn rests_after_a_hundred<R: Host>(rt: &R) -> Result<bool, AllocError> {
+    let found = first_of_crew(rt, 100)?;
+    Ok(are_a_hundred(found.as_slice()))
 }
 
 #[test]
 fn a_hundred_answers_of_an_endless_walk_of_a_crew(rt: HostRuntime) {
-    assert!(rt; gives_a_hundred_and_rests(&rt) == Ok(true));
+    assert!(rt; rests_after_a_hundred(&rt) == Ok(true));
 }
 
 fn rests_after_five<R: Host>(rt: &R) -> Result<bool, AllocError> {
-    let asked = ByCrew {
-        fs: Arc::new(rt.alloc(), Endless::new())?,
-        root: "/",
-        settings: &[],
-    };
-    let found = first_of_crew(rt, &asked, 5)?;
+    let found = first_of_crew(rt, 5)?;
     let wanted = "0 d /; 1 d /d; 2 d /d/d; 3 d /d/d/d; 4 d /d/d/d/d";
-    Ok(are_lines(rt.alloc(), found.as_slice(), wanted) && rests(rt, &*asked.fs))
+    Ok(are_lines(rt.alloc(), found.as_slice(), wanted))
 }
 
 #[test]

@@ -3,7 +3,6 @@ ghost use Rattle.jwalk.specs.DirEntryIter.{reads_of};
 
 use crate::by_crew::{ByCrew, Visit, Walk, lend_alone};
 use crate::gated::{Gate, Gated};
-use jwalk::Crew;
 use jwalk::file_system::{BuildError, Fault, FileSystem};
 use jwalk::readings::Readings;
 use std::alloc::{AllocError, Global};
@@ -88,7 +87,7 @@ impl Vanishes<'_> {
     }
 }
 
-impl Visit for Vanishes<'_> {
+impl Visit<((), ()), Global> for Vanishes<'_> {
     fn visit<B: Readings<((), ()), Global>>(&mut self, walk: &mut Walk<B>) -> bool {
         let Ok(found) = self.found(walk) else {
             return false;
@@ -148,9 +147,7 @@ fn is_gone_or_not<R: Host>(rt: &R, count: usize) -> Result<bool, BuildError> {
         count,
         wanted: &[GONE, WHOLE],
     };
-    let crew = Crew::new(rt.clone()?, 1, 2);
-    let pool = Arc::new(alloc, crew).map_err(AllocError::from)?;
-    Ok(asked.lend(alloc, pool, &mut vanishes)?)
+    Ok(asked.lend_by(rt, 2, &mut vanishes)?)
 }
 
 #[test]

@@ -4,7 +4,7 @@ use crate::gated::{Gate, Gated};
 use jwalk::Crew;
 use jwalk::file_system::Fault;
 use jwalk::readings::Readings;
-use std::alloc::Global;
+use std::alloc::{AllocError, Global};
 use std::sync::Arc;
 use std::sync::atomic::{AtomicBool, Ordering};
 use std::thread;
@@ -51,7 +51,7 @@ struct Sticks<'a, R: Drop> {
     gate: &'a Stuck<R>,
 }
 
-impl<R: Clock + Drop> Visit for Sticks<'_, R> {
+impl<R: Clock + Drop> Visit<((), ()), Global> for Sticks<'_, R> {
     fn visit<B: Readings<((), ()), Global>>(&mut self, walk: &mut Walk<B>) -> bool {
         let is_begun = matches!(walk.next(), Some(Ok(_)));
         is_begun && is_set(&self.gate.clock, &self.gate.is_stuck)
@@ -70,6 +70,19 @@ fn stuck_tree<R: Host>(rt: &R) -> Option<Gated<Stuck<R>>> {
 }
 
 /// The walk is dropped while a call that reads ahead blocks. Its place must be free then.
+fn is_free_after<R: Host>(
+    alloc: Global,
+    asked: &ByCrew<'_, Gated<Stuck<R>>>,
+    pool: &Arc<Crew<R>>,
+) -> Result<bool, AllocError> {
+    let gate = &asked.fs.gate;
+    let mut sticks = Sticks { gate };
+    let was_stuck = asked.lend(alloc, pool.clone()?, &mut sticks)?;
+    let is_free = pool.in_use() == 0 && !gate.is_let_go.load(Ordering::SeqCst);
+    gate.is_let_go.store(true, Ordering::SeqCst);
+    Ok(was_stuck && is_free)
+}
+
 fn is_dropped<R: Host>(rt: &R) -> Option<bool> {
     let alloc = rt.alloc();
     let asked = ByCrew {
@@ -78,12 +91,7 @@ fn is_dropped<R: Host>(rt: &R) -> Option<bool> {
         settings: &[],
     };
     let pool = Arc::new(alloc, Crew::new(rt.clone().ok()?, 1, 3)).ok()?;
-    let gate = &asked.fs.gate;
-    let mut sticks = Sticks { gate };
-    let was_stuck = asked.lend(alloc, pool.clone().ok()?, &mut sticks).ok()?;
-    let is_free = pool.in_use() == 0 && !asked.fs.gate.is_let_go.load(Ordering::SeqCst);
-    asked.fs.gate.is_let_go.store(true, Ordering::SeqCst);
-    Some(was_stuck && is_free)
+    is_free_after(alloc, &asked, &pool).ok()
 }
 
 #[test]
