@@ -27,15 +27,19 @@ pub(crate) const KNOWN: &[Known] = &[
 
 type Row = (&'static [&'static str], Want<'static>);
 
+/// Returns whether a call has this outcome over the tree. The option `threads` precedes its words.
+fn is_so(rt: &impl Host, threads: &str, words: &[&str], want: &Want<'_>) -> bool {
+    match build_tree(rt.alloc(), TREE.as_bytes()) {
+        Ok(tree) => comes(rt, Numbered { tree, known: KNOWN }, threads, words, want),
+        Err(_) => false,
+    }
+}
+
 /// Asserts that each row has its outcome, with one thread and with three.
 fn all_come(rt: &(impl Abort + Host), rows: &[Row]) {
     for (words, want) in rows {
         for threads in &["-j1", "-j3"] {
-            let is_so = match build_tree(rt.alloc(), TREE.as_bytes()) {
-                Ok(tree) => comes(rt, Numbered { tree, known: KNOWN }, threads, words, want),
-                Err(_) => false,
-            };
-            assert!(rt; is_so, "{threads} {words:?}");
+            assert!(rt; is_so(rt, threads, words, want), "{threads} {words:?}");
         }
     }
 }

@@ -1,8 +1,5 @@
 //! Entries that are left out: by the words of the call, and by files of rules.
-use crate::runs::{RulesFile, Want, comes_with};
-use std::process::Abort;
-use test_fixtures::host::Host;
-use walk_text::tree::build_tree;
+use crate::runs::{Row, RulesFile, all_come_with};
 
 /// A repository with rules at two depths.
 const TREE: &str =
@@ -14,24 +11,9 @@ const RULES: &[RulesFile] = &[
     ("/r/lib/.gitignore", "!keep.o\n"),
 ];
 
-type Row = (&'static [&'static str], Want<'static>);
-
-/// Asserts that each row has its outcome over the tree, with one thread and with three.
-fn all_come(rt: &(impl Abort + Host), rows: &[Row]) {
-    for (words, want) in rows {
-        for threads in &["-j1", "-j3"] {
-            let is_so = match build_tree(rt.alloc(), TREE.as_bytes()) {
-                Ok(tree) => comes_with(rt, (tree, RULES), threads, words, want),
-                Err(_) => false,
-            };
-            assert!(rt; is_so, "{threads} {words:?}");
-        }
-    }
-}
-
 #[test]
 fn lines_leave_out_what_they_name(rt: HostRuntime) {
-    const ROWS: &[Row] = &[
+    const ROWS: &[Row<'static>] = &[
         (
             &[
                 "--plain",
@@ -43,6 +25,7 @@ fn lines_leave_out_what_they_name(rt: HostRuntime) {
                 ".git",
                 "/r",
             ],
+            TREE,
             ("29\t/r/lib\n42\t/r\n", "", 0),
         ),
         (
@@ -57,6 +40,7 @@ fn lines_leave_out_what_they_name(rt: HostRuntime) {
                 "-s",
                 "/r",
             ],
+            TREE,
             ("140\t/r\n", "", 0),
         ),
         (
@@ -69,21 +53,24 @@ fn lines_leave_out_what_they_name(rt: HostRuntime) {
                 "/r",
                 "/r/lib",
             ],
+            TREE,
             ("116\t/r\n29\t/r/lib\n", "", 0),
         ),
     ];
-    all_come(&rt, ROWS);
+    all_come_with(&rt, RULES, ROWS);
 }
 
 #[test]
 fn ignore_files_leave_out_what_they_name_if_that_is_asked_for(rt: HostRuntime) {
-    const ROWS: &[Row] = &[
+    const ROWS: &[Row<'static>] = &[
         (
             &["--plain", "-b", "--apparent", "-s", "/r"],
+            TREE,
             ("145\t/r\n", "", 0),
         ),
         (
             &["--plain", "-b", "--apparent", "-a", "--ignore", "/r"],
+            TREE,
             (
                 "10\t/r/.gitignore\n2\t/r/a.c\n20\t/r/lib/.gitignore\n4\t/r/lib/keep.o\n24\t/r/lib\n36\t/r\n",
                 "",
@@ -99,16 +86,19 @@ fn ignore_files_leave_out_what_they_name_if_that_is_asked_for(rt: HostRuntime) {
                 "--exclude-hidden",
                 "/r",
             ],
+            TREE,
             ("4\t/r/lib\n6\t/r\n", "", 0),
         ),
         (
             &["--plain", "-b", "--apparent", "--ignore", "-E", "lib", "/r"],
+            TREE,
             ("12\t/r\n", "", 0),
         ),
         (
             &["--plain", "-b", "--apparent", "--ignore", "/r/lib"],
+            TREE,
             ("24\t/r/lib\n", "", 0),
         ),
     ];
-    all_come(&rt, ROWS);
+    all_come_with(&rt, RULES, ROWS);
 }

@@ -1,7 +1,6 @@
 //! Lines of a size and a path.
-use crate::runs::{FILE, Row, TREE_A, Want, all_come, comes_on};
+use crate::runs::{FILE, Row, TREE_A, all_come, comes_on};
 use tally_run::screen::Screen;
-use walk_text::tree::build_tree;
 
 #[test]
 fn a_directory_comes_behind_what_is_below_it(rt: HostRuntime) {
@@ -128,21 +127,25 @@ fn bad_words(rt: HostRuntime) {
 #[test]
 fn an_error_has_no_control_characters_on_a_terminal(rt: HostRuntime) {
     const ROOT: &[&str] = &["--plain", "-b", "--apparent", "/no\u{1b}[2J", "/t/b.txt"];
-    const PLAIN: Want<'static> = (
-        "6\t/t/b.txt\n",
-        "tally: /no\u{1b}[2J: entity not found\n",
-        1,
+    const PLAIN: Row<'static> = (
+        ROOT,
+        TREE_A,
+        (
+            "6\t/t/b.txt\n",
+            "tally: /no\u{1b}[2J: entity not found\n",
+            1,
+        ),
     );
-    const SHOWN: Want<'static> = ("6\t/t/b.txt\n", "tally: /no?[2J: entity not found\n", 1);
-    for (shows_errors, want) in &[(false, PLAIN), (true, SHOWN)] {
+    const SHOWN: Row<'static> = (
+        ROOT,
+        TREE_A,
+        ("6\t/t/b.txt\n", "tally: /no?[2J: entity not found\n", 1),
+    );
+    for (shows_errors, row) in &[(false, PLAIN), (true, SHOWN)] {
         let screen = Screen {
             shows_errors: *shows_errors,
             ..FILE
         };
-        let is_so = match build_tree(rt.alloc(), TREE_A.as_bytes()) {
-            Ok(tree) => comes_on(&rt, screen, (tree, &[]), "-j1", ROOT, want),
-            Err(_) => false,
-        };
-        assert!(&rt; is_so, "{shows_errors}");
+        assert!(&rt; comes_on(&rt, screen, &[], "-j1", row), "{shows_errors}");
     }
 }

@@ -1,7 +1,10 @@
 //! Subtotals where each request for memory is refused, or all from each on.
 use crate::files::{KNOWN, TREE};
 use crate::numbered::Numbered;
-use jwalk::{ClientState, WalkDirGeneric};
+use jwalk::file_system::FileSystem;
+use jwalk::read_dir::NoProcess;
+use jwalk::{ClientState, DirEntryIter, WalkDirGeneric};
+use jwalk_subtotals::iter::Subtotals;
 use jwalk_subtotals::{SubtotalError, SubtotalOptions, WithSubtotal, subtotals};
 use std::alloc::{Allocator, Global};
 use test_fixtures::refused::outcome::Outcome;
@@ -38,6 +41,9 @@ struct Play {
     width: Width,
 }
 
+/// A walk without states or a callback.
+type Walk<S, A> = DirEntryIter<((), ()), S, NoProcess, A>;
+
 /// The return of a call for subtotals.
 type Yielded<C, A> = Option<Result<WithSubtotal<C, A>, SubtotalError<A>>>;
 
@@ -60,34 +66,45 @@ fn is_row<C: ClientState, A: Allocator + Copy>(
     }
 }
 
-/// The first rows come, and then one error, or all rows, and nothing more.
+/// Returns the outcome of these subtotals: the first rows come, and then one error, or all rows, and nothing more.
+fn outcome_of<S: FileSystem, A: Allocator + Copy>(
+    all: &mut Subtotals<((), ()), A, Walk<S, A>>,
+) -> Outcome {
+    let mut came = Outcome::Whole;
+    for (number, row) in ROWS.iter().enumerate() {
+        let yielded = all.next();
+        if is_refusal(&yielded) {
+            came = Outcome::Refused(number);
+            break;
+        }
+        if !is_row(&yielded, row) {
+            return Outcome::Wrong;
+        }
+    }
+    let is_over = all.next().is_none();
+    if is_over && all.next().is_none() {
+        came
+    } else {
+        Outcome::Wrong
+    }
+}
+
+/// Returns the outcome of the subtotals of a walk over a disk, with this memory.
+fn comes_over<S: FileSystem, A: Allocator + Copy>(disk: S, memory: A, width: Width) -> Outcome {
+    let Ok(root) = String::from_str(memory, "/r") else {
+        return Outcome::Refused(0);
+    };
+    let walk = WalkDirGeneric::<((), ()), _, _, _>::new(disk, root)
+        .sort(true)
+        .keep_metadata(true)
+        .parallelism(width.parallelism());
+    let mut all = subtotals(memory, walk.into_iter(), OPTIONS);
+    outcome_of(&mut all)
+}
+
 impl Repeated for Play {
     fn comes(&self, _alloc: Global, memory: &Refusing<Global>) -> Outcome {
-        let Ok(root) = String::from_str(memory, "/r") else {
-            return Outcome::Refused(0);
-        };
-        let walk = WalkDirGeneric::<((), ()), _, _, _>::new(&self.disk, root)
-            .sort(true)
-            .keep_metadata(true)
-            .parallelism(self.width.parallelism());
-        let mut all = subtotals(memory, walk.into_iter(), OPTIONS);
-        let mut came = Outcome::Whole;
-        for (number, row) in ROWS.iter().enumerate() {
-            let yielded = all.next();
-            if is_refusal(&yielded) {
-                came = Outcome::Refused(number);
-                break;
-            }
-            if !is_row(&yielded, row) {
-                return Outcome::Wrong;
-            }
-        }
-        let is_over = all.next().is_none();
-        if is_over && all.next().is_none() {
-            came
-        } else {
-            Outcome::Wrong
-        }
+        comes_over(&self.disk, memory, self.width)
     }
 
     fn may_be_whole(&self) -> bool {

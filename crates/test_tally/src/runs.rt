@@ -37,8 +37,8 @@ fn rules_of(alloc: Global, files: &[RulesFile]) -> Result<MemoryTexts, AllocErro
     Ok(rules)
 }
 
-/// Returns whether a call has this outcome on a screen. The option `threads` precedes its words.
-pub(crate) fn comes_on<S: FileSystem + Send + Sync + 'static>(
+/// Returns whether a call over a disk has this outcome on a screen. The option `threads` precedes its words.
+fn comes_over<S: FileSystem + Send + Sync + 'static>(
     rt: &impl Host,
     screen: Screen,
     (disk, files): (S, &[RulesFile]),
@@ -67,17 +67,6 @@ pub(crate) fn comes_on<S: FileSystem + Send + Sync + 'static>(
     out.as_slice() == want.0.as_bytes() && err.as_slice() == want.1.as_bytes() && status == want.2
 }
 
-/// Returns whether a call has this outcome. The option `threads` precedes its words.
-pub(crate) fn comes_with<S: FileSystem + Send + Sync + 'static>(
-    rt: &impl Host,
-    disk: (S, &[RulesFile]),
-    threads: &str,
-    words: &[&str],
-    want: &Want<'_>,
-) -> bool {
-    comes_on(rt, FILE, disk, threads, words, want)
-}
-
 /// Returns whether a call has this outcome over a disk without rules. The option `threads` precedes its words.
 pub(crate) fn comes<S: FileSystem + Send + Sync + 'static>(
     rt: &impl Host,
@@ -86,18 +75,29 @@ pub(crate) fn comes<S: FileSystem + Send + Sync + 'static>(
     words: &[&str],
     want: &Want<'_>,
 ) -> bool {
-    comes_with(rt, (disk, &[]), threads, words, want)
+    comes_over(rt, FILE, (disk, &[]), threads, words, want)
+}
+
+/// Returns whether a row has its outcome on a screen, over its tree with these rules. The option `threads` precedes its
+/// words.
+pub(crate) fn comes_on(
+    rt: &impl Host,
+    screen: Screen,
+    rules: &[RulesFile],
+    threads: &str,
+    (words, lines, want): &Row<'_>,
+) -> bool {
+    match build_tree(rt.alloc(), lines.as_bytes()) {
+        Ok(tree) => comes_over(rt, screen, (tree, rules), threads, words, want),
+        Err(_) => false,
+    }
 }
 
 /// Returns the number of the first row that is wrong, with one thread or with three.
-fn first_wrong(rt: &impl Host, rows: &[Row<'_>]) -> Option<usize> {
-    for (number, (words, lines, want)) in rows.iter().enumerate() {
+fn first_wrong(rt: &impl Host, rules: &[RulesFile], rows: &[Row<'_>]) -> Option<usize> {
+    for (number, row) in rows.iter().enumerate() {
         for threads in &["-j1", "-j3"] {
-            let is_so = match build_tree(rt.alloc(), lines.as_bytes()) {
-                Ok(disk) => comes(rt, disk, threads, words, want),
-                Err(_) => false,
-            };
-            if !is_so {
+            if !comes_on(rt, FILE, rules, threads, row) {
                 return Some(number);
             }
         }
@@ -105,7 +105,12 @@ fn first_wrong(rt: &impl Host, rows: &[Row<'_>]) -> Option<usize> {
     None
 }
 
+/// Asserts that each row has its outcome over its tree with these rules, with one thread and with three.
+pub(crate) fn all_come_with(rt: &(impl Abort + Host), rules: &[RulesFile], rows: &[Row<'_>]) {
+    assert_eq!(rt; first_wrong(rt, rules, rows), None);
+}
+
 /// Asserts that each row has its outcome, with one thread and with three.
 pub(crate) fn all_come(rt: &(impl Abort + Host), rows: &[Row<'_>]) {
-    assert_eq!(rt; first_wrong(rt, rows), None);
+    all_come_with(rt, &[], rows);
 }
