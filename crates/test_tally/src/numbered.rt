@@ -50,6 +50,23 @@ impl Numbered {
         }
         metadata
     }
+
+    /// Returns an item of a directory's listing, with the whole metadata of the path itself.
+    fn seen_whole<A: Allocator + Copy>(
+        &self,
+        alloc: A,
+        path: &str,
+        item: io::Result<Listed<A>>,
+    ) -> Result<Listed<A>, Fault> {
+        let Listed { name, .. } = match item {
+            Ok(listed) => listed,
+            Err(error) => return Err(Fault::Io(error)),
+        };
+        let own = join(alloc, path, name.as_str())?;
+        let metadata = self.tree.symlink_metadata(own.as_str())?;
+        let seen = Ok(Seen::Whole(self.told(own.as_str(), metadata)));
+        Ok(Listed { name, seen })
+    }
 }
 
 impl FileSystem for Numbered {
@@ -64,16 +81,7 @@ impl FileSystem for Numbered {
     ) -> Result<Vec<io::Result<Listed<A>>, A>, Fault> {
         let mut items = Vec::new(alloc);
         for item in self.tree.read_dir(alloc, path)? {
-            let Listed { name, .. } = match item {
-                Ok(listed) => listed,
-                Err(error) => return Err(Fault::Io(error)),
-            };
-            let own = join(alloc, path, name.as_str())?;
-            let seen = self.symlink_metadata(own.as_str())?;
-            items.push(Ok(Listed {
-                name,
-                seen: Ok(Seen::Whole(seen)),
-            }))?;
+            items.push(Ok(self.seen_whole(alloc, path, item)?))?;
         }
         Ok(items)
     }
