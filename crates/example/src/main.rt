@@ -5,14 +5,37 @@ use examples::{
     all_errors, archive, batch_walk, crew_walk, finder, ignore_walk, newest, one_disk, to_csv,
     totals, unmarked, usage_walk,
 };
-use jwalk::WalkDir;
-use jwalk::file_system::RealFs;
+use jwalk::file_system::{FileSystem, RealFs};
+use jwalk::read_dir::NoProcess;
+use jwalk::{Host, WalkDir, WalkDirGeneric};
+use std::io::Write;
 use std::{env, io};
 
 /// The names that there are.
 const NAMES: &str =
     "usage_walk ignore_walk batch_walk crew_walk totals finder unmarked newest one_disk to_csv archive \
                      all_errors";
+
+/// Runs an example that is given a walk.
+fn run<R: Host + AllocGlobal, S: FileSystem + Send + Sync + 'static, W: Write>(
+    rt: &R,
+    name: &str,
+    walk: WalkDirGeneric<((), ()), S, NoProcess>,
+    disk: S,
+    word: String,
+    out: &mut W,
+) -> anyhow::Result<()> {
+    match name {
+        "usage_walk" => usage_walk::run(walk, out),
+        "batch_walk" => batch_walk::run(rt, walk, out),
+        "totals" => totals::run(rt, walk, disk, out),
+        "unmarked" => unmarked::run(rt, walk, out),
+        "newest" => newest::run(rt.alloc(), walk, out),
+        "one_disk" => one_disk::run(rt, walk, word, out),
+        "to_csv" => to_csv::run(rt, walk, &disk, out),
+        _ => anyhow::bail!("usage: example NAME FOLDER, with one of these names: {NAMES}"),
+    }
+}
 
 fn main(rt: HostRuntime) -> anyhow::Result<()> {
     let mut words = env::args(&rt)?.skip(1);
@@ -21,28 +44,15 @@ fn main(rt: HostRuntime) -> anyhow::Result<()> {
         Some(root) => root,
         None => String::from_str(rt.alloc(), ".")?,
     };
-    let walk = WalkDir::at(&rt, &root)?;
+    let word = words.next().unwrap_or(String::new(rt.alloc()));
     let disk = RealFs::new(rt.clone()?);
     let out = &mut io::writer(&rt);
     match name.as_deref().unwrap_or("") {
-        "usage_walk" => usage_walk::run(walk, out),
         "ignore_walk" => ignore_walk::run(&rt, &root, out),
-        "batch_walk" => batch_walk::run(&rt, walk, out),
         "crew_walk" => crew_walk::run(&rt, disk, root, out),
-        "totals" => totals::run(&rt, walk, disk, out),
-        "finder" => finder::run(&rt, disk, root, words.next().as_deref().unwrap_or(""), out),
-        "unmarked" => unmarked::run(&rt, walk, out),
-        "newest" => newest::run(rt.alloc(), walk, out),
-        "one_disk" => {
-            let unread = words.next().unwrap_or(String::new(rt.alloc()));
-            one_disk::run(&rt, walk, unread, out)
-        }
-        "to_csv" => to_csv::run(&rt, walk, &disk, out),
+        "finder" => finder::run(&rt, disk, root, &word, out),
         "archive" => archive::run(rt.alloc(), rt.reader(), root, out),
         "all_errors" => all_errors::run(rt.alloc(), out),
-        _ => {
-            eprintln!(rt; "names: {NAMES}")?;
-            anyhow::bail!("usage: example NAME FOLDER, with one of these names")
-        }
+        name => run(&rt, name, WalkDir::at(&rt, &root)?, disk, word, out),
     }
 }
