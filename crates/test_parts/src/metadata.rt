@@ -1,7 +1,11 @@
 //! Metadata with details.
+use jwalk_fs::fault::Fault;
+use jwalk_fs::file_system::FileSystem;
+use jwalk_memory_fs::memory_fs::MemoryFs;
 use jwalk_model::file_type::FileType;
 use jwalk_model::metadata::{Details, Identity, Metadata, Moment};
 use std::test::Fail;
+use test_fixtures::trees::{SMALL, tree};
 
 fn at(seconds: i64, nanoseconds: u32) -> Moment {
     Moment {
@@ -57,5 +61,28 @@ fn a_time_of_creation_is_known_or_not(rt: HostRuntime) -> Result<(), Fail> {
     assert!(rt; unknown == seen(None));
     assert!(rt; zero.details() == Some(details(Some(at(0, 0)))));
     assert!(rt; unknown.details() == Some(details(None)));
+    Ok(())
+}
+
+// The type of the file system is named here: the borrow checker must cover `?` and `ok` there too.
+fn length_of_both(fs: &MemoryFs, one: &str, other: &str) -> Result<u64, Fault> {
+    let first = fs.metadata(one)?;
+    let second = fs.symlink_metadata(other)?;
+    Ok(first.len().saturating_add(second.len()))
+}
+
+fn is_file_without_details(fs: &MemoryFs, path: &str) -> Option<bool> {
+    let seen = fs.metadata(path).ok()?;
+    Some(seen.is_file() && seen.details() == None)
+}
+
+#[test]
+fn metadata_of_a_tree_in_memory(rt: HostRuntime) -> Result<(), Fail> {
+    let fs = tree(rt.alloc(), SMALL)?;
+    assert!(rt; matches!(length_of_both(&fs, "/r/a", "/r/b"), Ok(5)));
+    assert!(rt; length_of_both(&fs, "/r/a", "/r/c").is_err());
+    assert!(rt; is_file_without_details(&fs, "/r/a") == Some(true));
+    assert!(rt; is_file_without_details(&fs, "/r/s") == Some(false));
+    assert!(rt; is_file_without_details(&fs, "/r/c") == None);
     Ok(())
 }
