@@ -1,12 +1,14 @@
 -- The layout of printed lines.
-use Rattle.std.specs.Prelude.{ℕ, Bool, List, [], ◌∷◌, ◌++◌, flat_map, string_bytes, Option, None, Some, if◌then◌else◌}
-use Rattle.std.specs.Option.{option_map}
+use Rattle.std.specs.Prelude.{◌≡◌, ℕ, Bool, true, false, List, [], ◌∷◌, ◌++◌, flat_map, string_bytes, Option, None, Some, if◌then◌else◌}
+use Rattle.std.specs.Option.{option_map, option_map_or}
+use Rattle.jwalk_model.specs.FileSystem.{Functions}
+use Rattle.jwalk_model.specs.Paths.{join}
 use Rattle.jwalk_model.specs.declared.file_type.FileType.{FileType}
 use Rattle.jwalk_model.specs.declared.metadata.Metadata.{Metadata}
 use Rattle.seek_details.specs.Details.{details_text}
 use Rattle.seek_words.specs.Absolute.{absolute_path}
 use Rattle.seek_words.specs.Asks.{is_slash}
-use Rattle.seek_words.specs.Paint.{Painting, painted, painting_of}
+use Rattle.seek_words.specs.Paint.{Painting, asks_links, painted, painting_of}
 use Rattle.program_parts.specs.Paths.{line_of, shown_folder, shown_text, text_line}
 use Rattle.seek_words.specs.Subject.{front_of}
 use Rattle.seek_words.specs.declared.layout.Layout.{Layout}
@@ -21,15 +23,23 @@ pub record Form : Type 0 where
   pub painting : Option Painting
   pub slash : Option (List ℕ)
 
--- the form of a layout's lines
-abbrev pub form_in : Layout → Form
-form_in layout = record {
+-- the form of a layout's lines over a file system
+abbrev pub form_in : Functions → Layout → Form
+form_in fs layout = record {
   style = layout.style;
   front = option_map front_of layout.absolute;
   details = layout.details;
-  painting = option_map painting_of layout.paint;
+  painting = option_map (painting_of fs) layout.paint;
   slash = option_map string_bytes layout.slash;
 }
+
+-- whether the disk is asked where links lead
+abbrev pub asks : Form → Bool
+asks form = option_map_or asks_links form.painting false
+
+-- It is asked only if this holds.
+abbrev pub IfLinks : Type 0 → Form → Type 0
+IfLinks fixed form = asks form ≡ true → fixed
 
 -- the printed path of a folder, as it is or as an absolute one
 abbrev pub folder_text : Style → Option (List ℕ) → List ℕ → List ℕ
@@ -43,7 +53,7 @@ plain_line style (Some front) folder name = text_line style (absolute_path front
 
 abbrev line_by : Option Painting → Style → Option (List ℕ) → FileType → Option Metadata → List ℕ → List ℕ → List ℕ
 line_by None style front type seen folder name = plain_line style front folder name
-line_by (Some painting) style front type seen folder name = painted painting type seen (folder_text style front folder) (shown_text style name) ++ style.separator ∷ []
+line_by (Some painting) style front type seen folder name = painted painting type seen (join folder name) (folder_text style front folder) (shown_text style name) ++ style.separator ∷ []
 
 -- the line of an entry's path, in colors or without
 abbrev pub line_in : Form → FileType → Option Metadata → List ℕ → List ℕ → List ℕ

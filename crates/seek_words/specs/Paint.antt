@@ -1,23 +1,38 @@
 -- Paths in colors.
-use Rattle.std.specs.Prelude.{ℕ, Bool, List, Option, None, Some, if◌then◌else◌}
+use Rattle.std.specs.Prelude.{◌≡◌, ℕ, Bool, true, not, ◌&&◌, List, Option, None, Some, is_err, if◌then◌else◌}
+use Rattle.jwalk_model.specs.FileSystem.{Functions}
 use Rattle.jwalk_model.specs.declared.file_type.FileType.{FileType}
 use Rattle.jwalk_model.specs.declared.file_type.FileType.TheVariants.{Dir, File as Regular, Symlink, Other as Special}
 use Rattle.jwalk_model.specs.declared.metadata.Details.{Details}
 use Rattle.jwalk_model.specs.declared.metadata.Metadata.{Metadata}
-use Rattle.seek_colors.specs.Palette.{Colors, colored_path, colors_of}
+use Rattle.seek_colors.specs.Palette.{Colors, colored_path, colors_of, tells_broken}
 use Rattle.seek_colors.specs.declared.kind.Kind.{Kind}
 use Rattle.seek_colors.specs.declared.kind.Kind.TheVariants.{Directory, Link, BrokenLink, Executable, File, Pipe, Socket, BlockDevice, CharDevice, Other}
 use Rattle.seek_words.specs.Kinds.{has_format, is_executable}
 use Rattle.seek_words.specs.Seen.{details_seen}
 use Rattle.seek_words.specs.declared.paint.Paint.{Paint}
 
--- Colors, and whether links are followed.
+-- Colors, whether links are followed, and the paths at which a link leads nowhere.
 pub record Painting : Type 0 where
   pub colors : Colors
   pub follow : Bool
+  pub broken : List ℕ → Bool
 
-abbrev pub painting_of : Paint → Painting
-painting_of paint = record { colors = colors_of paint.palette; follow = paint.follow }
+-- the paths at which a link leads nowhere in a file system: what it leads to can't be asked
+abbrev pub broken_in : Functions → List ℕ → Bool
+broken_in fs path = is_err (fs.meta_of path)
+
+-- the colors of paths over a file system
+abbrev pub painting_of : Functions → Paint → Painting
+painting_of fs paint = record { colors = colors_of paint.palette; follow = paint.follow; broken = broken_in fs }
+
+-- whether the disk is asked where a link leads: links aren't followed, and the color tells
+abbrev pub asks_links : Painting → Bool
+asks_links painting = not painting.follow && tells_broken painting.colors
+
+-- It is asked only if this holds.
+abbrev pub IfAsksLinks : Type 0 → Painting → Type 0
+IfAsksLinks fixed painting = asks_links painting ≡ true → fixed
 
 abbrev file_kind_by : Option Details → Kind
 file_kind_by None = File
@@ -40,13 +55,17 @@ special_kind_by (Some details) = mode_kind details.mode
 abbrev pub special_kind : Option Metadata → Kind
 special_kind seen = special_kind_by (details_seen seen)
 
--- the kind of an entry; where links are followed, one that is left leads nowhere
-abbrev pub kind_of : Bool → FileType → Option Metadata → Kind
-kind_of follow Dir seen = Directory
-kind_of follow Regular seen = file_kind seen
-kind_of follow Symlink seen = if follow then BrokenLink else Link
-kind_of follow Special seen = special_kind seen
+-- whether the link at a path has the color of those that lead nowhere; where links are followed, one that is left does
+abbrev pub is_broken : Painting → List ℕ → Bool
+is_broken painting path = if asks_links painting then painting.broken path else painting.follow
 
--- the path of a name in a folder, in colors
-abbrev pub painted : Painting → FileType → Option Metadata → List ℕ → List ℕ → List ℕ
-painted painting type seen = colored_path painting.colors (kind_of painting.follow type seen)
+-- the kind of an entry at a path
+abbrev pub kind_of : Painting → FileType → Option Metadata → List ℕ → Kind
+kind_of painting Dir seen path = Directory
+kind_of painting Regular seen path = file_kind seen
+kind_of painting Symlink seen path = if is_broken painting path then BrokenLink else Link
+kind_of painting Special seen path = special_kind seen
+
+-- the path of a name in a folder, as these two are shown, in the colors of an entry at a path
+abbrev pub painted : Painting → FileType → Option Metadata → List ℕ → List ℕ → List ℕ → List ℕ
+painted painting type seen path = colored_path painting.colors (kind_of painting type seen path)

@@ -1,12 +1,14 @@
 //! The layout of printed lines.
 ghost use Rattle.std.specs.Prelude.{◌≡◌, ◌≤◌, ◌++◌, drop, length, string_bytes, take, IfOk, OnOk};
 ghost use Rattle.std.specs.Option.{option_copied, option_map};
+ghost use Rattle.jwalk_model.specs.FileSystem.{Functions};
 ghost use Rattle.seek_words.specs.Layout.{folder_text, plain_line, slashed};
 ghost use Rattle.seek_words.specs.Subject.{front_of};
 
 use crate::paint::Paint;
 use crate::shown::Shown;
 use crate::subject::AbsolutePath;
+use jwalk_fs::file_system::FileSystem;
 use program_parts::paths::Style;
 use seek_details::details::push_details;
 use std::alloc::{AllocError, Global};
@@ -86,12 +88,19 @@ fn replace_slashes(slash: &str, start: usize, out: &mut Vec<u8, Global>) -> Resu
 }
 
 impl Layout {
-    ghost use Rattle.seek_words.specs.Layout.{form_in, form_line, line_in, slashed_line};
+    ghost use Rattle.seek_words.specs.Layout.{form_in, form_line, line_in, slashed_line, IfLinks};
 
-    fn write_line(&mut self, entry: Shown<'_>, out: &mut Vec<u8, Global>) -> Result<(), AllocError>
-        ensures line { OnOk result (out.new.items ≡ out.old.items ++ line_in (form_in self.old) entry.entry.file_type
+    fn write_line<S: FileSystem>(
+        &mut self,
+        disk: &S,
+        entry: Shown<'_>,
+        out: &mut Vec<u8, Global>,
+    ) -> Result<(), AllocError>
+        ensures line { OnOk result (IfLinks (S.IsFixed disk.now) (form_in (S.functions disk.now) self.old)
+            → out.new.items ≡ out.old.items ++ line_in (form_in (S.functions disk.now) self.old) entry.entry.file_type
             (option_copied entry.entry.seen) entry.entry.folder.now entry.entry.name.now) }
-        ensures form { form_in self.new ≡ form_in self.old }
+        ensures longer { OnOk result (length out.old.items ≤ length out.new.items) }
+        ensures form { (fs : Functions) → form_in fs self.new ≡ form_in fs self.old }
     {
         let Some(paint) = &self.paint else {
             return push_plain(self.style, &mut self.absolute, entry, out);
@@ -99,47 +108,50 @@ impl Layout {
         let alloc = *out.allocator();
         let folder = shown_folder(alloc, self.style, &mut self.absolute, entry.folder)?;
         let name = self.style.shown_text(alloc, entry.name)?;
-        paint.write(
-            entry.file_type,
-            entry.seen,
-            folder.as_str(),
-            name.as_str(),
-            out,
-        )?;
+        paint.write(disk, entry, folder.as_str(), name.as_str(), out)?;
         out.push(self.style.separator)?;
         Ok(())
     }
 
-    fn write_slashed(
+    fn write_slashed<S: FileSystem>(
         &mut self,
+        disk: &S,
         entry: Shown<'_>,
         out: &mut Vec<u8, Global>,
     ) -> Result<(), AllocError>
-        ensures line { OnOk result (out.new.items ≡ out.old.items ++ slashed_line (form_in self.old) entry.entry.file_type
+        ensures line { OnOk result (IfLinks (S.IsFixed disk.now) (form_in (S.functions disk.now) self.old)
+            → out.new.items ≡ out.old.items ++ slashed_line (form_in (S.functions disk.now) self.old) entry.entry.file_type
             (option_copied entry.entry.seen) entry.entry.folder.now entry.entry.name.now) }
-        ensures form { form_in self.new ≡ form_in self.old }
+        ensures form { (fs : Functions) → form_in fs self.new ≡ form_in fs self.old }
     {
         let start = out.len();
-        self.write_line(entry, out)?;
+        self.write_line(disk, entry, out)?;
         match &self.slash {
             Some(slash) => replace_slashes(slash.as_str(), start, out),
             None => Ok(()),
         }
     }
 
-    /// Appends the line of an entry to `out`.
+    /// Appends the line of an entry to `out`. The disk is asked where the entry leads only if it is a link and the color
+    /// tells whether it leads nowhere, and links aren't followed.
     ///
     /// # Errors
     ///
     /// If memory runs out.
-    pub fn write(&mut self, entry: Shown<'_>, out: &mut Vec<u8, Global>) -> Result<(), AllocError>
-        ensures line { OnOk result (out.new.items ≡ out.old.items ++ form_line (form_in self.old) entry.entry.file_type
+    pub fn write<S: FileSystem>(
+        &mut self,
+        disk: &S,
+        entry: Shown<'_>,
+        out: &mut Vec<u8, Global>,
+    ) -> Result<(), AllocError>
+        ensures line { OnOk result (IfLinks (S.IsFixed disk.now) (form_in (S.functions disk.now) self.old)
+            → out.new.items ≡ out.old.items ++ form_line (form_in (S.functions disk.now) self.old) entry.entry.file_type
             (option_copied entry.entry.seen) entry.entry.folder.now entry.entry.name.now) }
-        ensures form { form_in self.new ≡ form_in self.old }
+        ensures form { (fs : Functions) → form_in fs self.new ≡ form_in fs self.old }
     {
         if self.details {
             push_details(entry.seen, out)?;
         }
-        self.write_slashed(entry, out)
+        self.write_slashed(disk, entry, out)
     }
 }

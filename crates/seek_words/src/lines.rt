@@ -2,10 +2,12 @@
 ghost use Rattle.std.specs.Prelude.{◌≡◌, ◌++◌, true, false, [], IfOk, OnOk};
 ghost use Rattle.std.specs.Option.{option_copied};
 ghost use Rattle.std.specs.Io.KnownBytes.{Appends, append_known};
+ghost use Rattle.jwalk_model.specs.FileSystem.{Functions};
 ghost use Rattle.seek_words.specs.Layout.{form_in};
 
 use crate::layout::Layout;
 use crate::shown::Shown;
+use jwalk_fs::file_system::FileSystem;
 use program_parts::gathered::Gathered;
 use program_parts::halt::Halt;
 use std::alloc::{AllocError, Global};
@@ -26,7 +28,7 @@ pub struct Lines {
 }
 
 impl Lines {
-    ghost use Rattle.seek_words.specs.Layout.{form_line};
+    ghost use Rattle.seek_words.specs.Layout.{form_line, IfLinks};
     ghost use Rattle.seek_words.specs.Lines.{form_of, gathered_of, has_printed};
 
     /// Returns no lines, of this layout.
@@ -35,7 +37,7 @@ impl Lines {
     ///
     /// If memory runs out.
     pub fn new(alloc: Global, layout: Layout) -> Result<Self, AllocError>
-        ensures form { IfOk result (λ lines. form_of lines ≡ form_in layout) }
+        ensures form { IfOk result (λ lines. (fs : Functions) → form_of fs lines ≡ form_in fs layout) }
         ensures empty { IfOk result (λ lines. gathered_of lines ≡ []) }
         ensures none { IfOk result (λ lines. has_printed lines ≡ false) }
     {
@@ -58,7 +60,7 @@ impl Lines {
     fn write_gathered<W: Write>(&mut self, out: &mut W) -> Result<(), Halt>
         ensures written { OnOk result (Appends (W.contents out.old) (W.contents out.new) (gathered_of self.old)) }
         ensures empty { OnOk result (gathered_of self.new ≡ []) }
-        ensures form { form_of self.new ≡ form_of self.old }
+        ensures form { (fs : Functions) → form_of fs self.new ≡ form_of fs self.old }
         ensures as_before { has_printed self.new ≡ has_printed self.old }
     {
         self.gathered.write(out)?;
@@ -67,20 +69,27 @@ impl Lines {
     }
 
     /// Prints the line of an entry. The line is gathered. The lines are written once there are enough, or at
-    /// once for a terminal.
+    /// once for a terminal. The disk is asked where the entry leads only if it is a link and the color tells whether it
+    /// leads nowhere, and links aren't followed.
     ///
     /// # Errors
     ///
     /// If memory runs out, or if the output can't be written.
-    pub fn print<W: Write>(&mut self, entry: Shown<'_>, out: &mut W) -> Result<(), Halt>
-        ensures printed { OnOk result (Appends (append_known (W.contents out.old) (gathered_of self.old))
-            (append_known (W.contents out.new) (gathered_of self.new)) (form_line (form_of self.old) entry.entry.file_type
+    pub fn print<S: FileSystem, W: Write>(
+        &mut self,
+        disk: &S,
+        entry: Shown<'_>,
+        out: &mut W,
+    ) -> Result<(), Halt>
+        ensures printed { OnOk result (IfLinks (S.IsFixed disk.now) (form_of (S.functions disk.now) self.old)
+            → Appends (append_known (W.contents out.old) (gathered_of self.old))
+            (append_known (W.contents out.new) (gathered_of self.new)) (form_line (form_of (S.functions disk.now) self.old) entry.entry.file_type
             (option_copied entry.entry.seen) entry.entry.folder.now entry.entry.name.now)) }
-        ensures at_once { OnOk result ((form_of self.old).style.to_terminal ≡ true → gathered_of self.new ≡ []) }
+        ensures at_once { OnOk result ((form_of (S.functions disk.now) self.old).style.to_terminal ≡ true → gathered_of self.new ≡ []) }
         ensures has_printed { OnOk result (has_printed self.new ≡ true) }
-        ensures form { form_of self.new ≡ form_of self.old }
+        ensures form { (fs : Functions) → form_of fs self.new ≡ form_of fs self.old }
     {
-        self.layout.write(entry, &mut self.gathered.bytes)?;
+        self.layout.write(disk, entry, &mut self.gathered.bytes)?;
         self.has_printed = true;
         if self.gathered.are_due(self.layout.style.to_terminal) {
             self.write_gathered(out)?;
@@ -97,7 +106,7 @@ impl Lines {
     pub fn write_old<T: Clock, W: Write>(&mut self, clock: &T, out: &mut W) -> Result<(), Halt>
         ensures kept { OnOk result (Appends (append_known (W.contents out.old) (gathered_of self.old))
             (append_known (W.contents out.new) (gathered_of self.new)) []) }
-        ensures form { form_of self.new ≡ form_of self.old }
+        ensures form { (fs : Functions) → form_of fs self.new ≡ form_of fs self.old }
         ensures as_before { has_printed self.new ≡ has_printed self.old }
     {
         if self.gathered.bytes.is_empty() {

@@ -1,22 +1,27 @@
 //! Paths in colors.
-ghost use Rattle.std.specs.Prelude.{◌≡◌, ◌++◌, OnOk};
+ghost use Rattle.std.specs.Prelude.{◌≡◌, ◌≤◌, ◌++◌, length, IfOk, OnOk};
 ghost use Rattle.std.specs.Option.{option_copied};
-ghost use Rattle.seek_words.specs.Paint.{file_kind, special_kind, mode_kind};
+ghost use Rattle.jwalk_model.specs.Paths.{join};
+ghost use Rattle.seek_words.specs.Paint.{broken_in, file_kind, special_kind, mode_kind};
 
 use crate::kinds::{has_format, is_executable};
 use crate::seen::details_seen;
+use crate::shown::Shown;
+use jwalk_fs::fault::Fault;
+use jwalk_fs::file_system::FileSystem;
+use jwalk_fs::path_text::join;
 use jwalk_model::file_type::FileType;
 use jwalk_model::metadata::Metadata;
 use seek_colors::kind::Kind;
 use seek_colors::palette::Palette;
-use std::alloc::{AllocError, Allocator};
+use std::alloc::{AllocError, Global};
 
 /// The colors of printed paths.
 #[derive(Drop)]
 pub struct Paint {
     /// The colors of kinds and names.
     pub palette: Palette,
-    /// Links are followed, so a link that is printed leads nowhere.
+    /// Links are followed, so a link that is printed leads nowhere. Else the disk is asked where it leads.
     pub follow: bool,
 }
 
@@ -54,44 +59,81 @@ fn special_kind(seen: Option<&Metadata>) -> Kind
     }
 }
 
-impl Paint {
-    ghost use Rattle.seek_words.specs.Paint.{kind_of, painted, painting_of};
+/// Returns whether what a link leads to can't be asked.
+fn leads_nowhere<S: FileSystem>(disk: &S, path: &str) -> Result<bool, AllocError>
+    ensures { IfOk result (λ yes. S.IsFixed disk.now → yes ≡ broken_in (S.functions disk.now) path.now) }
+{
+    match disk.metadata(path) {
+        Ok(_) => Ok(false),
+        Err(Fault::Io(_)) => Ok(true),
+        Err(Fault::Memory) => Err(AllocError),
+    }
+}
 
-    fn kind_of(&self, file_type: FileType, seen: Option<&Metadata>) -> Kind
-        ensures { result ≡ kind_of self.now.follow file_type (option_copied seen.entry) }
+impl Paint {
+    ghost use Rattle.seek_words.specs.Paint.{is_broken, kind_of, painted, painting_of, IfAsksLinks};
+
+    fn is_broken<S: FileSystem>(
+        &self,
+        alloc: Global,
+        disk: &S,
+        link: Shown<'_>,
+    ) -> Result<bool, AllocError>
+        ensures { IfOk result (λ yes. IfAsksLinks (S.IsFixed disk.now) (painting_of (S.functions disk.now) self.now)
+            → yes ≡ is_broken (painting_of (S.functions disk.now) self.now) (join link.entry.folder.now link.entry.name.now)) }
     {
-        match file_type {
-            FileType::Dir => Kind::Directory,
-            FileType::File => file_kind(seen),
+        if self.follow || !self.palette.tells_broken() {
+            return Ok(self.follow);
+        }
+        let path = join(alloc, link.folder, link.name)?;
+        leads_nowhere(disk, path.as_str())
+    }
+
+    fn kind_of<S: FileSystem>(
+        &self,
+        alloc: Global,
+        disk: &S,
+        entry: Shown<'_>,
+    ) -> Result<Kind, AllocError>
+        ensures { IfOk result (λ kind. IfAsksLinks (S.IsFixed disk.now) (painting_of (S.functions disk.now) self.now)
+            → kind ≡ kind_of (painting_of (S.functions disk.now) self.now) entry.entry.file_type
+            (option_copied entry.entry.seen) (join entry.entry.folder.now entry.entry.name.now)) }
+    {
+        match entry.file_type {
+            FileType::Dir => Ok(Kind::Directory),
+            FileType::File => Ok(file_kind(entry.seen)),
             FileType::Symlink => {
-                if self.follow {
-                    Kind::BrokenLink
+                if self.is_broken(alloc, disk, entry)? {
+                    Ok(Kind::BrokenLink)
                 } else {
-                    Kind::Link
+                    Ok(Kind::Link)
                 }
             }
-            FileType::Other => special_kind(seen),
+            FileType::Other => Ok(special_kind(entry.seen)),
         }
     }
 
-    /// Appends the path of a name in a folder, in the colors of the folder and of an entry of this type and with this
-    /// metadata.
+    /// Appends the path of a name in a folder, as these two are shown, in the colors of the folder and of the entry. The
+    /// disk is asked where the entry leads only if it is a link, links aren't followed, and the color tells whether it
+    /// leads nowhere.
     ///
     /// # Errors
     ///
     /// If memory runs out.
-    pub fn write<A: Allocator>(
+    pub fn write<S: FileSystem>(
         &self,
-        file_type: FileType,
-        seen: Option<&Metadata>,
+        disk: &S,
+        entry: Shown<'_>,
         folder: &str,
         name: &str,
-        out: &mut Vec<u8, A>,
+        out: &mut Vec<u8, Global>,
     ) -> Result<(), AllocError>
-        ensures { OnOk result (out.new.items ≡ out.old.items
-            ++ painted (painting_of self.now) file_type (option_copied seen.entry) folder.now name.now) }
+        ensures path { OnOk result (IfAsksLinks (S.IsFixed disk.now) (painting_of (S.functions disk.now) self.now)
+            → out.new.items ≡ out.old.items ++ painted (painting_of (S.functions disk.now) self.now) entry.entry.file_type
+            (option_copied entry.entry.seen) (join entry.entry.folder.now entry.entry.name.now) folder.now name.now) }
+        ensures longer { OnOk result (length out.old.items ≤ length out.new.items) }
     {
-        let kind = self.kind_of(file_type, seen);
+        let kind = self.kind_of(*out.allocator(), disk, entry)?;
         self.palette.write(kind, folder, name, out)
     }
 }
