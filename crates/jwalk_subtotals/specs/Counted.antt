@@ -6,7 +6,7 @@ use Rattle.jwalk.specs.jwalk_model.declared.metadata.Metadata.{Metadata}
 use Rattle.jwalk.specs.jwalk_model.declared.metadata.Details.{Details}
 use Rattle.jwalk.specs.jwalk_model.declared.metadata.Identity.{Identity}
 use Rattle.jwalk.specs.jwalk_model.FileType.{is_dir, is_file, is_symlink}
-use Rattle.jwalk.specs.jwalk_model.Metadata.{is_known, same_file}
+use Rattle.jwalk.specs.jwalk_model.Metadata.{len_of, details_of, is_known, same_file}
 use Rattle.jwalk.specs.jwalk_model.Entry.{Entry, Item}
 use Rattle.jwalk_usage.specs.Totals.{one_if, is_other, has_failed}
 use Rattle.jwalk_usage.specs.Kept.{length_kept}

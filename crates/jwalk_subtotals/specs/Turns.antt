@@ -1,5 +1,5 @@
 -- One turn of an iterator over subtotals, and what it is made of.
-use Rattle.std.specs.Prelude.{◌≡◌, ◌<◌, ◌⊎◌, Bool, true, false, ◌||◌, List, [], ◌∷◌, map, Option, Some, None, Result, Err}
+use Rattle.std.specs.Prelude.{◌≡◌, ◌<◌, ◌⊎◌, Bool, true, false, ◌||◌, List, [], map, Option, Some, None, Result, Err}
 use Rattle.std.specs.Iterator.{Count}
 use Rattle.jwalk.specs.jwalk_model.Entry.{Entry}
 use Rattle.jwalk.specs.jwalk_model.declared.metadata.Identity.{Identity}
