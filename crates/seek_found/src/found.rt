@@ -4,8 +4,7 @@ ghost use Rattle.std.specs.Iterator.{IsFinite};
 ghost use Rattle.std.specs.Io.KnownBytes.{append_known};
 ghost use Rattle.seek_words.specs.Filter.{sought_of};
 ghost use Rattle.seek_words.specs.Lines.{form_of, gathered_of};
-ghost use Rattle.seek_words.specs.Sought.{IfEmpties};
-ghost use Rattle.seek_found.specs.Found.{PrintsFound};
+ghost use Rattle.seek_found.specs.Found.{IfAsked, PrintsFound};
 
 use crate::printer::Printer;
 use jwalk_fs::file_system::FileSystem;
@@ -20,7 +19,7 @@ use std::time::Clock;
 
 /// Prints those of a walk's answers that pass, up to the limit, and reports the errors. Returns whether there was none.
 /// What lies below an entry that passes is left out, if the filter prunes. The disk is asked about directories if only
-/// empty entries are looked for. Gathered lines are written at the first
+/// empty entries are looked for, and where links lead if their colors tell. Gathered lines are written at the first
 /// answer that comes 100 milliseconds after the oldest of them.
 ///
 /// # Errors
@@ -45,13 +44,13 @@ pub fn print_found<
 ) -> Result<bool, Halt>
     requires can { I.can_next answers.old }
     requires ends { IsFinite (I.remaining answers.old) }
-    ensures printed { IfOk result (λ clean. IfEmpties (S.IsFixed disk.now) (sought_of T.takes (S.functions disk.now) printer.old.filter)
+    ensures printed { IfOk result (λ clean. IfAsked (S.IsFixed disk.now) (sought_of T.takes (S.functions disk.now) printer.old.filter) (form_of (S.functions disk.now) printer.old.lines)
         → PrintsFound I.next_gives answers.old (sought_of T.takes (S.functions disk.now) printer.old.filter)
-        (form_of printer.old.lines) printer.old.left printer.new.left
+        (form_of (S.functions disk.now) printer.old.lines) printer.old.left printer.new.left
         (append_known (W.contents out.old) (gathered_of printer.old.lines))
         (append_known (W.contents out.new) (gathered_of printer.new.lines)) clean) }
     ensures sought { sought_of T.takes (S.functions disk.now) printer.new.filter ≡ sought_of T.takes (S.functions disk.now) printer.old.filter }
-    ensures form { form_of printer.new.lines ≡ form_of printer.old.lines }
+    ensures form { form_of (S.functions disk.now) printer.new.lines ≡ form_of (S.functions disk.now) printer.old.lines }
 {
     let mut clean = true;
     let mut below = None;

@@ -6,7 +6,7 @@ ghost use Rattle.jwalk_job.specs.Entry.{entry, item};
 ghost use Rattle.seek_words.specs.Filter.{sought_of};
 ghost use Rattle.seek_words.specs.Lines.{form_of, gathered_of};
 ghost use Rattle.seek_words.specs.Sought.{IfEmpties};
-ghost use Rattle.seek_found.specs.Found.{entry_line, found_line, found_lines, is_clean};
+ghost use Rattle.seek_found.specs.Found.{entry_line, found_line, found_lines, is_clean, IfAsked};
 ghost use Rattle.seek_found.specs.Limit.{is_hit, left_after, one_less};
 ghost use Rattle.seek_found.specs.Prune.{below_after, is_below, unpruned_behind};
 
@@ -73,12 +73,12 @@ fn print_entry<T: NameTest, S: FileSystem, C: ClientState, A: Allocator + Copy, 
 ) -> Result<bool, Halt>
     ensures hit { IfOk result (λ passes. IfEmpties (S.IsFixed disk.now) (sought_of T.takes (S.functions disk.now) filter.old)
         → passes ≡ is_hit (sought_of T.takes (S.functions disk.now) filter.old) (Ok (entry found.now))) }
-    ensures printed { OnOk result (IfEmpties (S.IsFixed disk.now) (sought_of T.takes (S.functions disk.now) filter.old)
+    ensures printed { OnOk result (IfAsked (S.IsFixed disk.now) (sought_of T.takes (S.functions disk.now) filter.old) (form_of (S.functions disk.now) lines.old)
         → Appends (append_known (W.contents out.old) (gathered_of lines.old))
         (append_known (W.contents out.new) (gathered_of lines.new))
-        (entry_line (sought_of T.takes (S.functions disk.now) filter.old) (form_of lines.old) (entry found.now))) }
+        (entry_line (sought_of T.takes (S.functions disk.now) filter.old) (form_of (S.functions disk.now) lines.old) (entry found.now))) }
     ensures sought { sought_of T.takes (S.functions disk.now) filter.new ≡ sought_of T.takes (S.functions disk.now) filter.old }
-    ensures form { form_of lines.new ≡ form_of lines.old }
+    ensures form { form_of (S.functions disk.now) lines.new ≡ form_of (S.functions disk.now) lines.old }
 {
     let shown = Shown {
         file_type: found.file_type(),
@@ -89,7 +89,7 @@ fn print_entry<T: NameTest, S: FileSystem, C: ClientState, A: Allocator + Copy, 
     if !filter.passes(disk, found.depth(), shown)? {
         return Ok(false);
     }
-    lines.print(shown, out)?;
+    lines.print(disk, shown, out)?;
     Ok(true)
 }
 
@@ -111,15 +111,15 @@ impl<'w, T: NameTest> Printer<'w, T> {
         err: &mut E,
     ) -> Result<bool, Halt>
         ensures clean { IfOk result (λ clean. clean ≡ is_clean (item answer.now)) }
-        ensures printed { OnOk result (IfEmpties (S.IsFixed disk.now) (sought_of T.takes (S.functions disk.now) self.old.filter)
+        ensures printed { OnOk result (IfAsked (S.IsFixed disk.now) (sought_of T.takes (S.functions disk.now) self.old.filter) (form_of (S.functions disk.now) self.old.lines)
             → Appends (append_known (W.contents out.old) (gathered_of self.old.lines))
             (append_known (W.contents out.new) (gathered_of self.new.lines))
-            (found_line (sought_of T.takes (S.functions disk.now) self.old.filter) (form_of self.old.lines) (item answer.now))) }
+            (found_line (sought_of T.takes (S.functions disk.now) self.old.filter) (form_of (S.functions disk.now) self.old.lines) (item answer.now))) }
         ensures left { OnOk result (IfEmpties (S.IsFixed disk.now) (sought_of T.takes (S.functions disk.now) self.old.filter) → self.new.left
             ≡ left_after (sought_of T.takes (S.functions disk.now) self.old.filter) self.old.left (item answer.now ∷ [])) }
         ensures below { OnOk result (IfEmpties (S.IsFixed disk.now) (sought_of T.takes (S.functions disk.now) self.old.filter) → below.new ≡ below_after (sought_of T.takes (S.functions disk.now) self.old.filter) below.old (item answer.now)) }
         ensures sought { sought_of T.takes (S.functions disk.now) self.new.filter ≡ sought_of T.takes (S.functions disk.now) self.old.filter }
-        ensures form { form_of self.new.lines ≡ form_of self.old.lines }
+        ensures form { form_of (S.functions disk.now) self.new.lines ≡ form_of (S.functions disk.now) self.old.lines }
     {
         match answer {
             Ok(found) => {
@@ -138,7 +138,7 @@ impl<'w, T: NameTest> Printer<'w, T> {
     /// Prints the line of an answer, if it is an entry that passes. Reports the error, if there is one. Returns whether
     /// there is none. An answer that is deeper than `below` is left out. `below` is the depth of the last entry that
     /// passed, if nothing below it is looked for. The disk is asked about directories if only empty entries are looked
-    /// for.
+    /// for, and where links lead if their colors tell.
     ///
     /// # Errors
     ///
@@ -153,17 +153,17 @@ impl<'w, T: NameTest> Printer<'w, T> {
     ) -> Result<bool, Halt>
         ensures clean { IfOk result (λ clean. clean ≡ list_all is_clean
             (unpruned_behind (sought_of T.takes (S.functions disk.now) self.old.filter) below.old (item answer ∷ []))) }
-        ensures printed { OnOk result (IfEmpties (S.IsFixed disk.now) (sought_of T.takes (S.functions disk.now) self.old.filter)
+        ensures printed { OnOk result (IfAsked (S.IsFixed disk.now) (sought_of T.takes (S.functions disk.now) self.old.filter) (form_of (S.functions disk.now) self.old.lines)
             → Appends (append_known (W.contents out.old) (gathered_of self.old.lines))
             (append_known (W.contents out.new) (gathered_of self.new.lines))
-            (found_lines (sought_of T.takes (S.functions disk.now) self.old.filter) (form_of self.old.lines)
+            (found_lines (sought_of T.takes (S.functions disk.now) self.old.filter) (form_of (S.functions disk.now) self.old.lines)
             (unpruned_behind (sought_of T.takes (S.functions disk.now) self.old.filter) below.old (item answer ∷ [])))) }
         ensures left { OnOk result (IfEmpties (S.IsFixed disk.now) (sought_of T.takes (S.functions disk.now) self.old.filter) → self.new.left ≡ left_after (sought_of T.takes (S.functions disk.now) self.old.filter) self.old.left
             (unpruned_behind (sought_of T.takes (S.functions disk.now) self.old.filter) below.old (item answer ∷ []))) }
         ensures below { OnOk result (IfEmpties (S.IsFixed disk.now) (sought_of T.takes (S.functions disk.now) self.old.filter) → below.new ≡ (if is_below below.old (item answer) then below.old
             else below_after (sought_of T.takes (S.functions disk.now) self.old.filter) below.old (item answer))) }
         ensures sought { sought_of T.takes (S.functions disk.now) self.new.filter ≡ sought_of T.takes (S.functions disk.now) self.old.filter }
-        ensures form { form_of self.new.lines ≡ form_of self.old.lines }
+        ensures form { form_of (S.functions disk.now) self.new.lines ≡ form_of (S.functions disk.now) self.old.lines }
     {
         if is_below(*below, &answer) {
             return Ok(true);

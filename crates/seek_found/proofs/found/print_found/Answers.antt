@@ -3,6 +3,7 @@ use Rattle.std.specs.Io.KnownBytes.{Appends, append_known}
 use Rattle.jwalk_job.specs.Entry.{item}
 use Rattle.seek_words.specs.Filter.{sought_of}
 use Rattle.seek_words.specs.Lines.{form_of, gathered_of}
+use Rattle.seek_words.specs.Layout.{IfLinks}
 use Rattle.seek_words.specs.Sought.{IfEmpties}
 use Rattle.std.specs.List.{list_all}
 use Rattle.seek_found.specs.Found.{found_lines, is_clean}
@@ -17,7 +18,7 @@ loop-below-init g c = record {
   can = c.requires.can;
   ends = c.requires.ends;
   so_far = λ known. none_found g.I.Iterator.next_gives c.args.answers.now
-      (sought_of g.T.NameTest.takes (g.S.FileSystem.functions c.args.disk.now) c.args.printer.now.filter) (form_of c.args.printer.now.lines) c.args.printer.now.left
+      (sought_of g.T.NameTest.takes (g.S.FileSystem.functions c.args.disk.now) c.args.printer.now.filter) (form_of (g.S.FileSystem.functions c.args.disk.now) c.args.printer.now.lines) c.args.printer.now.left
       (append_known (g.W.Write.contents c.args.out.now) (gathered_of c.args.printer.now.lines));
   sought = refl;
   form = refl;
@@ -38,31 +39,32 @@ loop-below-preserved g c =
       can = on.0;
       ends = on.1;
       so_far = λ known.
-          let told = subst (IfEmpties (g.S.FileSystem.IsFixed c.args.disk.now)) (sym held.sought) known in
-          let found = subst (λ s. Appends old mid (found_lines s (form_of c.loop-below.printer.lines) (unpruned_behind s above (answer ∷ [])))) held.sought (c.in_ok-clean.ensures.printed told) in
+          let empties = subst (IfEmpties (g.S.FileSystem.IsFixed c.args.disk.now)) (sym held.sought) known.0 in
+          let links = subst (IfLinks (g.S.FileSystem.IsFixed c.args.disk.now)) (sym held.form) known.1 in
+          let found = subst (λ s. Appends old mid (found_lines s (form_of (g.S.FileSystem.functions c.args.disk.now) c.loop-below.printer.lines) (unpruned_behind s above (answer ∷ [])))) held.sought (c.in_ok-clean.ensures.printed (empties, links)) in
           let printed = subst (λ s. Appends old mid (found_lines sought s (unpruned_behind sought above (answer ∷ [])))) held.form found in
-          one_found g.I.Iterator.next_gives c.args.answers.now sought (form_of c.args.printer.now.lines) c.args.printer.now.left
+          one_found g.I.Iterator.next_gives c.args.answers.now sought (form_of (g.S.FileSystem.functions c.args.disk.now) c.args.printer.now.lines) c.args.printer.now.left
           c.loop-below.answers c.next.new.self c.loop-below.printer.left c.print.new.self.left above below
           (append_known (g.W.Write.contents c.args.out.now) (gathered_of c.args.printer.now.lines)) old new
           c.loop-below.clean c.in_ok-clean.field-0 c.in-Some.answer (held.so_far known) (c.is_full.ensures.room c.loop-below-test.true) c.in-Some.ensures.steps
-          (appends_nothing old mid new (found_lines sought (form_of c.args.printer.now.lines) (unpruned_behind sought above (answer ∷ []))) printed c.in_ok-write_old.ensures.kept)
-          (subst (λ s. c.print.new.self.left ≡ left_after s c.loop-below.printer.left (unpruned_behind s above (answer ∷ []))) held.sought (c.in_ok-clean.ensures.left told))
-          (subst (λ s. below ≡ next_below s above answer) held.sought (c.in_ok-clean.ensures.below told))
+          (appends_nothing old mid new (found_lines sought (form_of (g.S.FileSystem.functions c.args.disk.now) c.args.printer.now.lines) (unpruned_behind sought above (answer ∷ []))) printed c.in_ok-write_old.ensures.kept)
+          (subst (λ s. c.print.new.self.left ≡ left_after s c.loop-below.printer.left (unpruned_behind s above (answer ∷ []))) held.sought (c.in_ok-clean.ensures.left empties))
+          (subst (λ s. below ≡ next_below s above answer) held.sought (c.in_ok-clean.ensures.below empties))
           (subst (λ s. c.in_ok-clean.field-0 ≡ list_all is_clean (unpruned_behind s above (answer ∷ []))) held.sought c.in_ok-clean.ensures.clean);
       sought = c.print.ensures.sought ∙ held.sought;
-      form = c.write_old.ensures.form ∙ (c.print.ensures.form ∙ held.form);
+      form = c.write_old.ensures.form (g.S.FileSystem.functions c.args.disk.now) ∙ (c.print.ensures.form ∙ held.form);
     }
 
 pub returns-clause-printed : goal.returns-clause-printed
 returns-clause-printed g c =
     λ known. enough_found g.I.Iterator.next_gives c.args.answers.now
-    (sought_of g.T.NameTest.takes (g.S.FileSystem.functions c.args.disk.now) c.args.printer.now.filter) (form_of c.args.printer.now.lines) c.args.printer.now.left c.loop-below.answers c.loop-below.printer.left c.loop-below.below
+    (sought_of g.T.NameTest.takes (g.S.FileSystem.functions c.args.disk.now) c.args.printer.now.filter) (form_of (g.S.FileSystem.functions c.args.disk.now) c.args.printer.now.lines) c.args.printer.now.left c.loop-below.answers c.loop-below.printer.left c.loop-below.below
     (append_known (g.W.Write.contents c.args.out.now) (gathered_of c.args.printer.now.lines))
     (append_known (g.W.Write.contents c.loop-below.out) (gathered_of c.loop-below.printer.lines)) c.loop-below.clean (c.loop-below.invariant.so_far known) (c.is_full.ensures.full c.loop-below-test.false)
 
 pub returns-in_default-clause-printed : goal.returns-in_default-clause-printed
 returns-in_default-clause-printed g c =
     λ known. all_found g.I.Iterator.next_gives c.args.answers.now
-    (sought_of g.T.NameTest.takes (g.S.FileSystem.functions c.args.disk.now) c.args.printer.now.filter) (form_of c.args.printer.now.lines) c.args.printer.now.left c.loop-below.answers c.next.new.self c.loop-below.printer.left c.loop-below.below
+    (sought_of g.T.NameTest.takes (g.S.FileSystem.functions c.args.disk.now) c.args.printer.now.filter) (form_of (g.S.FileSystem.functions c.args.disk.now) c.args.printer.now.lines) c.args.printer.now.left c.loop-below.answers c.next.new.self c.loop-below.printer.left c.loop-below.below
     (append_known (g.W.Write.contents c.args.out.now) (gathered_of c.args.printer.now.lines))
     (append_known (g.W.Write.contents c.loop-below.out) (gathered_of c.loop-below.printer.lines)) c.loop-below.clean (c.loop-below.invariant.so_far known) c.in_default.ensures.steps

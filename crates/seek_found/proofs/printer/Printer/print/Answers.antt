@@ -22,9 +22,10 @@ returns-then-is_below-clause-clean g c =
 pub returns-then-is_below-clause-printed : goal.returns-then-is_below-clause-printed
 returns-then-is_below-clause-printed g c = λ known.
     let self = c.args.self.now in
-    let sought = sought_of g.T.NameTest.takes (g.S.FileSystem.functions c.args.disk.now) self.filter in
+    let fs = g.S.FileSystem.functions c.args.disk.now in
+    let sought = sought_of g.T.NameTest.takes fs self.filter in
     let old = append_known (g.W.Write.contents c.args.out.now) (gathered_of self.lines) in
-    subst (λ l. Appends old old (found_lines sought (form_of self.lines) l)) (sym (left_out sought c.args.below.now (item c.args.answer) (sym c.is_below.ensures ∙ c.if-is_below.true))) (appends_none old)
+    subst (λ l. Appends old old (found_lines sought (form_of fs self.lines) l)) (sym (left_out sought c.args.below.now (item c.args.answer) (sym c.is_below.ensures ∙ c.if-is_below.true))) (appends_none old)
 
 pub returns-then-is_below-clause-left : goal.returns-then-is_below-clause-left
 returns-then-is_below-clause-left g c = λ known.
@@ -49,14 +50,15 @@ returns-clause-clean g c =
 pub returns-clause-printed : goal.returns-clause-printed
 returns-clause-printed g c =
     let self = c.args.self.now in
-    let sought = sought_of g.T.NameTest.takes (g.S.FileSystem.functions c.args.disk.now) self.filter in
+    let fs = g.S.FileSystem.functions c.args.disk.now in
+    let sought = sought_of g.T.NameTest.takes fs self.filter in
     let answer = item c.args.answer in
     let on = kept sought c.args.below.now answer (sym c.is_below.ensures ∙ c.if-is_below.false) in
     let old = append_known (g.W.Write.contents c.args.out.now) (gathered_of self.lines) in
     let new = append_known (g.W.Write.contents c.print_kept.new.out) (gathered_of c.print_kept.new.self.lines) in
     on_ok_weaker c.print_kept.result
-    (λ printed. λ known. subst (λ l. Appends old new (found_lines sought (form_of self.lines) l)) (sym on)
-    (subst (λ l. Appends old new l) (sym (append-nil (found_line sought (form_of self.lines) answer))) (printed known)))
+    (λ printed. λ known. subst (λ l. Appends old new (found_lines sought (form_of fs self.lines) l)) (sym on)
+    (subst (λ l. Appends old new l) (sym (append-nil (found_line sought (form_of fs self.lines) answer))) (printed known)))
     c.print_kept.ensures.printed
 
 pub returns-clause-left : goal.returns-clause-left
