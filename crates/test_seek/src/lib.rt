@@ -6,6 +6,8 @@ mod colors;
 #[cfg(test)]
 mod details;
 #[cfg(test)]
+mod links;
+#[cfg(test)]
 mod owners;
 #[cfg(test)]
 mod seek;

@@ -1,6 +1,7 @@
 //! Runs of the program `seek`.
 mod bases;
 mod braces;
+mod broken;
 mod come;
 mod disk;
 mod errors;

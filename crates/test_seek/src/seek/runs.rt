@@ -79,7 +79,7 @@ pub(crate) fn called_by<
             screen: Screen {
                 is_terminal: call.on_terminal,
                 no_color: true,
-                ls_colors: "di=34:*.rs=31",
+                ls_colors: "di=34:*.rs=31:or=35",
                 columns: call.columns,
             },
         }
