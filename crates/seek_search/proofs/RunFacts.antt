@@ -10,10 +10,12 @@ use Rattle.jwalk.specs.jwalk_model.Entry.{Item}
 use Rattle.seek_words.specs.Empty.{bare_in}
 use Rattle.seek_words.specs.Filter.{sought_of}
 use Rattle.seek_words.specs.declared.filter.Filter.{Filter}
-use Rattle.seek_words.specs.Sought.{IfEmpties, Sought}
+use Rattle.seek_words.specs.Sought.{Sought}
 use Rattle.seek_words.specs.Wanted.{Wants}
-use Rattle.seek_words.specs.Layout.{Form}
-use Rattle.seek_found.specs.Found.{found_lines, PrintsClean}
+use Rattle.seek_words.specs.Layout.{Form, asks}
+use Rattle.seek_words.specs.Lines.{form_of}
+use Rattle.seek_words.specs.declared.lines.Lines.{Lines}
+use Rattle.seek_found.specs.Found.{found_lines, IfAsked, PrintsClean}
 use Rattle.seek_found.specs.Roots.{AreBelow, Below, PrintsSuch}
 use Rattle.seek_found.proofs.RootsFacts.{no_roots_printed}
 use Rattle.program_parts.proofs.GatheredFacts.{gathered_written}
@@ -35,7 +37,7 @@ use Rattle.user_excludes.specs.declared.home.Home.{Home}
 use Rattle.jwalk_ignore.specs.jwalk_ignore_rules.declared.rules.with_excludes.WithExcludes.{WithExcludes}
 use Rattle.seek_search.specs.Goes.{ByRead, CallsOf, LeavesOut, PrintsYielded}
 use Rattle.seek_search.specs.Run.{Searches, SearchesFor}
-use Rattle.seek_search.specs.Search.{sought_before, yielded_by}
+use Rattle.seek_search.specs.Search.{form_before, sought_before, yielded_by}
 use Rattle.seek_search.specs.declared.based.Based.{Based}
 use Rattle.seek_search.specs.declared.kept_links.KeptLinks.{KeptLinks}
 
@@ -51,9 +53,19 @@ pub sought_over : {Z : Type 0} (functions : Z → Functions) {d d' : Z} (filter 
     → ((fs : Functions) → sought_of takes_of fs filter ≡ sought_before fs front asked takes) → sought_of takes_of (functions d) filter ≡ sought_before (functions d') front asked takes
 sought_over {Z} functions {d} {d'} filter {front} asked {takes} is sought = sought (functions d) ∙ ap (λ (x : Z). sought_before (functions x) front asked takes) is
 
--- empty entries are looked for only if this holds, by another name of what is looked for
-pub empties_if : {sought sought' : Sought} {fixed fixed' : Type 0} → sought ≡ sought' → (fixed' → fixed) → IfEmpties fixed' sought' → IfEmpties fixed sought
-empties_if is fixes empties = λ empty. fixes (empties (sym (ap (λ (s : Sought). s.wanted.kinds.empty) is) ∙ empty))
+-- the form of lines, over a disk by another name
+pub form_over : {Z : Type 0} (functions : Z → Functions) {d d' : Z} (lines : Lines) {front : Option (List ℕ)} (screen : Screen) (asked : Asked) → d ≡ d'
+    → ((fs : Functions) → form_of fs lines ≡ form_before fs front screen asked) → form_of (functions d) lines ≡ form_before (functions d') front screen asked
+form_over {Z} functions {d} {d'} lines {front} screen asked is form = form (functions d) ∙ ap (λ (x : Z). form_before (functions x) front screen asked) is
+
+-- the disk is asked only if this holds, by other names of what is looked for and of the form of lines
+pub asked_if : {sought sought' : Sought} {form form' : Form} {fixed fixed' : Type 0} → sought ≡ sought' → form ≡ form' → (fixed' → fixed) → IfAsked fixed' sought' form' → IfAsked fixed sought form
+asked_if sought_is form_is fixes known =
+    (λ empty. fixes (known.0 (sym (ap (λ (s : Sought). s.wanted.kinds.empty) sought_is) ∙ empty)), λ links. fixes (known.1 (sym (ap asks form_is) ∙ links)))
+
+-- a quiet search doesn't ask where links lead
+pub quiet_asks_nothing : (fs : Functions) (front : Option (List ℕ)) (screen : Screen) (asked : Asked) → asked.quiet ≡ true → asks (form_before fs front screen asked) ≡ false
+quiet_asks_nothing fs front screen asked quiet = ap (λ (b : Bool). asks (form_before fs front screen (record asked { quiet = b }))) quiet
 
 -- what is known of a search by some texts, and so more
 by_read : {X : Type 0} {texts : X} {is be : WithExcludes X → List ℕ → Type 0} → ((reads : WithExcludes X) (lines : List ℕ) → is reads lines → be reads lines) → ByRead texts is → ByRead texts be
@@ -155,7 +167,7 @@ module _ {T C Z B X A D Q E G H F : Type 0} (plain : CallsOf T G (Arc (KeptLinks
     shown = prints.shown;
     is_shown = prints.is_shown;
     left = prints.left;
-    printed = λ empties. prints.printed (λ empty. fixes (empties empty));
+    printed = λ known. prints.printed (λ empty. fixes (known.0 empty), λ links. fixes (known.1 links));
   }
 
 module _ {T C Z B X A D Q E G H F : Type 0} (plain : CallsOf T G (Arc (KeptLinks Z) B) LeavesOut A H F) (honouring : CallsOf T C (Arc (KeptLinks Z) B) (KeptRules (WithExcludes X)) A (Chain D × Q) E) {disk : Z} {reads : X} {still still' fixed fixed' : Type 0} {fs fs' : Functions} {texts texts' : Texts} {home : Home} {screen : Screen} {asked : Asked} {sought : Looked} {old old' new : Option (List ℕ)} where

@@ -23,7 +23,8 @@ use Rattle.jwalk_ignore.specs.jwalk_ignore_rules.declared.rules.chain.Chain.{Cha
 use Rattle.jwalk_ignore.specs.jwalk_ignore_rules.declared.rules.with_excludes.WithExcludes.{WithExcludes}
 use Rattle.seek_words.specs.declared.asked.Asked.{Asked}
 use Rattle.seek_words.specs.declared.screen.Screen.{Screen}
-use Rattle.seek_words.specs.Sought.{IfEmpties, Sought}
+use Rattle.seek_words.specs.Sought.{Sought}
+use Rattle.seek_found.specs.Found.{IfAsked}
 use Rattle.seek_found.specs.Limit.{is_hit}
 use Rattle.seek_found.specs.Prune.{unpruned}
 use Rattle.seek_found.specs.Roots.{AreBelow, Below, PrintsSuch}
@@ -33,6 +34,7 @@ use Rattle.jwalk.specs.jwalk_callbacks.declared.both.Both.{Both}
 use Rattle.jwalk_ignore.specs.Callback.Excluding.{excluded_of}
 use Rattle.seek_search.specs.Search.{excluded_asked, form_before, limit_asked, named_below, options_asked, roots_asked, settings_asked, sought_before}
 use Rattle.jwalk_ignore.specs.declared.callback.excluding.Excluding.{Excluding}
+use Rattle.seek_search.specs.KeptLinks.{functions_kept}
 use Rattle.seek_search.specs.declared.kept_links.KeptLinks.{KeptLinks}
 use Rattle.jwalk_ignore.specs.declared.callback.kept_rules.KeptRules.{KeptRules}
 
@@ -91,15 +93,15 @@ module _ {T C Z B X A D Q E G H F : Type 0} (plain : CallsOf T G (Arc (KeptLinks
   AreYielded disk texts lines asked sought may_stop = AreBelow (YieldedBelow plain honouring (record { disk = disk; follow = asked.follow }) texts lines asked sought) may_stop (roots_asked asked)
 
   -- The line of each answer that is looked for was printed, up to the limit, and the result says whether all answers
-  -- are clean. The absolute path is tested, and printed, if that is asked for. If empty entries are looked for, this
-  -- holds if the disk always answers the same.
+  -- are clean. The absolute path is tested, and printed, if that is asked for. If empty entries are looked for, or the
+  -- disk is asked where links lead, this holds if it always answers the same.
   pub record PrintsYielded (disk : Z) (fixed : Type 0) (fs : Functions) (texts : X) (lines : List ℕ) (screen : Screen) (asked : Asked) (takes : List ℕ → Bool → Bool) (old new : Option (List ℕ)) (clean : Bool) : Type 0 where
     pub front : Option (List ℕ)
     pub in_front : is_some front ≡ asked.full_path
     pub shown : Option (List ℕ)
     pub is_shown : is_some shown ≡ asked.absolute
     pub left : Option ℕ
-    pub printed : IfEmpties fixed (sought_before fs front asked takes) → PrintsSuch (AreYielded disk texts lines asked (sought_before fs front asked takes) (left ≡ Some 0)) (sought_before fs front asked takes) (form_before shown screen asked) (limit_asked asked) left old new clean
+    pub printed : IfAsked fixed (sought_before fs front asked takes) (form_before (functions_kept asked.follow fs) shown screen asked) → PrintsSuch (AreYielded disk texts lines asked (sought_before fs front asked takes) (left ≡ Some 0)) (sought_before fs front asked takes) (form_before (functions_kept asked.follow fs) shown screen asked) (limit_asked asked) left old new clean
 
   -- One of the answers is looked for. The search may stop there.
   pub record FindsOne (disk : Z) (fs : Functions) (texts : X) (lines : List ℕ) (asked : Asked) (takes : List ℕ → Bool → Bool) : Type 0 where

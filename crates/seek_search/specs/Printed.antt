@@ -14,9 +14,9 @@ use Rattle.jwalk.specs.jwalk_job.Job.{IsSteady}
 use Rattle.jwalk.specs.WalkDir.{callback_of, file_system_of, job_for, root_of, state_of}
 use Rattle.jwalk.specs.declared.walk_dir.WalkDirGeneric.{WalkDirGeneric}
 use Rattle.seek_words.specs.Filter.{sought_of}
-use Rattle.seek_words.specs.Sought.{IfEmpties, Sought}
+use Rattle.seek_words.specs.Sought.{Sought}
 use Rattle.seek_words.specs.Lines.{gathered_of, form_of}
-use Rattle.seek_found.specs.Found.{PrintsClean}
+use Rattle.seek_found.specs.Found.{IfAsked, PrintsClean}
 use Rattle.seek_found.specs.Prune.{unpruned}
 use Rattle.seek_found.specs.Roots.{PrintsSuch}
 use Rattle.seek_found.specs.SoughtTest.{takes_of}
@@ -27,11 +27,11 @@ use Rattle.seek_found.specs.declared.sought_test.SoughtTest.{SoughtTest}
 -- gathered by it. `answers` says which they are, by what it looks for over a file system.
 abbrev pub PrintsAll : {R E : Type 0} → Functions → (Sought → List (Item R E)) → Printer SoughtTest → Printer SoughtTest → Option (List ℕ) → Option (List ℕ) → Bool → Type 0
 PrintsAll fs answers old new before after clean =
-    old.left ≡ None → clean ≡ true → PrintsClean (answers (sought_of takes_of fs old.filter)) (sought_of takes_of fs old.filter) (form_of old.lines)
+    old.left ≡ None → clean ≡ true → PrintsClean (answers (sought_of takes_of fs old.filter)) (sought_of takes_of fs old.filter) (form_of fs old.lines)
     (append_known before (gathered_of old.lines)) (append_known after (gathered_of new.lines))
 
 -- This holds of all that a walk yields, whatever its ghosts are, without what is below a find if that isn't looked for.
--- The disk that is asked about directories always answers the same.
+-- The disk that is asked about directories and links always answers the same.
 abbrev pub PrintsWalk : {C S P A W R E : Type 0} → FileSystem.Ghosts S → ProcessReadDir.Ghosts P C A R E → Clone.Ghosts R → Default.Ghosts E → S → WalkDirGeneric C S P A W R E
     → Printer SoughtTest → Printer SoughtTest → Option (List ℕ) → Option (List ℕ) → Bool → Type 0
 PrintsWalk {R = R} {E = E} files process clone defaults disk walk old new before after clean =
@@ -40,8 +40,8 @@ PrintsWalk {R = R} {E = E} files process clone defaults disk walk old new before
 
 -- The line of each answer that a printer looks for is written, or gathered by it, up to its limit, and the result says
 -- whether all answers are clean. `are` says which answers are possible, by what it looks for: all, unless the limit was
--- reached. If empty entries are looked for, the disk always answers the same.
+-- reached. If empty entries are looked for, or the disk is asked where links lead, it always answers the same.
 abbrev pub PrintsThose : Type 0 → Functions → (Sought → Type 0 → List (Item Worth Worth) → Type 0) → Printer SoughtTest → Printer SoughtTest → Option (List ℕ) → Option (List ℕ) → Bool → Type 0
 PrintsThose fixed fs are old new before after clean =
-    IfEmpties fixed (sought_of takes_of fs old.filter) → PrintsSuch (are (sought_of takes_of fs old.filter) (new.left ≡ Some 0)) (sought_of takes_of fs old.filter) (form_of old.lines) old.left new.left
+    IfAsked fixed (sought_of takes_of fs old.filter) (form_of fs old.lines) → PrintsSuch (are (sought_of takes_of fs old.filter) (new.left ≡ Some 0)) (sought_of takes_of fs old.filter) (form_of fs old.lines) old.left new.left
     (append_known before (gathered_of old.lines)) (append_known after (gathered_of new.lines)) clean

@@ -24,11 +24,11 @@ pub record IsFilterFor (fixed : Type 0) (texts : Texts) (asked : Asked) (takes :
   pub is_front : IsFront fixed texts asked.full_path front
   pub sought : (fs : Functions) → sought_of takes_of fs filter ≡ sought_before fs front asked takes
 
--- The printer prints what is asked for, and has printed nothing yet.
+-- The printer prints what is asked for, over any file system, and has printed nothing yet.
 pub record IsPrinterFor (fixed : Type 0) (texts : Texts) (screen : Screen) (asked : Asked) (takes : List ℕ → Bool → Bool) (printer : Printer SoughtTest) : Type 0 where
   pub filter : IsFilterFor fixed texts asked takes printer.filter
   pub shown : Option (List ℕ)
   pub is_shown : IsFront fixed texts asked.absolute shown
-  pub form : form_of printer.lines ≡ form_before shown screen asked
+  pub form : (fs : Functions) → form_of fs printer.lines ≡ form_before fs shown screen asked
   pub limit : printer.left ≡ limit_asked asked
   pub empty : gathered_of printer.lines ≡ []

@@ -29,7 +29,7 @@ use Rattle.jwalk_ignore.specs.declared.callback.kept_rules.KeptRules.{KeptRules}
 -- link that leads nowhere isn't an error, but an entry.
 abbrev pub PrintsRead : Functions → Texts → List ℕ → Screen → Asked → Sought → Option (List ℕ) → Option (List ℕ) → Type 0
 PrintsRead fs texts lines screen asked sought =
-    PrintsClean (yielded_by (functions_kept asked.follow fs) texts lines asked (sought_asked fs texts asked (takes_by sought))) (sought_asked fs texts asked (takes_by sought)) (form_asked texts screen asked)
+    PrintsClean (yielded_by (functions_kept asked.follow fs) texts lines asked (sought_asked fs texts asked (takes_by sought))) (sought_asked fs texts asked (takes_by sought)) (form_asked (functions_kept asked.follow fs) texts screen asked)
 
 -- The same, with the user's excludes and the ignore files that are asked for.
 abbrev pub PrintsAsked : Functions → Texts → Home → Screen → Asked → Sought → Option (List ℕ) → Option (List ℕ) → Type 0
@@ -40,8 +40,9 @@ module _ {T C Z B X A D Q E G H F : Type 0} (plain : CallsOf T G (Arc (KeptLinks
   -- This is searched over this disk. The times that are asked for are known. Paths are in colors if the words or the
   -- screen ask for it. A quiet search writes nothing, and finds one of the answers of its walks. Any other search prints
   -- their lines in the way that is asked for, and all answers are clean. If there is no limit, and the file system and
-  -- the texts are fixed, the answers are those that are asked for. If empty entries are looked for, the answers are
-  -- told only if the file system is fixed, which `still` says.
+  -- the texts are fixed, the answers are those that are asked for. If empty entries are looked for, or the
+  -- color of a link tells whether it leads nowhere, the answers are told only if the file system is fixed, which
+  -- `still` says. Of a quiet search colors tell nothing.
   pub record SearchesFor (disk : Z) (reads : X) (still fixed : Type 0) (fs : Functions) (texts : Texts) (home : Home) (screen : Screen) (asked : Asked) (sought : Sought) (old new : Option (List ℕ)) : Type 0 where
     pub colored : asked.colored ≡ is_colored screen asked.color
     pub times : fixed → AreTimes fs asked asked.times

@@ -1,5 +1,5 @@
 -- The walks of a search, and its finds.
-use Rattle.std.specs.Prelude.{ℕ, zero, suc, ◌-◌, ◌^◌, ◌==◌, Bool, true, not, List, [], ◌∷◌, bytes_eq, codes, flat_map, length, take, Option, None, Some, Result, Ok, Err, option_map, unwrap_or, if◌then◌else◌}
+use Rattle.std.specs.Prelude.{ℕ, zero, suc, ◌-◌, ◌^◌, ◌==◌, Bool, true, not, ◌&&◌, List, [], ◌∷◌, bytes_eq, codes, flat_map, length, take, Option, None, Some, Result, Ok, Err, option_map, unwrap_or, if◌then◌else◌}
 use Rattle.std.specs.declared.io.ErrorKind.{ErrorKind}
 use Rattle.jwalk.specs.jwalk_model.Counted.{Worth, blank}
 use Rattle.jwalk.specs.jwalk_model.Entry.{Item}
@@ -21,7 +21,7 @@ use Rattle.seek_words.specs.Sought.{Sought}
 use Rattle.seek_colors.specs.Palette.{palette_in}
 use Rattle.seek_words.specs.Layout.{Form}
 use Rattle.seek_found.specs.Prune.{unpruned}
-use Rattle.seek_words.specs.Paint.{Painting}
+use Rattle.seek_words.specs.Paint.{Painting, broken_in}
 use Rattle.seek_words.specs.declared.screen.Screen.{Screen}
 use Rattle.program_parts.specs.declared.paths.Style.{Style}
 use Rattle.seek_words.specs.Metadata.{needs_metadata}
@@ -131,21 +131,21 @@ sought_before fs front asked takes = record {
 abbrev pub sought_asked : Functions → Texts → Asked → (List ℕ → Bool → Bool) → Sought
 sought_asked fs texts asked = sought_before fs (front_if asked.full_path texts) asked
 
--- the colors of printed paths, if they have some
-abbrev pub painting_asked : Screen → Asked → Option Painting
-painting_asked screen asked =
-    if asked.colored then Some (record { colors = palette_in screen.ls_colors.now; follow = asked.follow }) else None
+-- the colors of printed paths over a file system, if they have some; a quiet search prints none
+abbrev pub painting_asked : Functions → Screen → Asked → Option Painting
+painting_asked fs screen asked =
+    if not asked.quiet && asked.colored then Some (record { colors = palette_in screen.ls_colors.now; follow = asked.follow; broken = broken_in fs }) else None
 
--- the form of printed paths, with this text in front of a relative one
-abbrev pub form_before : Option (List ℕ) → Screen → Asked → Form
-form_before front screen asked = record {
+-- the form of printed paths over a file system, with this text in front of a relative one
+abbrev pub form_before : Functions → Option (List ℕ) → Screen → Asked → Form
+form_before fs front screen asked = record {
   style = style_asked screen.is_terminal asked;
   front = front;
   details = asked.details;
-  painting = painting_asked screen asked;
+  painting = painting_asked fs screen asked;
   slash = option_map (λ slash. slash.now) asked.path_separator;
 }
 
 -- the same over texts that always answer the same
-abbrev pub form_asked : Texts → Screen → Asked → Form
-form_asked texts screen asked = form_before (front_if asked.absolute texts) screen asked
+abbrev pub form_asked : Functions → Texts → Screen → Asked → Form
+form_asked fs texts screen asked = form_before fs (front_if asked.absolute texts) screen asked

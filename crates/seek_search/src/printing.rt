@@ -1,6 +1,7 @@
 //! The printer of a search.
 ghost use Rattle.std.specs.Prelude.{◌≡◌, is_some, IfOk};
 ghost use Rattle.std.specs.Option.{option_map};
+ghost use Rattle.jwalk.specs.jwalk_model.FileSystem.{Functions};
 ghost use Rattle.seek_words.specs.Layout.{form_in};
 ghost use Rattle.seek_words.specs.Paint.{painting_of};
 ghost use Rattle.seek_words.specs.Subject.{front_of};
@@ -68,14 +69,15 @@ fn style_of(on_terminal: bool, asked: &Asked<'_>) -> Style
     }
 }
 
+/// A quiet search prints no paths.
 fn paint_of(
     alloc: Global,
     screen: Screen<'_>,
     asked: &Asked<'_>,
 ) -> Result<Option<Paint>, AllocError>
-    ensures { IfOk result (λ paint. option_map painting_of paint ≡ painting_asked screen.entry asked.now) }
+    ensures { IfOk result (λ paint. (fs : Functions) → option_map (painting_of fs) paint ≡ painting_asked fs screen.entry asked.now) }
 {
-    if !asked.colored {
+    if asked.quiet || !asked.colored {
         return Ok(None);
     }
     Ok(Some(Paint {
@@ -90,7 +92,7 @@ fn layout_of(
     asked: &Asked<'_>,
     absolute: Option<AbsolutePath>,
 ) -> Result<Layout, AllocError>
-    ensures { IfOk result (λ layout. form_in layout ≡ form_before (option_map front_of absolute) screen.entry asked.now) }
+    ensures { IfOk result (λ layout. (fs : Functions) → form_in fs layout ≡ form_before fs (option_map front_of absolute) screen.entry asked.now) }
 {
     Ok(Layout {
         style: style_of(screen.is_terminal, asked),

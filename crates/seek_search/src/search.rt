@@ -53,7 +53,8 @@ pub(crate) type PlainWalk<T, S> = CrewWalk<T, ((), ()), Arc<S>, LeavesOut>;
 /// A walk with ignore files.
 pub(crate) type HonouringWalk<T, S, X> = CrewWalk<T, KeptStates, Arc<S>, KeptRules<X>>;
 
-/// A crew may read for the walk. The disk is asked about directories if only empty entries are looked for.
+/// A crew may read for the walk. The disk is asked about directories if only empty entries are looked for, and where links
+/// lead if their colors tell.
 fn print_begun<
     T: Wait + Threads + Clock + Drop + Send + Sync + 'static,
     K: Clock,
@@ -79,7 +80,7 @@ where
     ensures yielded { IfOk result (PrintsThose (S.IsFixed disk.now) (S.functions disk.now) (Yielded ⟦<CrewWalk<T, C, S, P> as Iterator>⟧.next_gives (λ it. it ≡ walk))
         printer.old printer.new (W.contents out.old) (W.contents out.new)) }
     ensures sought { sought_of takes_of (S.functions disk.now) printer.new.filter ≡ sought_of takes_of (S.functions disk.now) printer.old.filter }
-    ensures form { form_of printer.new.lines ≡ form_of printer.old.lines }
+    ensures form { form_of (S.functions disk.now) printer.new.lines ≡ form_of (S.functions disk.now) printer.old.lines }
 {
     let mut answers = walk.into_iter();
     print_found(&mut answers, printer, disk, clock, out, err)
@@ -140,7 +141,7 @@ fn search_walk<
         (Sets (record (with_callback rules (described walk)) { options = with_skip_hidden false (options_of walk) })))
         printer.old printer.new (W.contents out.old) (W.contents out.new)) }
     ensures sought { sought_of takes_of (S.functions (arc_value disk.now)) printer.new.filter ≡ sought_of takes_of (S.functions (arc_value disk.now)) printer.old.filter }
-    ensures form { form_of printer.new.lines ≡ form_of printer.old.lines }
+    ensures form { form_of (S.functions (arc_value disk.now)) printer.new.lines ≡ form_of (S.functions (arc_value disk.now)) printer.old.lines }
 {
     print_begun(
         with_hidden_shown(walk, rules),
@@ -200,7 +201,7 @@ impl<
             (IsPlain (arc_value self.now.disk) self.now.lines.now self.now.asked.now root.now))
             printer.old printer.new (W.contents out.old) (W.contents out.new)) }
         ensures sought { sought_of takes_of (S.functions (arc_value self.now.disk)) printer.new.filter ≡ sought_of takes_of (S.functions (arc_value self.now.disk)) printer.old.filter }
-        ensures form { form_of printer.new.lines ≡ form_of printer.old.lines }
+        ensures form { form_of (S.functions (arc_value self.now.disk)) printer.new.lines ≡ form_of (S.functions (arc_value self.now.disk)) printer.old.lines }
     {
         let naming = naming_of(alloc, self.lines, root)?;
         let excluding = excluding_of(alloc, self.asked.excludes.as_slice(), root)?;
@@ -235,7 +236,7 @@ impl<
             (IsHonouring (arc_value self.now.disk) (arc_value self.now.texts) self.now.lines.now self.now.asked.now root.now))
             printer.old printer.new (W.contents out.old) (W.contents out.new)) }
         ensures sought { sought_of takes_of (S.functions (arc_value self.now.disk)) printer.new.filter ≡ sought_of takes_of (S.functions (arc_value self.now.disk)) printer.old.filter }
-        ensures form { form_of printer.new.lines ≡ form_of printer.old.lines }
+        ensures form { form_of (S.functions (arc_value self.now.disk)) printer.new.lines ≡ form_of (S.functions (arc_value self.now.disk)) printer.old.lines }
     {
         let excluding = excluding_of(alloc, self.asked.excludes.as_slice(), root)?;
         let texts = self.texts.clone()?;
@@ -271,7 +272,7 @@ impl<
             ⟦<HonouringWalk<T, S, X> as Iterator>⟧.next_gives (arc_value self.now.disk) (arc_value self.now.texts)
             self.now.lines.now self.now.asked.now sought may_stop root.now) printer.old printer.new (W.contents out.old) (W.contents out.new)) }
         ensures sought { sought_of takes_of (S.functions (arc_value self.now.disk)) printer.new.filter ≡ sought_of takes_of (S.functions (arc_value self.now.disk)) printer.old.filter }
-        ensures form { form_of printer.new.lines ≡ form_of printer.old.lines }
+        ensures form { form_of (S.functions (arc_value self.now.disk)) printer.new.lines ≡ form_of (S.functions (arc_value self.now.disk)) printer.old.lines }
     {
         if self.asked.no_ignore {
             return self.search_all(alloc, root, printer, out, err);
@@ -295,7 +296,7 @@ impl<
             → PrintsAll (S.functions (arc_value self.now.disk)) (λ sought. flat_map (unpruned_below (S.functions (arc_value self.now.disk))
             (X.functions (arc_value self.now.texts)) self.now.lines.now self.now.asked.now sought) (texts_now roots.now)) printer.old printer.new (W.contents out.old) (W.contents out.new) clean) }
         ensures sought { sought_of takes_of (S.functions (arc_value self.now.disk)) printer.new.filter ≡ sought_of takes_of (S.functions (arc_value self.now.disk)) printer.old.filter }
-        ensures form { form_of printer.new.lines ≡ form_of printer.old.lines }
+        ensures form { form_of (S.functions (arc_value self.now.disk)) printer.new.lines ≡ form_of (S.functions (arc_value self.now.disk)) printer.old.lines }
     {
         match roots {
             [] => Ok(true),

@@ -12,7 +12,7 @@ returns g c = record {
     wanted_so = sym (some_mapped front_of c.in_ok-absolute.absolute) ∙ c.in_ok-absolute.ensures.wanted;
     found = c.in_ok-absolute.ensures.front;
   };
-  form = c.in_ok-new.ensures.form ∙ c.in_ok-layout.ensures;
+  form = λ fs. c.in_ok-new.ensures.form fs ∙ c.in_ok-layout.ensures fs;
   limit = c.limit_of.ensures;
   empty = c.in_ok-new.ensures.empty;
 }

@@ -22,7 +22,7 @@ returns-clause-whole g c =
     let begun = c.into_iter-answers.ensures in
     IfOk-weaker c.print_found.result _ _
     (λ clean printed. λ fixed given steady none is.
-    let prints = printed (λ empties. fixed) in
+    let prints = printed (λ empty. fixed, λ links. fixed) in
     let steadily = steady_begun _ _ _ _ _ given walk it begun.steady begun.starts steady in
     elim prints.calls [
       | inl drains ↦
@@ -37,7 +37,7 @@ returns-clause-whole g c =
 pub returns-clause-yielded : goal.returns-clause-yielded
 returns-clause-yielded g c =
     IfOk-weaker c.print_found.result _ _
-    (λ clean printed. λ empties. let prints = printed empties in counted_printed stateless _ _ _ _ _ _ _ clean prints.answered (record {
+    (λ clean printed. λ known. let prints = printed known in counted_printed stateless _ _ _ _ _ _ _ clean prints.answered (record {
       walk = c.args.walk;
       is_so = refl;
       it = c.into_iter-answers.result;

@@ -43,4 +43,4 @@ returns-clause-whole g c =
 pub returns-clause-yielded : goal.returns-clause-yielded
 returns-clause-yielded g c =
     let set = c.with_hidden_shown.ensures in
-    IfOk-weaker c.print_begun.result _ _ (λ clean prints. λ empties. printed_such (yielded_so _ (λ it is. subst (Sets _) (sym is) set)) (prints empties)) c.print_begun.ensures.yielded
+    IfOk-weaker c.print_begun.result _ _ (λ clean prints. λ known. printed_such (yielded_so _ (λ it is. subst (Sets _) (sym is) set)) (prints known)) c.print_begun.ensures.yielded

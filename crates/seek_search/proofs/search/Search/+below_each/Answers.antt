@@ -6,12 +6,12 @@ use Rattle.seek_found.proofs.RootsFacts.{none_after, none_reached, printed_such,
 use Rattle.seek_words.specs.Filter.{sought_of}
 use Rattle.seek_found.specs.SoughtTest.{takes_of}
 use Rattle.seek_search.specs.Search.{unpruned_below}
-use Rattle.seek_search.proofs.RunFacts.{empties_if, first_true, none_printed, none_yielded, one_element, one_printed, others_printed, second_true, texts_then}
+use Rattle.seek_search.proofs.RunFacts.{asked_if, first_true, none_printed, none_yielded, one_element, one_printed, others_printed, second_true, texts_then}
 use Rattle.seek_search.proofs.SearchFacts.{below_one, below_same, same_below}
 use Rattle.seek_search.proofs.search.Search.+below_each.Goals as goal
 
 pub returns-in-empty-clause-yielded : goal.returns-in-empty-clause-yielded
-returns-in-empty-clause-yielded g t c = λ empties. none_yielded _ _ c.args.roots.now c.in-empty.len_below _ _ _ _
+returns-in-empty-clause-yielded g t c = λ known. none_yielded _ _ c.args.roots.now c.in-empty.len_below _ _ _ _
 
 pub returns-in-empty-clause-whole : goal.returns-in-empty-clause-whole
 returns-in-empty-clause-whole g t c = λ fixed told none is.
@@ -20,7 +20,7 @@ returns-in-empty-clause-whole g t c = λ fixed told none is.
 
 pub returns-in-len1-clause-yielded : goal.returns-in-len1-clause-yielded
 returns-in-len1-clause-yielded g t c =
-    IfOk-weaker c.below.result _ _ (λ clean prints. λ empties. printed_such (below_one _ _ _ _ _ c.args.self.now.asked.now _ _ c.args.roots.now _ c.in-len1.len_at_least c.in-len1.len_below) (prints empties)) c.below.ensures.yielded
+    IfOk-weaker c.below.result _ _ (λ clean prints. λ known. printed_such (below_one _ _ _ _ _ c.args.self.now.asked.now _ _ c.args.roots.now _ c.in-len1.len_at_least c.in-len1.len_below) (prints known)) c.below.ensures.yielded
 
 pub returns-in-len1-clause-whole : goal.returns-in-len1-clause-whole
 returns-in-len1-clause-whole g t c =
@@ -30,22 +30,22 @@ returns-in-len1-clause-whole g t c =
     c.below.ensures.whole
 
 pub returns-then-is_full-clause-yielded : goal.returns-then-is_full-clause-yielded
-returns-then-is_full-clause-yielded g t c = λ empties.
+returns-then-is_full-clause-yielded g t c = λ known.
     let parts = c.split_at.result in
     printed_such (below_same _ _ _ _ _ c.args.self.now.asked.now _ _ (texts_then c.args.roots.now parts.0.now parts.1.now c.split_at.ensures.by_index.0))
-    (roots_stopped _ _ (texts_of parts.0.now) (texts_of parts.1.now) (c.is_full.ensures.full c.if-is_full.true) (c.in_ok-clean-in_default.ensures.yielded empties))
+    (roots_stopped _ _ (texts_of parts.0.now) (texts_of parts.1.now) (c.is_full.ensures.full c.if-is_full.true) (c.in_ok-clean-in_default.ensures.yielded known))
 
 pub returns-then-is_full-clause-whole : goal.returns-then-is_full-clause-whole
 returns-then-is_full-clause-whole g t c = λ fixed told none is.
-    absurd (none_reached (c.in_ok-clean-in_default.ensures.yielded (λ empty. fixed)) none (c.is_full.ensures.full c.if-is_full.true))
+    absurd (none_reached (c.in_ok-clean-in_default.ensures.yielded (λ empty. fixed, λ links. fixed)) none (c.is_full.ensures.full c.if-is_full.true))
 
 pub returns-in_ok-below_each-in_default-clause-yielded : goal.returns-in_ok-below_each-in_default-clause-yielded
-returns-in_ok-below_each-in_default-clause-yielded g t c = λ empties.
+returns-in_ok-below_each-in_default-clause-yielded g t c = λ known.
     let parts = c.split_at.result in
     printed_such (below_same _ _ _ _ _ c.args.self.now.asked.now _ _ (texts_then c.args.roots.now parts.0.now parts.1.now c.split_at.ensures.by_index.0))
     (roots_printed _ _ (texts_of parts.0.now) (texts_of parts.1.now) _ _ _ _ _ _ c.in_ok-clean-in_default.clean c.in_ok-below_each-in_default.field-0 (c.is_full.ensures.room c.if-is_full.false) c.below_each.ensures.sought c.below_each.ensures.form
-    (c.in_ok-clean-in_default.ensures.yielded empties)
-    (printed_such (same_below _ _ _ c.args.self.now.asked.now _ (texts_of parts.1.now) refl refl c.below_each.ensures.sought) (c.in_ok-below_each-in_default.ensures.yielded (empties_if c.below_each.ensures.sought (λ fixed. fixed) empties))))
+    (c.in_ok-clean-in_default.ensures.yielded known)
+    (printed_such (same_below _ _ _ c.args.self.now.asked.now _ (texts_of parts.1.now) refl refl c.below_each.ensures.sought) (c.in_ok-below_each-in_default.ensures.yielded (asked_if c.below_each.ensures.sought c.below_each.ensures.form (λ fixed. fixed) known))))
 
 pub returns-in_ok-below_each-in_default-clause-whole : goal.returns-in_ok-below_each-in_default-clause-whole
 returns-in_ok-below_each-in_default-clause-whole g t c = λ fixed told none is.
@@ -56,4 +56,4 @@ returns-in_ok-below_each-in_default-clause-whole g t c = λ fixed told none is.
     let more = c.in_ok-below_each-in_default.field-0 in
     others_printed f c.args.roots.now parts.0.now parts.1.now c.split_at.ensures.by_index.0 c.below_each.ensures.sought c.below_each.ensures.form
     (first.whole fixed told none (first_true clean more is))
-    (c.in_ok-below_each-in_default.ensures.whole fixed told (none_after (first.yielded (λ empty. fixed)) none) (second_true clean more is))
+    (c.in_ok-below_each-in_default.ensures.whole fixed told (none_after (first.yielded (λ empty. fixed, λ links. fixed)) none) (second_true clean more is))

@@ -78,4 +78,4 @@ returns-clause-yielded g c =
       named = ap (λ it. excluded_of (first_of it)) set.callback ∙ ap excluded_of c.new.ensures.first ∙ c.in_ok-naming.ensures;
       excluded = ap (λ it. excluded_of (second_of it)) set.callback ∙ ap excluded_of c.new.ensures.second ∙ c.in_ok-excluding.ensures ∙ ap (λ l. excluded_by (flat_map lines_of (texts_of l)) c.args.root.now) c.as_slice.ensures.value;
     } in
-    IfOk-weaker c.print_begun.result _ _ (λ clean prints. λ empties. printed_such (yielded_so _ (λ it is. subst (IsPlain (arc_value self.disk) self.lines.now asked c.args.root.now) (sym is) plain)) (prints empties)) c.print_begun.ensures.yielded
+    IfOk-weaker c.print_begun.result _ _ (λ clean prints. λ known. printed_such (yielded_so _ (λ it is. subst (IsPlain (arc_value self.disk) self.lines.now asked c.args.root.now) (sym is) plain)) (prints known)) c.print_begun.ensures.yielded

@@ -56,7 +56,7 @@ returns-clause-yielded g c =
     let built = c.in_ok-walk.ensures in
     let set = c.then-rules.ensures in
     IfOk-weaker c.search_walk.result _ _
-    (λ clean prints. λ empties. printed_such (yielded_so _ (λ it is. record {
+    (λ clean prints. λ known. printed_such (yielded_so _ (λ it is. record {
       over = ap arc_value (is.file_system ∙ built.file_system) ∙ c.in_ok-disk.ensures.cases;
       below = is.root ∙ built.root ∙ c.in_ok-root.ensures.ok;
       by_crew = is_some self.crew;
@@ -65,5 +65,5 @@ returns-clause-yielded g c =
       settings = ap (λ x. settings_of x.rules) is.callback ∙ set.settings ∙ c.in_ok-rules_of.ensures.settings;
       excluded = ap (λ x. excluded_of (next_of x.rules)) is.callback ∙ ap excluded_of set.next ∙ c.in_ok-excluding.ensures ∙ ap (λ l. excluded_by (flat_map lines_of (texts_of l)) c.args.root.now) c.as_slice.ensures.value;
       begins = ap rules_alone is.state ∙ ap (λ chain. both (chain_worth chain) blank) built.state.0;
-    })) (prints empties))
+    })) (prints known))
     c.search_walk.ensures.yielded
