@@ -77,14 +77,6 @@ kept_below fs texts asked root = ignoring_walk fs texts (settings_asked asked) (
 abbrev pub counted_below : Functions → Texts → Asked → List ℕ → List (Item Worth Worth)
 counted_below fs texts asked root = if asked.ignore then kept_below fs texts asked root else all_below fs asked root
 
--- An iterator yielded answers until its end, and what is written of their subtotals is taken, beside the files that were counted before. It is known whether one has an error.
-pub record CountsAnswers {C A I R E : Type 0} (next : I → Option (Result (DirEntry C A R E) (Error A)) → I → Type 0) (answers : I) (asked : Asked) (known : List Identity) (old : Results) (before : Option (List ℕ)) (new : Results) (after : Option (List ℕ)) (counted : Counted) : Type 0 where
-  pub yielded : List (Result (DirEntry C A R E) (Error A))
-  pub drains : Drains next answers yielded
-  pub taken : Takes (rows_of (shown_asked asked) (subtotals_beside (subtotals_asked asked) known (map item yielded))) old before new after
-  pub tells : counted.clean ≡ list_all is_clean (subtotals_beside (subtotals_asked asked) known (map item yielded))
-  pub remembered : HaveSame (files_of counted.files) (files_after (subtotals_asked asked) known (map item yielded))
-
 -- A walk was begun and yielded these answers until its end.
 abbrev pub WalkYields : {C S P A W L R E : Type 0} → FileSystem.Ghosts S → ProcessReadDir.Ghosts P C A R E → Clone.Ghosts R → Default.Ghosts E → Readers.Ghosts L C S P A R E → WalkDirGeneric C S P A W R E → List (Item R E) → Type 0
 WalkYields {C} {S} {P} {A} {W} {L} {R} {E} files process clone defaults readers walk answered =

@@ -1,6 +1,5 @@
 //! The subtotals of a walk, taken one after another.
 ghost use Rattle.std.specs.Prelude.{◌≡◌, false, IfOk, OnOk};
-ghost use Rattle.std.specs.Iterator.{IsFinite};
 ghost use Rattle.std.specs.List.{list_all};
 ghost use Rattle.jwalk.specs.WalkDir.{callback_of};
 ghost use Rattle.jwalk_subtotals.specs.Coming.{ends_with, value, CanGoOn, Gives};
@@ -8,7 +7,7 @@ ghost use Rattle.jwalk_subtotals.specs.Error.{is_last};
 ghost use Rattle.jwalk_subtotals.specs.Files.{files_of};
 ghost use Rattle.tally_run.specs.Results.{rows_of, Takes};
 ghost use Rattle.tally_run.specs.Counting.{is_clean, TakesAll};
-ghost use Rattle.tally_run.specs.Walks.{subtotals_taken, CountsAnswers, CountsWalk};
+ghost use Rattle.tally_run.specs.Walks.{subtotals_taken, CountsWalk};
 
 use crate::failure::Failure;
 use crate::progress::Report;
@@ -147,43 +146,6 @@ fn options_of(asked: &Asked<'_>) -> SubtotalOptions
     }
 }
 
-/// Counts a walk's answers beside the files that were counted before.
-fn count_answers<
-    C: ClientState,
-    I: Iterator<Item = Answer<DirEntry<C, Global>, Global>> + Drop,
-    W: Write,
-    E: Report,
->(
-    alloc: Global,
-    screen: Screen,
-    answers: I,
-    files: Files<Global>,
-    asked: &Asked<'_>,
-    results: &mut Results,
-    out: &mut W,
-    err: &mut E,
-) -> Result<Counted, Failure>
-    requires can { I.can_next answers }
-    requires ends { IsFinite (I.remaining answers) }
-    ensures { IfOk result (CountsAnswers I.next_gives answers asked.now (files_of files) results.old (W.contents out.old)
-        results.new (W.contents out.new)) }
-{
-    let mut subtotals = subtotals_beside(alloc, files, answers, options_of(asked));
-    let clean = take_all(
-        alloc,
-        screen,
-        &mut subtotals,
-        Shown::of(asked),
-        results,
-        out,
-        err,
-    )?;
-    Ok(Counted {
-        files: subtotals.take_files(),
-        clean,
-    })
-}
-
 /// Begins a walk that a crew may read for, and counts it beside the files that were counted before.
 pub(crate) fn count_walk<
     T: Host,
@@ -211,5 +173,18 @@ where
         results.old (W.contents out.old) results.new (W.contents out.new)) }
 {
     let answers = walk.into_iter();
-    count_answers(alloc, screen, answers, files, asked, results, out, err)
+    let mut subtotals = subtotals_beside(alloc, files, answers, options_of(asked));
+    let clean = take_all(
+        alloc,
+        screen,
+        &mut subtotals,
+        Shown::of(asked),
+        results,
+        out,
+        err,
+    )?;
+    Ok(Counted {
+        files: subtotals.take_files(),
+        clean,
+    })
 }
