@@ -1,16 +1,15 @@
 //! Walks with rules, where each request for memory is refused, or all from each on.
 use crate::planted::{Planted, tree_of};
-use crate::walks::PlainRules;
-use jwalk::file_system::{BuildError, FileSystem};
-use jwalk::read_dir::{NoProcess, ProcessReadDir};
+use jwalk::file_system::{BuildError, FileSystem, MemoryFs};
+use jwalk::read_dir::ProcessReadDir;
 use jwalk::{ClientState, WalkDirGeneric};
 use jwalk_ignore::chain::Chain;
 use jwalk_ignore::ignore_files::IgnoreFiles;
+use jwalk_ignore::memory_texts::MemoryTexts;
 use std::alloc::{Allocator, Global};
 use std::io::ErrorKind;
 use std::sync::atomic::{AtomicUsize, Ordering};
 use test_fixtures::refused::counting::Counting;
-use test_fixtures::refused::lines::Shown;
 use test_fixtures::refused::outcome::{Call, Outcome, WAYS, comes};
 use test_fixtures::refused::turns::{MOST, Repeated, first_wrong};
 use test_fixtures::refusing_alloc::Refusing;
@@ -73,6 +72,14 @@ fn planted_for(alloc: Global, row: &Row) -> Result<Planted, BuildError> {
     Ok(planted)
 }
 
+/// A walk that has not begun and has rules.
+type Walk<'f, A> = WalkDirGeneric<
+    ((Chain<A>, ()), ()),
+    &'f MemoryFs,
+    Counting<'f, IgnoreFiles<&'f MemoryTexts>>,
+    A,
+>;
+
 /// The walk of a row over its tree, with how many directories are read together and how its answers are taken.
 #[derive(Clone, Copy)]
 struct Play<'f> {
@@ -84,43 +91,36 @@ struct Play<'f> {
     within: &'f AtomicUsize,
 }
 
-impl Play<'_> {
-    /// The walk is by name, and is shown hidden names.
-    fn comes_with<C: ClientState, S: FileSystem, P: ProcessReadDir<C, A>, A: Allocator + Copy>(
-        &self,
-        alloc: Global,
-        memory: A,
-        fs: S,
-        process: P,
-    ) -> Outcome
-    where
-        C::DirEntryState: Shown,
-        requires { P.IsLawful process }
-    {
-        let Ok(root) = String::from_str(memory, self.row.root) else {
-            return Outcome::Refused(0);
-        };
-        let walk: WalkDirGeneric<C, S, NoProcess, A> = WalkDirGeneric::new(fs, root);
-        let walk = walk
-            .sort(true)
-            .skip_hidden(false)
-            .parallelism(self.width.parallelism())
-            .process_read_dir(process);
-        comes(alloc, memory, walk, self.call, self.row.lines)
+/// The walk is shown hidden names.
+fn by_name<C: ClientState, S: FileSystem, P: ProcessReadDir<C, A>, A: Allocator + Copy>(
+    fs: S,
+    root: String<A>,
+    width: Width,
+    process: P,
+) -> WalkDirGeneric<C, S, P, A> {
+    WalkDirGeneric::new(fs, root)
+        .sort(true)
+        .skip_hidden(false)
+        .parallelism(width.parallelism())
+        .process_read_dir(process)
+}
+
+impl<'f> Play<'f> {
+    /// Returns `None` if there is no memory for the root.
+    fn builder<A: Allocator + Copy>(&self, memory: A) -> Option<Walk<'f, A>> {
+        let root = String::from_str(memory, self.row.root).ok()?;
+        let rules = Counting::new(IgnoreFiles::new(&self.planted.texts), self.within);
+        Some(by_name(&self.planted.fs, root, self.width, rules))
     }
 }
 
 /// A walk whose answers are all asked for at once may come whole after a refusal, as more is asked for then.
 impl Repeated for Play<'_> {
     fn comes(&self, alloc: Global, memory: &Refusing<Global>) -> Outcome {
-        let rules = PlainRules(IgnoreFiles::new(&self.planted.texts));
-        let counting = Counting::new(rules, self.within);
-        self.comes_with::<((Chain<&Refusing<Global>>, ()), ()), _, _, _>(
-            alloc,
-            memory,
-            &self.planted.fs,
-            counting,
-        )
+        match self.builder(memory) {
+            Some(walk) => comes(alloc, memory, walk, self.call, self.row.lines),
+            None => Outcome::Refused(0),
+        }
     }
 
     fn may_be_whole(&self) -> bool {

@@ -10,13 +10,11 @@ use jwalk::{ClientState, Crew, Parallelism, WalkDirGeneric};
 use jwalk_ignore::chain::Chain;
 use jwalk_ignore::ignore_files::IgnoreFiles;
 use jwalk_ignore::memory_texts::MemoryTexts;
-use jwalk_ignore::texts::Texts;
-use std::alloc::{AllocError, Allocator, Global};
+use std::alloc::{AllocError, Global};
 use std::sync::Arc;
 use std::thread::Threads;
 use test_fixtures::answers::Answer;
 use test_fixtures::host::Host;
-use test_fixtures::refused::lines::Given;
 use test_fixtures::ways::{Asked, Setting, WAYS, Way, all_of};
 
 /// The crew serves one walk at a time.
@@ -30,39 +28,19 @@ pub(crate) trait Again<C: ClientState>: ProcessReadDir<C, Global> + Send + Sync 
         ensures { IfOk result (λ it. Self.IsLawful it) };
 }
 
-/// The rules of a tree, as a callback of which nothing is said. It has a type of its own, since the types of rules are
-/// long, and proofs of functions over any runtime or allocator compare them.
-#[derive(Drop)]
-pub(crate) struct PlainRules<T: Texts>(pub(crate) IgnoreFiles<T>);
-
-impl<T: Texts, A: Allocator + Copy> ProcessReadDir<((Chain<A>, ()), ()), A> for PlainRules<T> {
-    ghost IsLawful = { λ _. Unit {0} };
-
-    ghost Makes = { λ _ _. ⊥ };
-
-    fn process(
-        &self,
-        depth: Option<usize>,
-        path: &str,
-        state: &mut (Chain<A>, ()),
-        list: &mut Vec<Given<((Chain<A>, ()), ()), A>, A>,
-    ) -> Result<(), AllocError> {
-        self.0.process(depth, path, state, list)
-    }
-}
-
-/// The rules of a tree that a crew's workers share, as a callback.
+/// The rules of a tree that a crew's workers share, as a callback. It has a type of its own, since the types of rules
+/// are long, and proofs of functions over any runtime compare them.
 #[derive(Drop)]
 struct SharedRules {
     texts: Arc<MemoryTexts>,
     settings: Settings,
-    rules: PlainRules<Arc<MemoryTexts>>,
+    rules: IgnoreFiles<Arc<MemoryTexts>>,
 }
 
 impl SharedRules {
     fn new(texts: Arc<MemoryTexts>, settings: Settings) -> Result<Self, AllocError> {
         Ok(SharedRules {
-            rules: PlainRules(settings.rules(texts.clone()?)),
+            rules: settings.rules(texts.clone()?),
             texts,
             settings,
         })
