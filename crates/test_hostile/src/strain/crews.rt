@@ -1,8 +1,8 @@
 //! A thousand walks on one crew, and two crews at once.
-use crate::by_crew::{ByCrew, Takes, Visit, Walk};
-use jwalk::Crew;
+use crate::by_crew::{ByCrew, CrewWalk, Takes};
 use jwalk::file_system::{FileSystem, MemoryFs, RealFs};
-use jwalk::readings::Readings;
+use jwalk::read_dir::NoProcess;
+use jwalk::{Crew, DirEntryIter, Readers};
 use std::alloc::{AllocError, Global};
 use std::fs::Files;
 use std::sync::Arc;
@@ -11,7 +11,6 @@ use std::time::Duration;
 use test_fixtures::answers::{Answer, are_lines};
 use test_fixtures::host::Host;
 use test_fixtures::trees::{FORKED, tree};
-use test_fixtures::ways::add_in_turn;
 
 const LINES: &str = "0 d /r; 1 d /r/a; 2 d /r/a/x; 1 d /r/b; 2 d /r/b/x; 1 d /r/c; 2 d /r/c/x";
 
@@ -85,28 +84,60 @@ fn a_thousand_walks_on_one_crew_leave_no_thread(rt: HostRuntime) {
     assert!(rt; leave_no_thread(&rt) == Some(true));
 }
 
-/// A visit during which a second walk yields all its answers, read by a crew of its own.
-#[derive(Drop)]
-struct Around<'a, R: Drop> {
-    rt: &'a R,
-    second: &'a ByCrew<'static, MemoryFs>,
+/// A walk under way that some readers read for.
+type WalkBy<S, L> = DirEntryIter<((), ()), Arc<S>, NoProcess, Global, L>;
+
+/// Takes the answers of two walks in turn. Returns whether there was memory for them.
+fn take_in_turn<
+    S: FileSystem,
+    L: Readers<((), ()), Arc<S>, NoProcess, Global>,
+    M: Readers<((), ()), Arc<S>, NoProcess, Global>,
+>(
+    first: &mut WalkBy<S, L>,
+    second: &mut WalkBy<S, M>,
+    found: &mut (Vec<Answer>, Vec<Answer>),
+) -> bool {
+    for _ in 0..8 {
+        let are_taken = first.fill(1, &mut found.0).is_ok();
+        if !are_taken || second.fill(1, &mut found.1).is_err() {
+            return false;
+        }
+    }
+    true
 }
 
-impl<R: Host> Visit<((), ()), Global> for Around<'_, R> {
-    fn visit<B: Readings<((), ()), Global>>(&mut self, walk: &mut Walk<B>) -> bool {
-        let mut found = Vec::new(self.rt.alloc());
-        let is_begun = walk.fill(3, &mut found).is_ok();
-        let is_second_shown = self.second.shows(self.rt, 3, LINES);
-        let is_whole = add_in_turn(walk, &mut found);
-        let is_shown = are_lines(self.rt.alloc(), found.as_slice(), LINES);
-        is_begun && is_second_shown && is_whole && is_shown
-    }
+/// Takes the answers of a walk under way and of a second one in turn.
+fn beside<R: Host, L: Readers<((), ()), Arc<MemoryFs>, NoProcess, Global>>(
+    first: &mut WalkBy<MemoryFs, L>,
+    second: CrewWalk<R, MemoryFs>,
+    found: &mut (Vec<Answer>, Vec<Answer>),
+) -> bool {
+    let mut second = second.into_iter();
+    take_in_turn(first, &mut second, found)
+}
+
+/// Takes the answers of two walks in turn, each on a crew of its own.
+fn of_two<R: Host>(
+    first: CrewWalk<R, MemoryFs>,
+    second: CrewWalk<R, MemoryFs>,
+    found: &mut (Vec<Answer>, Vec<Answer>),
+) -> bool {
+    let mut first = first.into_iter();
+    beside(&mut first, second, found)
 }
 
 fn both_show<R: Host>(rt: &R) -> Option<bool> {
-    let asked = forked(rt.alloc())?;
-    let mut around = Around { rt, second: &asked };
-    asked.lend_by(rt, 2, &mut around).ok()
+    let alloc = rt.alloc();
+    let asked = forked(alloc)?;
+    let one = Arc::new(alloc, Crew::new(rt.clone().ok()?, 1, 2)).ok()?;
+    let other = Arc::new(alloc, Crew::new(rt.clone().ok()?, 1, 3)).ok()?;
+    let first = asked.builder(alloc, one).ok()?;
+    let second = asked.builder(alloc, other).ok()?;
+    let mut found = (Vec::new(alloc), Vec::new(alloc));
+    let are_taken = of_two(first, second, &mut found);
+    let (first, second) = found;
+    let are_shown = are_lines(alloc, first.as_slice(), LINES);
+    Some(are_taken && are_shown && are_lines(alloc, second.as_slice(), LINES))
 }
 
 #[test]
