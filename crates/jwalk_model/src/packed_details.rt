@@ -29,6 +29,7 @@ pub struct PackedDetails {
 impl PackedDetails {
     ghost use Rattle.jwalk_model.specs.Packed.{packed, unpacked};
 
+    /// Packs details, which [`details`](Self::details) returns again.
     pub fn new(details: Details) -> Self
         ensures { result ≡ packed details }
     {
