@@ -234,6 +234,8 @@ WORDS = [
     *[["--path-separator", text, "-t", "f"] for text in ["#", "::", ""]], ["--path-separator=#", "--color=always", "b.foo"],
     *[["--base-directory", "one", *words] for words in [["foo"], ["foo", "two"], ["-a", "foo"], ["-p", "one/two"], ["foo", "../one"]]],
     ["--base-directory", "nowhere", "foo"],
+    *[[*words, "foo"] for words in [["-H", "--no-hidden"], ["--no-hidden", "-H"], ["-I", "--ignore"], ["--ignore", "-I"], ["-L", "--no-follow"], ["--no-follow", "-L"]]],
+    *[[*words, "foo"] for words in [["--no-ignore-vcs", "--ignore-vcs"], ["-a", "--relative-path"], ["--relative-path", "-a"], ["-HI", "--no-hidden"], ["--no-hidden", "-u"]]],
     ["-H", "--no-ignore-vcs"], ["-L", "-t", "l"], ["-L", "-t", "d"], ["-a", "foo"], ["--strip-cwd-prefix", "foo"],
     *[[word] for word in ["-d1", "-d2", "--max-depth=3", "--maxdepth=1", "--min-depth=2", "--exact-depth=2"]],
     *[["-E", line] for line in ["*.foo", "two", "*.{foo,rs}"]],

@@ -13,7 +13,7 @@ fn is_color(text: &[u8]) -> bool
         .all(|byte| byte.is_ascii_digit() || *byte == b';')
 }
 
-/// Returns a key and its colour, or `None` for any other text.
+/// Returns a key and its color, or `None` for any other text.
 pub(crate) fn entry_in(text: &str) -> Option<(&str, &str)>
     ensures { option_map (λ it. (it.0.now, it.1.now)) result ≡ entry_in text.now }
 {

@@ -1,6 +1,6 @@
-//! The kinds of entries that have a colour of their own.
+//! The kinds of entries that have a color of their own.
 
-/// What a colour is of.
+/// What a color is of.
 #[derive(Clone, Copy, Debug, PartialEq, Eq)]
 pub enum Kind {
     /// A directory.

@@ -1,4 +1,4 @@
-//! The colours of printed paths, by the value of `LS_COLORS`.
+//! The colors of printed paths, by the value of `LS_COLORS`.
 #![tactic(auto)]
 
 mod entries;

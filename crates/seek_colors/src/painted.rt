@@ -1,4 +1,4 @@
-//! Texts in a colour.
+//! Texts in a color.
 ghost use Rattle.std.specs.Prelude.{◌≡◌, ◌++◌, OnOk};
 ghost use Rattle.std.specs.Option.{option_copied};
 ghost use Rattle.jwalk_model.specs.Paths.{with_slash, starts_with_slash};
@@ -6,7 +6,7 @@ ghost use Rattle.seek_colors.specs.Painted.{end_of, start_of};
 
 use std::alloc::{AllocError, Allocator};
 
-/// Appends what makes the text after it coloured.
+/// Appends what makes the text after it colored.
 pub(crate) fn push_start<A: Allocator>(
     color: Option<&str>,
     out: &mut Vec<u8, A>,
@@ -21,7 +21,7 @@ pub(crate) fn push_start<A: Allocator>(
     Ok(())
 }
 
-/// Appends what ends a coloured text.
+/// Appends what ends a colored text.
 pub(crate) fn push_end<A: Allocator>(
     color: Option<&str>,
     out: &mut Vec<u8, A>,

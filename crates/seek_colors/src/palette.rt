@@ -1,4 +1,4 @@
-//! The colours of entries.
+//! The colors of entries.
 ghost use Rattle.std.specs.Prelude.{◌≡◌, ◌++◌, ◌∷◌, [], IfOk, OnOk};
 ghost use Rattle.std.specs.Option.{option_copied};
 ghost use Rattle.seek_colors.specs.Entries.{entries_among, entries_in};
@@ -14,12 +14,12 @@ use std::alloc::{AllocError, Allocator, Global};
 const DEFAULTS: &str =
     "di=01;34:ln=01;36:ex=01;32:pi=40;33:so=01;35:bd=40;33;01:cd=40;33;01:or=40;31;01";
 
-/// The colours by the kinds of entries and by the ends of names.
+/// The colors by the kinds of entries and by the ends of names.
 #[derive(Drop)]
 pub struct Palette {
-    /// The colours of kinds, by two letters.
+    /// The colors of kinds, by two letters.
     kinds: Table,
-    /// The colours of regular files, by the ends of their names.
+    /// The colors of regular files, by the ends of their names.
     suffixes: Table,
 }
 
@@ -68,12 +68,12 @@ impl Palette {
         Ok(())
     }
 
-    /// Reads the value of `LS_COLORS`: entries `KEY=COLOUR` with a colon between each two. A key is two letters for a
+    /// Reads the value of `LS_COLORS`: entries `KEY=COLOR` with a colon between each two. A key is two letters for a
     /// kind, or a `*` and the end of the names of regular files. The letters are `di`, `ln`, `or` for a link that leads
     /// nowhere, `ex`, `fi`, `pi`, `so`, `bd`, `cd`, and `no` for whatever has no entry.
     ///
     /// If a key has several entries, the last counts. If a name has the ends of several, the last of these counts, and
-    /// the case of ASCII letters doesn't count. As with `ls`, a kind that the text doesn't name has a default colour:
+    /// the case of ASCII letters doesn't count. As with `ls`, a kind that the text doesn't name has a default color:
     /// `di=01;34:ln=01;36:ex=01;32:pi=40;33:so=01;35:bd=40;33;01:cd=40;33;01:or=40;31;01`.
     ///
     /// An entry is skipped if it has no `=`, or if what follows isn't of digits and `;` alone.
@@ -123,11 +123,11 @@ impl Palette {
         }
     }
 
-    /// Returns the colour of an entry: the numbers of a control sequence. Returns `None` if it has none, or if that is
+    /// Returns the color of an entry: the numbers of a control sequence. Returns `None` if it has none, or if that is
     /// empty, `0` or `00`.
     ///
-    /// A link that leads nowhere has the colour of links if `or` gives none. A regular file has the colour of the end
-    /// of its name, or else that of `fi`. If it may be executed, the colour of `ex` comes first.
+    /// A link that leads nowhere has the color of links if `or` gives none. A regular file has the color of the end
+    /// of its name, or else that of `fi`. If it may be executed, the color of `ex` comes first.
     pub fn color_of(&self, kind: Kind, name: &str) -> Option<&str>
         ensures { option_copied result ≡ color_of (colors_of self.now) kind name.now }
     {
@@ -137,7 +137,7 @@ impl Palette {
         )
     }
 
-    /// Returns whether the colour of a link tells if it leads nowhere: it has another colour then.
+    /// Returns whether the color of a link tells if it leads nowhere: it has another color then.
     pub fn tells_broken(&self) -> bool
         ensures { result ≡ tells_broken (colors_of self.now) }
     {
@@ -161,8 +161,8 @@ impl Palette {
         push_end(color, out)
     }
 
-    /// Appends the path of a name in a folder to `out`: the folder and a slash in the colour of directories, and the
-    /// name in the colour of an entry of this kind. Between the control sequences are the bytes of the joined path.
+    /// Appends the path of a name in a folder to `out`: the folder and a slash in the color of directories, and the
+    /// name in the color of an entry of this kind. Between the control sequences are the bytes of the joined path.
     ///
     /// # Errors
     ///

@@ -1,4 +1,4 @@
-//! Keys with their colours.
+//! Keys with their colors.
 ghost use Rattle.std.specs.Prelude.{◌≡◌, ◌++◌, ◌∷◌, [], OnOk};
 ghost use Rattle.std.specs.Option.{option_copied};
 ghost use Rattle.seek_colors.specs.Table.{are_folded_same, has_suffix};
@@ -11,7 +11,7 @@ struct Entry {
     color: String,
 }
 
-/// Keys with their colours, the newest last.
+/// Keys with their colors, the newest last.
 #[derive(Drop)]
 pub(crate) struct Table {
     entries: Vec<Entry>,
@@ -50,7 +50,7 @@ impl Table {
         Ok(())
     }
 
-    /// Returns the newest colour of a key.
+    /// Returns the newest color of a key.
     pub(crate) fn key_color(&self, key: &str) -> Option<&str>
         ensures { option_copied result ≡ key_color (entries_of self.now) key.now }
     {
@@ -62,7 +62,7 @@ impl Table {
         Some(entry.color.as_str())
     }
 
-    /// Returns the newest colour whose key a name ends with. The case of ASCII letters doesn't count.
+    /// Returns the newest color whose key a name ends with. The case of ASCII letters doesn't count.
     pub(crate) fn suffix_color(&self, name: &str) -> Option<&str>
         ensures { option_copied result ≡ suffix_color (entries_of self.now) name.now }
     {

@@ -11,11 +11,17 @@ use Rattle.jwalk_job.specs.Entry.{item}
 use Rattle.jwalk_model.specs.Entry.{Item}
 use Rattle.seek_words.specs.Sought.{Sought}
 use Rattle.seek_words.specs.Layout.{Form}
-use Rattle.seek_found.specs.Found.{found_line, found_lines, is_clean, PrintsFound}
+use Rattle.seek_words.specs.Paint.{asks}
+use Rattle.seek_found.specs.Found.{found_line, found_lines, is_clean, IfAsked, PrintsFound}
 use Rattle.seek_found.specs.Limit.{left_after, up_to}
 use Rattle.seek_found.specs.Prune.{unpruned, unpruned_behind}
 use Rattle.seek_found.proofs.LimitFacts.{left_as_before, left_then, never_full, up_to_more, up_to_none}
 use Rattle.seek_found.proofs.PruneFacts.{below_all, below_more, next_below, unpruned_is, unpruned_then, unpruned_within}
+
+-- the disk is asked only if this holds, by other names of what is looked for and of the form of lines
+pub asked_if : {sought sought' : Sought} {form form' : Form} {fixed fixed' : Type 0} → sought ≡ sought' → form ≡ form' → (fixed' → fixed) → IfAsked fixed' sought' form' → IfAsked fixed sought form
+asked_if sought_is form_is fixes known =
+    (λ empty. fixes (known.0 (sym (ap (λ (s : Sought). s.wanted.kinds.empty) sought_is) ∙ empty)), λ links. fixes (known.1 (sym (ap (λ (f : Form). asks f.painting) form_is) ∙ links)))
 
 -- one text is written, and then another
 pub appends_then : (a b c : Option (List ℕ)) (xs ys : List ℕ) → Appends a b xs → Appends b c ys → Appends a c (xs ++ ys)

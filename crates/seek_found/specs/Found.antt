@@ -8,13 +8,14 @@ use Rattle.jwalk_job.specs.declared.error.Error.{Error}
 use Rattle.jwalk_job.specs.Entry.{item}
 use Rattle.jwalk_model.specs.Entry.{Entry, Item}
 use Rattle.seek_words.specs.Sought.{Sought, is_found, IfEmpties}
-use Rattle.seek_words.specs.Layout.{Form, form_line, IfLinks}
+use Rattle.seek_words.specs.Layout.{Form, form_line}
+use Rattle.seek_words.specs.Paint.{IfAsksLinks}
 use Rattle.seek_found.specs.Limit.{left_after, up_to}
 use Rattle.seek_found.specs.Prune.{unpruned}
 
 -- The disk is asked about empty entries that are looked for, and where links lead, only if this holds.
 abbrev pub IfAsked : Type 0 → Sought → Form → Type 0
-IfAsked fixed sought form = IfEmpties fixed sought × IfLinks fixed form
+IfAsked fixed sought form = IfEmpties fixed sought × IfAsksLinks fixed form.painting
 
 module _ {R E : Type 0} where
   -- the line of an entry, if it is looked for

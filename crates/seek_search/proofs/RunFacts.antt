@@ -12,10 +12,11 @@ use Rattle.seek_words.specs.Filter.{sought_of}
 use Rattle.seek_words.specs.declared.filter.Filter.{Filter}
 use Rattle.seek_words.specs.Sought.{Sought}
 use Rattle.seek_words.specs.Wanted.{Wants}
-use Rattle.seek_words.specs.Layout.{Form, asks}
+use Rattle.seek_words.specs.Layout.{Form}
+use Rattle.seek_words.specs.Paint.{asks}
 use Rattle.seek_words.specs.Lines.{form_of}
 use Rattle.seek_words.specs.declared.lines.Lines.{Lines}
-use Rattle.seek_found.specs.Found.{found_lines, IfAsked, PrintsClean}
+use Rattle.seek_found.specs.Found.{found_lines, PrintsClean}
 use Rattle.seek_found.specs.Roots.{AreBelow, Below, PrintsSuch}
 use Rattle.seek_found.proofs.RootsFacts.{no_roots_printed}
 use Rattle.program_parts.proofs.GatheredFacts.{gathered_written}
@@ -58,14 +59,9 @@ pub form_over : {Z : Type 0} (functions : Z → Functions) {d d' : Z} (lines : L
     → ((fs : Functions) → form_of fs lines ≡ form_before fs front screen asked) → form_of (functions d) lines ≡ form_before (functions d') front screen asked
 form_over {Z} functions {d} {d'} lines {front} screen asked is form = form (functions d) ∙ ap (λ (x : Z). form_before (functions x) front screen asked) is
 
--- the disk is asked only if this holds, by other names of what is looked for and of the form of lines
-pub asked_if : {sought sought' : Sought} {form form' : Form} {fixed fixed' : Type 0} → sought ≡ sought' → form ≡ form' → (fixed' → fixed) → IfAsked fixed' sought' form' → IfAsked fixed sought form
-asked_if sought_is form_is fixes known =
-    (λ empty. fixes (known.0 (sym (ap (λ (s : Sought). s.wanted.kinds.empty) sought_is) ∙ empty)), λ links. fixes (known.1 (sym (ap asks form_is) ∙ links)))
-
 -- a quiet search doesn't ask where links lead
-pub quiet_asks_nothing : (fs : Functions) (front : Option (List ℕ)) (screen : Screen) (asked : Asked) → asked.quiet ≡ true → asks (form_before fs front screen asked) ≡ false
-quiet_asks_nothing fs front screen asked quiet = ap (λ (b : Bool). asks (form_before fs front screen (record asked { quiet = b }))) quiet
+pub quiet_asks_nothing : (fs : Functions) (front : Option (List ℕ)) (screen : Screen) (asked : Asked) → asked.quiet ≡ true → asks (form_before fs front screen asked).painting ≡ false
+quiet_asks_nothing fs front screen asked quiet = ap (λ (b : Bool). asks (form_before fs front screen (record asked { quiet = b })).painting) quiet
 
 -- what is known of a search by some texts, and so more
 by_read : {X : Type 0} {texts : X} {is be : WithExcludes X → List ℕ → Type 0} → ((reads : WithExcludes X) (lines : List ℕ) → is reads lines → be reads lines) → ByRead texts is → ByRead texts be

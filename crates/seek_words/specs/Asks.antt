@@ -15,6 +15,11 @@ use Rattle.seek_words.specs.declared.depths.Depths.{Depths}
 use Rattle.seek_words.specs.declared.kinds.Kinds.{Kinds}
 use Rattle.seek_words.specs.declared.asked.Asked.{Asked}
 
+-- An option that another undoes is asked for only if it is named, and always if the other isn't.
+pub record IsOn (named undone asked : Bool) : Type 0 where
+  pub only : asked ≡ true → named ≡ true
+  pub kept : undone ≡ false → asked ≡ named
+
 -- whether one of two options of one word was named
 abbrev pub is_either_named : List Row → Text → Text → Bool
 is_either_named rows id other = is_named rows id || is_named rows other
@@ -100,11 +105,11 @@ pub record Asks (rows : List Row) (asked : Asked) : Type 0 where
   pub others : texts_of asked.others.items ≡ values_in rows (codes "and")
   pub full_path : asked.full_path ≡ is_named rows (codes "full-path")
   pub case : IsCaseIn rows asked.case
-  pub hidden : asked.hidden ≡ is_either_named rows (codes "hidden") (codes "unrestricted")
-  pub no_ignore : asked.no_ignore ≡ is_either_named rows (codes "no-ignore") (codes "unrestricted")
-  pub no_vcs : asked.no_vcs ≡ is_named rows (codes "no-ignore-vcs")
-  pub no_parents : asked.no_parents ≡ is_named rows (codes "no-ignore-parent")
-  pub follow : asked.follow ≡ is_named rows (codes "follow")
+  pub hidden : IsOn (is_either_named rows (codes "hidden") (codes "unrestricted")) (is_named rows (codes "no-hidden")) asked.hidden
+  pub no_ignore : IsOn (is_either_named rows (codes "no-ignore") (codes "unrestricted")) (is_named rows (codes "ignore")) asked.no_ignore
+  pub no_vcs : IsOn (is_named rows (codes "no-ignore-vcs")) (is_named rows (codes "ignore-vcs")) asked.no_vcs
+  pub no_parents : IsOn (is_named rows (codes "no-ignore-parent")) (is_named rows (codes "ignore-parent")) asked.no_parents
+  pub follow : IsOn (is_named rows (codes "follow")) (is_named rows (codes "no-follow")) asked.follow
   pub one_file_system : asked.one_file_system ≡ is_named rows (codes "one-file-system")
   pub sort : asked.sort ≡ is_named rows (codes "sort")
   pub depths : AreDepthsIn rows asked.depths
@@ -119,7 +124,7 @@ pub record Asks (rows : List Row) (asked : Asked) : Type 0 where
   pub excludes : texts_of asked.excludes.items ≡ values_in rows (codes "exclude")
   pub max_results : AreResultsIn rows asked.max_results
   pub quiet : asked.quiet ≡ is_named rows (codes "quiet")
-  pub absolute : asked.absolute ≡ is_named rows (codes "absolute-path")
+  pub absolute : IsOn (is_named rows (codes "absolute-path")) (is_named rows (codes "relative-path")) asked.absolute
   pub details : asked.details ≡ is_named rows (codes "list-details")
   pub color : IsColorIn (first_of (codes "color") rows) asked.color
   pub path_separator : option_map (λ it. it.now) asked.path_separator ≡ first_of (codes "path-separator") rows

@@ -100,6 +100,12 @@ print_rules =
     number_rule (codes "max-results") ∷ one_rule ∷ quiet_rule ∷ flag_rule (codes "absolute-path") 97 ∷ flag_rule (codes "list-details") 108
     ∷ valued_rule (codes "color") ∷ valued_rule (codes "path-separator") ∷ long_flag_rule (codes "strip-cwd-prefix") ∷ flag_rule (codes "print0") 48 ∷ []
 
+-- the options that undo others
+abbrev pub undo_rules : List Rule
+undo_rules =
+    long_flag_rule (codes "no-hidden") ∷ long_flag_rule (codes "ignore") ∷ long_flag_rule (codes "ignore-vcs") ∷ long_flag_rule (codes "ignore-parent")
+    ∷ long_flag_rule (codes "no-follow") ∷ long_flag_rule (codes "relative-path") ∷ []
+
 -- the names of types
 abbrev pub kind_names : List Text
 kind_names =
@@ -132,7 +138,7 @@ walk_app = with_rules (with_rules (with_rules pattern_app walk_rules) ignore_rul
 
 -- and with all others; one has these names of types
 abbrev pub seek_app : Bor (List (Bor Text)) → App
-seek_app kinds = with_rules (with_rules (with_rules walk_app (filter_rules kinds)) time_rules) print_rules
+seek_app kinds = with_rules (with_rules (with_rules (with_rules walk_app (filter_rules kinds)) time_rules) print_rules) undo_rules
 
 -- It is the command line of the program.
 pub record IsSeek (app : App) : Type 0 where

@@ -1,6 +1,6 @@
 -- The layout of printed lines.
-use Rattle.std.specs.Prelude.{◌≡◌, ℕ, Bool, true, false, List, [], ◌∷◌, ◌++◌, flat_map, string_bytes, Option, None, Some, if◌then◌else◌}
-use Rattle.std.specs.Option.{option_map, option_map_or}
+use Rattle.std.specs.Prelude.{ℕ, Bool, List, [], ◌∷◌, ◌++◌, flat_map, string_bytes, Option, None, Some, if◌then◌else◌}
+use Rattle.std.specs.Option.{option_map}
 use Rattle.jwalk_model.specs.FileSystem.{Functions}
 use Rattle.jwalk_model.specs.Paths.{join}
 use Rattle.jwalk_model.specs.declared.file_type.FileType.{FileType}
@@ -8,7 +8,7 @@ use Rattle.jwalk_model.specs.declared.metadata.Metadata.{Metadata}
 use Rattle.seek_details.specs.Details.{details_text}
 use Rattle.seek_words.specs.Absolute.{absolute_path}
 use Rattle.seek_words.specs.Asks.{is_slash}
-use Rattle.seek_words.specs.Paint.{Painting, asks_links, painted, painting_of}
+use Rattle.seek_words.specs.Paint.{Painting, painted, painting_of}
 use Rattle.program_parts.specs.Paths.{line_of, shown_folder, shown_text, text_line}
 use Rattle.seek_words.specs.Subject.{front_of}
 use Rattle.seek_words.specs.declared.layout.Layout.{Layout}
@@ -32,14 +32,6 @@ form_in fs layout = record {
   painting = option_map (painting_of fs) layout.paint;
   slash = option_map string_bytes layout.slash;
 }
-
--- whether the disk is asked where links lead
-abbrev pub asks : Form → Bool
-asks form = option_map_or asks_links form.painting false
-
--- It is asked only if this holds.
-abbrev pub IfLinks : Type 0 → Form → Type 0
-IfLinks fixed form = asks form ≡ true → fixed
 
 -- the printed path of a folder, as it is or as an absolute one
 abbrev pub folder_text : Style → Option (List ℕ) → List ℕ → List ℕ

@@ -1,5 +1,6 @@
 -- Paths in colors.
-use Rattle.std.specs.Prelude.{◌≡◌, ℕ, Bool, true, not, ◌&&◌, List, Option, None, Some, is_err, if◌then◌else◌}
+use Rattle.std.specs.Prelude.{◌≡◌, ℕ, Bool, true, false, not, ◌&&◌, List, Option, None, Some, is_err, if◌then◌else◌}
+use Rattle.std.specs.Option.{option_map_or}
 use Rattle.jwalk_model.specs.FileSystem.{Functions}
 use Rattle.jwalk_model.specs.declared.file_type.FileType.{FileType}
 use Rattle.jwalk_model.specs.declared.file_type.FileType.TheVariants.{Dir, File as Regular, Symlink, Other as Special}
@@ -30,9 +31,13 @@ painting_of fs paint = record { colors = colors_of paint.palette; follow = paint
 abbrev pub asks_links : Painting → Bool
 asks_links painting = not painting.follow && tells_broken painting.colors
 
+-- whether it is asked, if paths have colors
+abbrev pub asks : Option Painting → Bool
+asks painting = option_map_or asks_links painting false
+
 -- It is asked only if this holds.
-abbrev pub IfAsksLinks : Type 0 → Painting → Type 0
-IfAsksLinks fixed painting = asks_links painting ≡ true → fixed
+abbrev pub IfAsksLinks : Type 0 → Option Painting → Type 0
+IfAsksLinks fixed painting = asks painting ≡ true → fixed
 
 abbrev file_kind_by : Option Details → Kind
 file_kind_by None = File

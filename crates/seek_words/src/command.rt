@@ -2,7 +2,7 @@
 ghost use Rattle.std.specs.Prelude.{◌≡◌, ◌∷◌, [], false, map, IfOk};
 ghost use Rattle.clap.specs.Words.{app_of, rule_of};
 ghost use Rattle.program_parts.specs.Rules.{root_rule, with_rules, HaveRules};
-ghost use Rattle.seek_words.specs.Command.{kind_rule, kind_names, and_rule, ignore_file_rule, search_rule, before_rule, quiet_rule, within_rule, max_depth_rule, one_rule, owner_rule, file_system_rule, with_name, pattern_rule, named_app, pattern_rules, case_rules, walk_rules, ignore_rules, reach_rules, time_rules, print_rules, HasRule, AreFilters, IsSeek};
+ghost use Rattle.seek_words.specs.Command.{kind_rule, kind_names, and_rule, ignore_file_rule, search_rule, before_rule, quiet_rule, within_rule, max_depth_rule, one_rule, owner_rule, file_system_rule, with_name, pattern_rule, named_app, pattern_rules, case_rules, walk_rules, ignore_rules, reach_rules, time_rules, print_rules, undo_rules, HasRule, AreFilters, IsSeek};
 
 use clap::{Arg, ArgAction, Command};
 use program_parts::options::{
@@ -349,6 +349,20 @@ fn print_options<'a>(alloc: Global) -> Result<Vec<Arg<'a>>, AllocError>
     ]?)
 }
 
+/// Options that undo others, wherever these are set in front.
+fn undo_options<'a>(alloc: Global) -> Result<Vec<Arg<'a>>, AllocError>
+    ensures { IfOk result (λ options. HaveRules options.items undo_rules) }
+{
+    Ok(vec![in alloc;
+        long_flag(alloc, "no-hidden", "Undo -H"),
+        long_flag(alloc, "ignore", "Undo -I"),
+        long_flag(alloc, "ignore-vcs", "Undo --no-ignore-vcs"),
+        long_flag(alloc, "ignore-parent", "Undo --no-ignore-parent"),
+        long_flag(alloc, "no-follow", "Undo -L"),
+        long_flag(alloc, "relative-path", "Undo -a"),
+    ]?)
+}
+
 fn named<'a>(alloc: Global) -> Result<Command<'a>, AllocError>
     ensures { IfOk result (λ all. app_of all ≡ with_rules named_app (pattern_rule ∷ root_rule ∷ [])) }
 {
@@ -373,6 +387,7 @@ pub(crate) fn command<'a>(alloc: Global) -> Result<Command<'a>, AllocError>
     let filtered = filter_options(alloc)?;
     let timed = time_options(alloc)?;
     let printed = print_options(alloc)?;
+    let undoing = undo_options(alloc)?;
     named(alloc)?
         .args(patterns)?
         .args(cases)?
@@ -381,5 +396,6 @@ pub(crate) fn command<'a>(alloc: Global) -> Result<Command<'a>, AllocError>
         .args(reached)?
         .args(filtered)?
         .args(timed)?
-        .args(printed)
+        .args(printed)?
+        .args(undoing)
 }

@@ -88,7 +88,8 @@ fn replace_slashes(slash: &str, start: usize, out: &mut Vec<u8, Global>) -> Resu
 }
 
 impl Layout {
-    ghost use Rattle.seek_words.specs.Layout.{form_in, form_line, line_in, slashed_line, IfLinks};
+    ghost use Rattle.seek_words.specs.Layout.{form_in, form_line, line_in, slashed_line};
+    ghost use Rattle.seek_words.specs.Paint.{IfAsksLinks};
 
     fn write_line<S: FileSystem>(
         &mut self,
@@ -96,7 +97,7 @@ impl Layout {
         entry: Shown<'_>,
         out: &mut Vec<u8, Global>,
     ) -> Result<(), AllocError>
-        ensures line { OnOk result (IfLinks (S.IsFixed disk.now) (form_in (S.functions disk.now) self.old)
+        ensures line { OnOk result (IfAsksLinks (S.IsFixed disk.now) (form_in (S.functions disk.now) self.old).painting
             → out.new.items ≡ out.old.items ++ line_in (form_in (S.functions disk.now) self.old) entry.entry.file_type
             (option_copied entry.entry.seen) entry.entry.folder.now entry.entry.name.now) }
         ensures longer { OnOk result (length out.old.items ≤ length out.new.items) }
@@ -119,7 +120,7 @@ impl Layout {
         entry: Shown<'_>,
         out: &mut Vec<u8, Global>,
     ) -> Result<(), AllocError>
-        ensures line { OnOk result (IfLinks (S.IsFixed disk.now) (form_in (S.functions disk.now) self.old)
+        ensures line { OnOk result (IfAsksLinks (S.IsFixed disk.now) (form_in (S.functions disk.now) self.old).painting
             → out.new.items ≡ out.old.items ++ slashed_line (form_in (S.functions disk.now) self.old) entry.entry.file_type
             (option_copied entry.entry.seen) entry.entry.folder.now entry.entry.name.now) }
         ensures form { (fs : Functions) → form_in fs self.new ≡ form_in fs self.old }
@@ -144,7 +145,7 @@ impl Layout {
         entry: Shown<'_>,
         out: &mut Vec<u8, Global>,
     ) -> Result<(), AllocError>
-        ensures line { OnOk result (IfLinks (S.IsFixed disk.now) (form_in (S.functions disk.now) self.old)
+        ensures line { OnOk result (IfAsksLinks (S.IsFixed disk.now) (form_in (S.functions disk.now) self.old).painting
             → out.new.items ≡ out.old.items ++ form_line (form_in (S.functions disk.now) self.old) entry.entry.file_type
             (option_copied entry.entry.seen) entry.entry.folder.now entry.entry.name.now) }
         ensures form { (fs : Functions) → form_in fs self.new ≡ form_in fs self.old }

@@ -28,7 +28,8 @@ pub struct Lines {
 }
 
 impl Lines {
-    ghost use Rattle.seek_words.specs.Layout.{form_line, IfLinks};
+    ghost use Rattle.seek_words.specs.Layout.{form_line};
+    ghost use Rattle.seek_words.specs.Paint.{IfAsksLinks};
     ghost use Rattle.seek_words.specs.Lines.{form_of, gathered_of, has_printed};
 
     /// Returns no lines, of this layout.
@@ -81,7 +82,7 @@ impl Lines {
         entry: Shown<'_>,
         out: &mut W,
     ) -> Result<(), Halt>
-        ensures printed { OnOk result (IfLinks (S.IsFixed disk.now) (form_of (S.functions disk.now) self.old)
+        ensures printed { OnOk result (IfAsksLinks (S.IsFixed disk.now) (form_of (S.functions disk.now) self.old).painting
             → Appends (append_known (W.contents out.old) (gathered_of self.old))
             (append_known (W.contents out.new) (gathered_of self.new)) (form_line (form_of (S.functions disk.now) self.old) entry.entry.file_type
             (option_copied entry.entry.seen) entry.entry.folder.now entry.entry.name.now)) }

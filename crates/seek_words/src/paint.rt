@@ -1,5 +1,5 @@
 //! Paths in colors.
-ghost use Rattle.std.specs.Prelude.{◌≡◌, ◌≤◌, ◌++◌, length, IfOk, OnOk};
+ghost use Rattle.std.specs.Prelude.{◌≡◌, ◌≤◌, ◌++◌, length, IfOk, OnOk, Some};
 ghost use Rattle.std.specs.Option.{option_copied};
 ghost use Rattle.jwalk_model.specs.Paths.{join};
 ghost use Rattle.seek_words.specs.Paint.{broken_in, file_kind, special_kind, mode_kind};
@@ -79,7 +79,7 @@ impl Paint {
         disk: &S,
         link: Shown<'_>,
     ) -> Result<bool, AllocError>
-        ensures { IfOk result (λ yes. IfAsksLinks (S.IsFixed disk.now) (painting_of (S.functions disk.now) self.now)
+        ensures { IfOk result (λ yes. IfAsksLinks (S.IsFixed disk.now) (Some (painting_of (S.functions disk.now) self.now))
             → yes ≡ is_broken (painting_of (S.functions disk.now) self.now) (join link.entry.folder.now link.entry.name.now)) }
     {
         if self.follow || !self.palette.tells_broken() {
@@ -95,7 +95,7 @@ impl Paint {
         disk: &S,
         entry: Shown<'_>,
     ) -> Result<Kind, AllocError>
-        ensures { IfOk result (λ kind. IfAsksLinks (S.IsFixed disk.now) (painting_of (S.functions disk.now) self.now)
+        ensures { IfOk result (λ kind. IfAsksLinks (S.IsFixed disk.now) (Some (painting_of (S.functions disk.now) self.now))
             → kind ≡ kind_of (painting_of (S.functions disk.now) self.now) entry.entry.file_type
             (option_copied entry.entry.seen) (join entry.entry.folder.now entry.entry.name.now)) }
     {
@@ -128,7 +128,7 @@ impl Paint {
         name: &str,
         out: &mut Vec<u8, Global>,
     ) -> Result<(), AllocError>
-        ensures path { OnOk result (IfAsksLinks (S.IsFixed disk.now) (painting_of (S.functions disk.now) self.now)
+        ensures path { OnOk result (IfAsksLinks (S.IsFixed disk.now) (Some (painting_of (S.functions disk.now) self.now))
             → out.new.items ≡ out.old.items ++ painted (painting_of (S.functions disk.now) self.now) entry.entry.file_type
             (option_copied entry.entry.seen) (join entry.entry.folder.now entry.entry.name.now) folder.now name.now) }
         ensures longer { OnOk result (length out.old.items ≤ length out.new.items) }

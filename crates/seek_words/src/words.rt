@@ -3,7 +3,7 @@ ghost use Rattle.std.specs.Prelude.{◌≡◌, [], codes, is_some, map, option_m
 ghost use Rattle.std.specs.List.{list_any};
 ghost use Rattle.clap.specs.Words.{found_of, rows_of, first_of};
 ghost use Rattle.program_parts.specs.Values.{is_named, values_in, texts_of};
-ghost use Rattle.seek_words.specs.Asks.{is_either_named, ChoosesOne, IsCaseIn, IsColorIn, AreReadingsIn, roots_in, depths_by, AreDepthsIn, names_one, kinds_in, is_slash, AreResultsIn, Asks};
+ghost use Rattle.seek_words.specs.Asks.{is_either_named, ChoosesOne, IsOn, IsCaseIn, IsColorIn, AreReadingsIn, roots_in, depths_by, AreDepthsIn, names_one, kinds_in, is_slash, AreResultsIn, Asks};
 ghost use Rattle.seek_words.specs.AsksFor.{AskFor};
 ghost use Rattle.seek_words.specs.Conflict.{has_conflict};
 ghost use Rattle.seek_words.specs.Refusal.{IsRefusedFor, IsRefusedColor, IsRefusedOwner, IsRefusedSize, IsRefusedTime, IsRefusedValue};
@@ -27,12 +27,6 @@ use program_parts::refusal::CommonRefusal;
 use program_parts::values::{has_value, is_named, matches_of, number_of, values_of};
 use std::alloc::{AllocError, Global};
 use std::convert::AsStr;
-
-fn is_either_named(found: &ArgMatches<'_>, id: &str, other: &str) -> bool
-    ensures { result ≡ is_either_named (rows_of (found_of found.now)) id.now other.now }
-{
-    is_named(found, id) || is_named(found, other)
-}
 
 fn pattern_of<'w>(found: &ArgMatches<'w>) -> &'w str
     ensures { result.now ≡ unwrap_or (first_of (codes "pattern") (rows_of (found_of found.now))) [] }
@@ -89,8 +83,24 @@ fn last_named(found: &ArgMatches<'_>, one: &str, other: &str) -> (bool, bool)
 }
 
 /// Returns whether an option is named by a word behind this place. An option that isn't named has a place, too.
-fn is_named_behind(found: &ArgMatches<'_>, id: &str, place: usize) -> bool {
+fn is_named_behind(found: &ArgMatches<'_>, id: &str, place: usize) -> bool
+    ensures { result ≡ true → is_named (rows_of (found_of found.now)) id.now ≡ true }
+{
     is_named(found, id) && last_place(found, id) > place
+}
+
+/// Returns whether an option is named, and no word behind it undoes it.
+fn is_on(found: &ArgMatches<'_>, id: &str, undo: &str) -> bool
+    ensures { IsOn (is_named (rows_of (found_of found.now)) id.now) (is_named (rows_of (found_of found.now)) undo.now) result }
+{
+    is_named(found, id) && !is_named_behind(found, undo, last_place(found, id))
+}
+
+/// Returns whether one of two options of one word is named, and no word behind it undoes it.
+fn is_either_on(found: &ArgMatches<'_>, id: &str, other: &str, undo: &str) -> bool
+    ensures { IsOn (is_either_named (rows_of (found_of found.now)) id.now other.now) (is_named (rows_of (found_of found.now)) undo.now) result }
+{
+    is_on(found, id, undo) || is_on(found, other, undo)
 }
 
 /// Returns whether the word for regular expressions is behind all that name another reading.
@@ -253,11 +263,11 @@ fn asked_of<'w>(alloc: Global, found: &ArgMatches<'w>) -> Result<Asked<'w>, Refu
         others: values_of(alloc, found, "and")?,
         full_path: is_named(found, "full-path"),
         case: case_of(found),
-        hidden: is_either_named(found, "hidden", "unrestricted"),
-        no_ignore: is_either_named(found, "no-ignore", "unrestricted"),
-        no_vcs: is_named(found, "no-ignore-vcs"),
-        no_parents: is_named(found, "no-ignore-parent"),
-        follow: is_named(found, "follow"),
+        hidden: is_either_on(found, "hidden", "unrestricted", "no-hidden"),
+        no_ignore: is_either_on(found, "no-ignore", "unrestricted", "ignore"),
+        no_vcs: is_on(found, "no-ignore-vcs", "ignore-vcs"),
+        no_parents: is_on(found, "no-ignore-parent", "ignore-parent"),
+        follow: is_on(found, "follow", "no-follow"),
         one_file_system: is_named(found, "one-file-system"),
         sort: is_named(found, "sort"),
         depths: depths_of(found),
@@ -273,7 +283,7 @@ fn asked_of<'w>(alloc: Global, found: &ArgMatches<'w>) -> Result<Asked<'w>, Refu
         excludes: values_of(alloc, found, "exclude")?,
         max_results: results_of(found),
         quiet: is_named(found, "quiet"),
-        absolute: is_named(found, "absolute-path"),
+        absolute: is_on(found, "absolute-path", "relative-path"),
         details: is_named(found, "list-details"),
         color: color_of(found)?,
         colored: false,

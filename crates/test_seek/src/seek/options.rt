@@ -15,6 +15,11 @@ $ seek -L ^c /t
 $ seek --follow ^c /t
   /t/sub/c.rs
   /t/down/c.rs
+$ seek -L --no-follow ^c /t
+  /t/sub/c.rs
+$ seek --no-follow -L ^c /t
+  /t/sub/c.rs
+  /t/down/c.rs
 # types
 $ seek -t d . /t
   /t/sub
@@ -148,6 +153,10 @@ $ seek -ap ^/t/a t
   /t/a.txt
 $ seek -a0 ^b t
   /t/B.TXT\0
+$ seek -a --relative-path ^b t
+  t/B.TXT
+$ seek --relative-path -a ^b t
+  /t/B.TXT
 # max depth
 $ seek -d 1 . /t
   /t/a.txt

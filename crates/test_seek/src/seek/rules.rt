@@ -54,6 +54,29 @@ $ seek -HI git /r
   /r/.git
   /r/.gitignore
   /r/lib/.gitignore
+# words that undo others
+$ seek -I --ignore o$ /r
+  /r/lib/keep.o
+$ seek --ignore -I o$ /r
+  /r/a.o
+  /r/lib/keep.o
+  /r/lib/b.o
+$ seek --no-ignore-vcs --ignore-vcs o$ /r
+  /r/lib/keep.o
+$ seek --no-ignore-parent --ignore-parent o$ /r
+  /r/lib/keep.o
+$ seek -H --no-hidden git /r
+$ seek --no-hidden -H git /r
+  /r/.gitignore
+  /r/lib/.gitignore
+$ seek -H --no-hidden -H ^.git /r/lib
+  /r/lib/.gitignore
+$ seek -u --ignore o$|git /r/lib
+  /r/lib/.gitignore
+  /r/lib/keep.o
+$ seek -u --no-hidden o$|git /r/lib
+  /r/lib/keep.o
+  /r/lib/b.o
 # rules of exclude and words of a call
 tree
   d /r

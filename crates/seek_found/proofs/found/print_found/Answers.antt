@@ -1,16 +1,14 @@
-use Rattle.std.proofs.Common.{◌≡◌, ◌∙◌, ◌∷◌, [], refl, subst, sym}
+use Rattle.std.proofs.Common.{◌≡◌, ◌∙◌, ◌∷◌, [], refl, subst}
 use Rattle.std.specs.Io.KnownBytes.{Appends, append_known}
 use Rattle.jwalk_job.specs.Entry.{item}
 use Rattle.seek_words.specs.Filter.{sought_of}
 use Rattle.seek_words.specs.Lines.{form_of, gathered_of}
-use Rattle.seek_words.specs.Layout.{IfLinks}
-use Rattle.seek_words.specs.Sought.{IfEmpties}
 use Rattle.std.specs.List.{list_all}
 use Rattle.seek_found.specs.Found.{found_lines, is_clean}
 use Rattle.seek_found.specs.Limit.{left_after}
 use Rattle.seek_found.specs.Prune.{unpruned_behind}
 use Rattle.seek_found.proofs.PruneFacts.{next_below}
-use Rattle.seek_found.proofs.FoundFacts.{appends_nothing, none_found, one_found, enough_found, all_found}
+use Rattle.seek_found.proofs.FoundFacts.{appends_nothing, asked_if, none_found, one_found, enough_found, all_found}
 use Rattle.seek_found.proofs.found.print_found.Goals as goal
 
 pub loop-below-init : goal.loop-below-init
@@ -39,17 +37,16 @@ loop-below-preserved g c =
       can = on.0;
       ends = on.1;
       so_far = λ known.
-          let empties = subst (IfEmpties (g.S.FileSystem.IsFixed c.args.disk.now)) (sym held.sought) known.0 in
-          let links = subst (IfLinks (g.S.FileSystem.IsFixed c.args.disk.now)) (sym held.form) known.1 in
-          let found = subst (λ s. Appends old mid (found_lines s (form_of (g.S.FileSystem.functions c.args.disk.now) c.loop-below.printer.lines) (unpruned_behind s above (answer ∷ [])))) held.sought (c.in_ok-clean.ensures.printed (empties, links)) in
+          let asked = asked_if held.sought held.form (λ fixed. fixed) known in
+          let found = subst (λ s. Appends old mid (found_lines s (form_of (g.S.FileSystem.functions c.args.disk.now) c.loop-below.printer.lines) (unpruned_behind s above (answer ∷ [])))) held.sought (c.in_ok-clean.ensures.printed asked) in
           let printed = subst (λ s. Appends old mid (found_lines sought s (unpruned_behind sought above (answer ∷ [])))) held.form found in
           one_found g.I.Iterator.next_gives c.args.answers.now sought (form_of (g.S.FileSystem.functions c.args.disk.now) c.args.printer.now.lines) c.args.printer.now.left
           c.loop-below.answers c.next.new.self c.loop-below.printer.left c.print.new.self.left above below
           (append_known (g.W.Write.contents c.args.out.now) (gathered_of c.args.printer.now.lines)) old new
           c.loop-below.clean c.in_ok-clean.field-0 c.in-Some.answer (held.so_far known) (c.is_full.ensures.room c.loop-below-test.true) c.in-Some.ensures.steps
           (appends_nothing old mid new (found_lines sought (form_of (g.S.FileSystem.functions c.args.disk.now) c.args.printer.now.lines) (unpruned_behind sought above (answer ∷ []))) printed c.in_ok-write_old.ensures.kept)
-          (subst (λ s. c.print.new.self.left ≡ left_after s c.loop-below.printer.left (unpruned_behind s above (answer ∷ []))) held.sought (c.in_ok-clean.ensures.left empties))
-          (subst (λ s. below ≡ next_below s above answer) held.sought (c.in_ok-clean.ensures.below empties))
+          (subst (λ s. c.print.new.self.left ≡ left_after s c.loop-below.printer.left (unpruned_behind s above (answer ∷ []))) held.sought (c.in_ok-clean.ensures.left asked.0))
+          (subst (λ s. below ≡ next_below s above answer) held.sought (c.in_ok-clean.ensures.below asked.0))
           (subst (λ s. c.in_ok-clean.field-0 ≡ list_all is_clean (unpruned_behind s above (answer ∷ []))) held.sought c.in_ok-clean.ensures.clean);
       sought = c.print.ensures.sought ∙ held.sought;
       form = c.write_old.ensures.form (g.S.FileSystem.functions c.args.disk.now) ∙ (c.print.ensures.form ∙ held.form);

@@ -9,7 +9,8 @@ use Rattle.seek_found.proofs.RootsFacts.{one_printed_of, printed_such, such_prin
 use Rattle.seek_search.specs.KeptLinks.{functions_kept}
 use Rattle.seek_search.specs.Search.{form_before, positive, roots_asked, sought_before}
 use Rattle.seek_search.specs.declared.kept_links.KeptLinks.{KeptLinks}
-use Rattle.seek_search.proofs.RunFacts.{asked_if, form_over, printed_over, quiet_asks_nothing, sought_over, written_last}
+use Rattle.seek_found.proofs.FoundFacts.{asked_if}
+use Rattle.seek_search.proofs.RunFacts.{form_over, printed_over, quiet_asks_nothing, sought_over, written_last}
 use Rattle.seek_search.proofs.SearchFacts.{same_below, stops_somewhere}
 use Rattle.seek_found.specs.Sought.{takes_by}
 use Rattle.seek_search.proofs.run.Seek.search_asked.Goals as goal

@@ -6,7 +6,8 @@ use Rattle.seek_found.proofs.RootsFacts.{none_after, none_reached, printed_such,
 use Rattle.seek_words.specs.Filter.{sought_of}
 use Rattle.seek_found.specs.SoughtTest.{takes_of}
 use Rattle.seek_search.specs.Search.{unpruned_below}
-use Rattle.seek_search.proofs.RunFacts.{asked_if, first_true, none_printed, none_yielded, one_element, one_printed, others_printed, second_true, texts_then}
+use Rattle.seek_found.proofs.FoundFacts.{asked_if}
+use Rattle.seek_search.proofs.RunFacts.{first_true, none_printed, none_yielded, one_element, one_printed, others_printed, second_true, texts_then}
 use Rattle.seek_search.proofs.SearchFacts.{below_one, below_same, same_below}
 use Rattle.seek_search.proofs.search.Search.+below_each.Goals as goal
 
