@@ -207,23 +207,29 @@ fn folder(rt: &HostRuntime, test: &str, files: &[[&str; 3]]) -> io::Result<Strin
     Ok(folder)
 }
 
+/// A program over a walk.
+#[derive(Clone, Copy)]
+enum OverWalk {
+    Totals,
+    Newest,
+}
+
 /// A program over a folder on the disk.
 #[derive(Clone, Copy)]
 enum OnDisk {
-    Totals,
+    Walk(OverWalk),
     Ignore,
-    Newest,
 }
 
 fn run_walk<S: FileSystem>(
     alloc: Global,
-    program: OnDisk,
+    program: OverWalk,
     walk: WalkDirGeneric<((), ()), S, NoProcess>,
     out: &mut Vec<u8>,
 ) -> anyhow::Result<()> {
     match program {
-        OnDisk::Newest => newest::run(alloc, walk, out),
-        _ => usage_walk::run(walk, out),
+        OverWalk::Newest => newest::run(alloc, walk, out),
+        OverWalk::Totals => usage_walk::run(walk, out),
     }
 }
 
@@ -232,7 +238,9 @@ fn written_of(rt: &HostRuntime, program: OnDisk, folder: &str) -> anyhow::Result
     let mut out = Vec::new(rt.alloc());
     match program {
         OnDisk::Ignore => ignore_walk::run(rt, folder, &mut out)?,
-        _ => run_walk(rt.alloc(), program, WalkDir::at(rt, folder)?, &mut out)?,
+        OnDisk::Walk(program) => {
+            run_walk(rt.alloc(), program, WalkDir::at(rt, folder)?, &mut out)?
+        }
     }
     let text = from_utf8(out.as_slice()).unwrap_or("");
     Ok(text.replace(rt.alloc(), folder, "t")?)
@@ -254,7 +262,7 @@ fn totals_of_the_disk(rt: HostRuntime) -> Result<(), Fail> {
     ];
     let folder = folder(&rt, "usage", FILES)?;
     let wanted = "files 3 dirs 3 links 0 others 0 errors 0 bytes 19\n";
-    assert!(rt; shows(&rt, OnDisk::Totals, &folder, wanted));
+    assert!(rt; shows(&rt, OnDisk::Walk(OverWalk::Totals), &folder, wanted));
     Ok(())
 }
 
@@ -294,6 +302,6 @@ fn the_newest_files(rt: HostRuntime) -> Result<(), Fail> {
         set_written(&rt, &format!(in rt.alloc(); "{folder}/{name}")?, seconds)?;
     }
     let wanted = "30 t/s/b\n20 t/a\n10 t/s/c\n";
-    assert!(rt; shows(&rt, OnDisk::Newest, &folder, wanted));
+    assert!(rt; shows(&rt, OnDisk::Walk(OverWalk::Newest), &folder, wanted));
     Ok(())
 }

@@ -153,8 +153,6 @@ fn refused<R: Host>(
     }
 }
 
-/// Returns how many requests were refused one after another until five walks of the row met no refusal, or `None` if
-/// one came out wrong.
 fn plays_on<R: Host>(
     rt: &R,
     memory: Memory,
@@ -178,7 +176,8 @@ fn plays_on<R: Host>(
     None
 }
 
-/// Plays the row on a crew of two, which the memory is for too.
+/// Returns how many requests were refused one after another until five walks of the row met no refusal, or `None` if
+/// one came out wrong. The walks are on a crew of two, which the memory is for too.
 fn plays<R: Host>(rt: &R, row: &Row, many: usize) -> Option<usize> {
     let memory: Memory = Box::leak(Box::new(rt.alloc(), Refusing::new(rt.alloc())).ok()?);
     let fs = Arc::new(rt.alloc(), tree(rt.alloc(), row.steps).ok()?).ok()?;

@@ -127,8 +127,6 @@ fn tries(alloc: Global, fs: &impl FileSystem, failing: &Failing) -> (bool, usize
     (is_listed, failing.gate.lists().wrapping_sub(before))
 }
 
-/// Returns whether one directory is tried for at most 100 milliseconds, the next ones once each, and more often again
-/// after one was listed.
 fn is_patient_once(alloc: Global, fs: &impl FileSystem, failing: &Failing, slept: &Slept) -> bool {
     failing.gate.fail(1_000_000);
     let (is_listed, often) = tries(alloc, fs, failing);
@@ -142,6 +140,8 @@ fn is_patient_once(alloc: Global, fs: &impl FileSystem, failing: &Failing, slept
     is_over_soon && is_once && is_listed_again && is_tried_again
 }
 
+/// Returns whether one directory is tried for at most 100 milliseconds, the next ones once each, and more often again
+/// after one was listed.
 fn is_tried_once(alloc: Global, number: i32) -> Option<bool> {
     let slept = Slept::not_yet();
     let failing = failing_with(alloc, number)?;

@@ -69,7 +69,6 @@ fn stuck_tree<R: Host>(rt: &R) -> Option<Gated<Stuck<R>>> {
     })
 }
 
-/// The walk is dropped while a call that reads ahead blocks. Its place must be free then.
 fn is_free_after<R: Host>(
     alloc: Global,
     asked: &ByCrew<'_, Gated<Stuck<R>>>,
@@ -83,6 +82,7 @@ fn is_free_after<R: Host>(
     Ok(was_stuck && is_free)
 }
 
+/// The walk is dropped while a call that reads ahead blocks. Its place must be free then.
 fn is_dropped<R: Host>(rt: &R) -> Option<bool> {
     let alloc = rt.alloc();
     let asked = ByCrew {
