@@ -1,5 +1,5 @@
 -- The meaning of words, by the values of options.
-use Rattle.std.specs.Prelude.{◌≡◌, ◌⊎◌, ℕ, ◌==◌, Bool, ◌&&◌, ◌||◌, true, false, List, [], ◌++◌, map, bytes_eq, codes, Option, Some, None, option_map, unwrap_or, if◌then◌else◌}
+use Rattle.std.specs.Prelude.{◌≡◌, ◌⊎◌, ℕ, ◌==◌, Bool, ◌&&◌, ◌||◌, true, false, List, [], ◌++◌, map, bytes_eq, codes, Option, Some, None, option_map, unwrap_or}
 use Rattle.std.specs.List.{list_any}
 use Rattle.clap.specs.Words.{Row, Text, first_of, one_of}
 use Rattle.program_parts.specs.Values.{is_named, values_in, texts_of, IsNumberOf}
@@ -8,7 +8,7 @@ use Rattle.seek_words.specs.Owner.{owner_in}
 use Rattle.seek_words.specs.Size.{size_in}
 use Rattle.seek_words.specs.Time.{time_in}
 use Rattle.seek_words.specs.declared.case.Case.{Case}
-use Rattle.seek_words.specs.declared.case.Case.TheVariants.{Smart, Ignored, Kept}
+use Rattle.seek_words.specs.declared.case.Case.TheVariants.{Ignored, Kept}
 use Rattle.seek_words.specs.declared.color.Color.{Color}
 use Rattle.seek_words.specs.declared.color.Color.TheVariants.{Auto}
 use Rattle.seek_words.specs.declared.depths.Depths.{Depths}
