@@ -253,6 +253,12 @@ fn asked_of<'w>(alloc: Global, found: &ArgMatches<'w>) -> Result<Asked<'w>, Refu
     ensures asked { IfOk result (Asks (rows_of (found_of found.now))) }
     ensures refused { IfErr result (IsRefusedValue (rows_of (found_of found.now))) }
 {
+    let sizes = sizes_named(alloc, found)?;
+    let owner = owner_named(found)?;
+    let changed_within = time_named(found, "changed-within")?;
+    let changed_before = time_named(found, "changed-before")?;
+    let color = color_of(found)?;
+    let kinds = kinds_named(alloc, found)?;
     let (glob, fixed) = readings_of(found);
     Ok(Asked {
         pattern: pattern_of(found),
@@ -271,12 +277,12 @@ fn asked_of<'w>(alloc: Global, found: &ArgMatches<'w>) -> Result<Asked<'w>, Refu
         one_file_system: is_named(found, "one-file-system"),
         sort: is_named(found, "sort"),
         depths: depths_of(found),
-        kinds: kinds_named(alloc, found)?,
+        kinds,
         extensions: values_of(alloc, found, "extension")?,
-        sizes: sizes_named(alloc, found)?,
-        owner: owner_named(found)?,
-        changed_within: time_named(found, "changed-within")?,
-        changed_before: time_named(found, "changed-before")?,
+        sizes,
+        owner,
+        changed_within,
+        changed_before,
         newer_than: value_of(found, "newer-than-file"),
         prune: is_named(found, "prune"),
         times: Times::ANY,
@@ -285,7 +291,7 @@ fn asked_of<'w>(alloc: Global, found: &ArgMatches<'w>) -> Result<Asked<'w>, Refu
         quiet: is_named(found, "quiet"),
         absolute: is_on(found, "absolute-path", "relative-path"),
         details: is_named(found, "list-details"),
-        color: color_of(found)?,
+        color,
         colored: false,
         path_separator: value_of(found, "path-separator"),
         print0: is_named(found, "print0"),
