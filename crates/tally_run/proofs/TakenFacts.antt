@@ -1,6 +1,6 @@
 -- What is taken of subtotals tells of all of them.
 use Rattle.std.proofs.Common.{◌≡◌, ◌∙◌, ℕ, zero, suc, Bool, true, false, not, ◌&&◌, ◌||◌, List, [], ◌∷◌, ◌++◌, Option, None, Some, Ok, Err, is_some, length, refl, sym, ap, ap₂}
-use Rattle.std.specs.Prelude.{flat_map, nat_le, ◌==◌, if◌then◌else◌, option_and_then}
+use Rattle.std.specs.Prelude.{nat_le, ◌==◌, if◌then◌else◌, option_and_then}
 use Rattle.std.specs.List.{list_all}
 use Rattle.std.proofs.lemmas.Grind.{flat_map-append}
 use Rattle.jwalk.specs.jwalk_model.declared.metadata.Identity.{Identity}

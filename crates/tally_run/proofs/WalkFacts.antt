@@ -1,5 +1,5 @@
 -- What is counted of a walk doesn't go by its states.
-use Rattle.std.proofs.Common.{◌≡◌, ◌∙◌, ℕ, Bool, true, false, List, [], ◌∷◌, ◌++◌, ◌&&◌, map, Option, None, Some, Ok, Err, refl, sym, ap, ap₂, subst}
+use Rattle.std.proofs.Common.{◌≡◌, ◌∙◌, ℕ, Bool, true, false, List, [], ◌∷◌, ◌++◌, ◌&&◌, map, Option, None, Some, Ok, Err, refl, sym, ap, ap₂, subst, Result}
 use Rattle.std.specs.Prelude.{flat_map, if◌then◌else◌}
 use Rattle.std.specs.Iterator.{Drains}
 use Rattle.std.specs.List.{list_all}
@@ -12,6 +12,8 @@ use Rattle.jwalk.specs.jwalk_model.FileSystem.{Functions}
 use Rattle.jwalk.specs.jwalk_model.Walk.{whole_walk}
 use Rattle.jwalk.specs.jwalk_fs.declared.file_system.FileSystem as FileSystem
 use Rattle.jwalk.specs.jwalk_job.declared.process_read_dir.ProcessReadDir as ProcessReadDir
+use Rattle.jwalk.specs.jwalk_job.declared.dir_entry.DirEntry.{DirEntry}
+use Rattle.jwalk.specs.jwalk_job.declared.error.Error.{Error}
 use Rattle.jwalk.specs.jwalk_job.Given.{Given, counted_item}
 use Rattle.jwalk.specs.jwalk_job.Job.{IsSteady}
 use Rattle.jwalk.specs.jwalk_readings.declared.readers.Readers as Readers
@@ -35,7 +37,7 @@ use Rattle.tally_run.specs.Counting.{TakesAll, is_clean}
 use Rattle.tally_words.specs.declared.asked.Asked.{Asked}
 use Rattle.tally_run.specs.Results.{Row, Takes, row_of, rows_of}
 use Rattle.tally_run.specs.Shown.{shown_asked}
-use Rattle.tally_run.specs.Walks.{CountsBelow, CountsWalk, all_below, counted_below, kept_below, subtotals_asked, subtotals_taken}
+use Rattle.tally_run.specs.Walks.{CallsOf, CountsAnswers, CountsBelow, CountsWalk, all_below, counted_below, kept_below, subtotals_asked, subtotals_taken}
 use Rattle.tally_run.specs.declared.counting.Counted.{Counted}
 use Rattle.tally_run.specs.declared.results.Results.{Results}
 use Rattle.tally_run.specs.declared.shown.Shown.{Shown}
@@ -61,10 +63,10 @@ module _ {R E V W : Type 0} (view : R → V) (mark : E → W) (shown : Shown) wh
   all_clean (y ∷ ys) = ap₂ (λ (a b : Bool). a && b) (one_clean y) (all_clean ys)
 
 -- what is counted of a walk is counted of what it yields by value
-pub below_counted : {C S P A W L R E : Type 0} (files : FileSystem.Ghosts S) (process : ProcessReadDir.Ghosts P C A R E) (clone : Clone.Ghosts R) (defaults : Default.Ghosts E) (readers : Readers.Ghosts L C S P A R E) (walk : WalkDirGeneric C S P A W R E) (given : Given R E) (fixed : Type 0) (below : List (Item Worth Worth)) (asked : Asked) (known : List Identity) (old new : Results) (before after : Option (List ℕ)) (counted : Counted)
+pub below_counted : {C S P A W L R E : Type 0} (files : FileSystem.Ghosts S) (process : ProcessReadDir.Ghosts P C A R E) (clone : Clone.Ghosts R) (defaults : Default.Ghosts E) (calls : CallsOf C S P A L R E) (walk : WalkDirGeneric C S P A W R E) (given : Given R E) (fixed : Type 0) (below : List (Item Worth Worth)) (asked : Asked) (known : List Identity) (old new : Results) (before after : Option (List ℕ)) (counted : Counted)
     → (fixed → IsSteady files process clone defaults (file_system_of walk) (callback_of walk) given) → (fixed → whole_walk (job_for files given walk) (root_of walk) (given.read_dir_state (state_of walk)) ≡ below)
-    → CountsWalk files process clone defaults readers walk asked known old before new after counted → CountsBelow fixed below asked known old before new after counted
-below_counted files process clone defaults readers walk given fixed below asked known old new before after counted steady is counts =
+    → CountsWalk files process clone defaults calls walk asked known old before new after counted → CountsBelow fixed below asked known old before new after counted
+below_counted files process clone defaults calls walk given fixed below asked known old new before after counted steady is counts =
     let o = subtotals_asked asked in
     let shown = shown_asked asked in
     record {
@@ -97,27 +99,38 @@ kept_counted fs texts asked root is = ap (λ (b : Bool). if b then kept_below fs
 pub all_counted : (fs : Functions) (texts : Texts) (asked : Asked) (root : List ℕ) → asked.ignore ≡ false → all_below fs asked root ≡ counted_below fs texts asked root
 all_counted fs texts asked root is = ap (λ (b : Bool). if b then kept_below fs texts asked root else all_below fs asked root) (sym is)
 
+-- what is taken of the subtotals of answers, from the beginning until the end, is counted of them
+pub answers_counted : {C A I R E : Type 0} (next : I → Option (Result (DirEntry C A R E) (Error A)) → I → Type 0) (answers : I) (asked : Asked) (known : List Identity) (old new : Results) (before after : Option (List ℕ)) (counted : Counted) (start end : Subtotals C A I R E) (shown : Shown)
+    → IsFreshBeside known start → answers_of start ≡ answers → options_of start ≡ subtotals_taken asked → shown ≡ shown_asked asked
+    → TakesAll (Gives next) shown start end old before new after counted.clean → HaveSame (files_of counted.files) (held end).files
+    → CountsAnswers next answers asked known old before new after counted
+answers_counted next answers asked known old new before after counted start end shown fresh same options shown_is took remembered =
+    let all = all_yielded_beside next known start end took.yielded fresh took.calls took.goes_on in
+    let xs = all.0 in
+    let told : subtotals_beside (subtotals_taken asked) known (map item xs) ≡ flat_map value took.yielded = ap (λ s. subtotals_beside s known (map item xs)) (sym options) ∙ all.2 in
+    record {
+      yielded = xs;
+      drains = subst (λ i. Drains next i xs) same all.1;
+      taken = subst (λ (rows : List Row). Takes rows old before new after) (ap₂ (λ s l. rows_of s l) shown_is (sym told) ∙ rows_taken asked known (map item xs)) took.taken;
+      tells = took.tells ∙ ap (list_all is_clean) (sym told) ∙ clean_taken asked known (map item xs);
+      remembered = λ i. remembered i ∙ all.3 i ∙ ap (λ s. is_among (files_after s known (map item xs)) i) options ∙ ap (λ files. is_among files i) (files_taken asked known (map item xs));
+    }
+
 module _ {C S P A W L R E : Type 0} (files : FileSystem.Ghosts S) (process : ProcessReadDir.Ghosts P C A R E) (clone : Clone.Ghosts R) (defaults : Default.Ghosts E) (readers : Readers.Ghosts L C S P A R E) (walk : WalkDirGeneric C S P A W R E) (it : DirEntryIter C S P A L R E) where
-  -- what is taken of the subtotals of a walk, from its beginning until its end, is counted of it
-  pub walk_counted : (asked : Asked) (known : List Identity) (old new : Results) (before after : Option (List ℕ)) (counted : Counted) (start end : Subtotals C A (DirEntryIter C S P A L R E) R E) (shown : Shown) (why_not : Option NotStarted)
+  -- what is counted of the answers of a walk is counted of the walk
+  pub walk_counted : (asked : Asked) (known : List Identity) (old new : Results) (before after : Option (List ℕ)) (counted : Counted) (why_not : Option NotStarted)
       → Starts walk it → HoldsUnless files process clone defaults why_not walk it → StartsSteady files process clone defaults readers it
-      → IsFreshBeside known start → answers_of start ≡ it → options_of start ≡ subtotals_taken asked → shown ≡ shown_asked asked
-      → TakesAll (Gives (Answers files process clone defaults readers)) shown start end old before new after counted.clean → HaveSame (files_of counted.files) (held end).files
-      → CountsWalk files process clone defaults readers walk asked known old before new after counted
-  walk_counted asked known old new before after counted start end shown why_not starts holds steadily fresh same options shown_is took remembered =
-      let next = Answers files process clone defaults readers in
-      let o = subtotals_taken asked in
-      let all = all_yielded_beside next known start end took.yielded fresh took.calls took.goes_on in
-      let xs = all.0 in
-      let drains = subst (λ i. Drains next i xs) same all.1 in
-      let told : subtotals_beside o known (map item xs) ≡ flat_map value took.yielded = ap (λ s. subtotals_beside s known (map item xs)) (sym options) ∙ all.2 in
+      → CountsAnswers (Answers files process clone defaults readers) it asked known old before new after counted
+      → CountsWalk files process clone defaults (Answers files process clone defaults readers) walk asked known old before new after counted
+  walk_counted asked known old new before after counted why_not starts holds steadily counts =
+      let xs = counts.yielded in
       record {
         answered = map item xs;
-        walked = (it, starts, xs, drains, refl);
+        walked = (it, starts, xs, counts.drains, refl);
         whole = λ is given steady.
-            clean_whole files process clone defaults readers given walk it xs why_not holds (steady_begun files process clone defaults readers given walk it steadily starts steady) starts steady drains
-            (answers_ok o known xs (flat_map value took.yielded) told (sym took.tells ∙ is));
-        taken = subst (λ (rows : List Row). Takes rows old before new after) (ap₂ (λ s l. rows_of s l) shown_is (sym told) ∙ rows_taken asked known (map item xs)) took.taken;
-        tells = took.tells ∙ ap (list_all is_clean) (sym told) ∙ clean_taken asked known (map item xs);
-        remembered = λ i. remembered i ∙ all.3 i ∙ ap (λ s. is_among (files_after s known (map item xs)) i) options ∙ ap (λ files. is_among files i) (files_taken asked known (map item xs));
+            clean_whole files process clone defaults readers given walk it xs why_not holds (steady_begun files process clone defaults readers given walk it steadily starts steady) starts steady counts.drains
+            (answers_ok (subtotals_asked asked) known xs (subtotals_beside (subtotals_asked asked) known (map item xs)) refl (sym counts.tells ∙ is));
+        taken = counts.taken;
+        tells = counts.tells;
+        remembered = counts.remembered;
       }

@@ -18,8 +18,6 @@ use Rattle.jwalk.specs.jwalk_job.Entry.{item}
 use Rattle.jwalk.specs.jwalk_job.Given.{Given, counted_item}
 use Rattle.jwalk.specs.jwalk_job.Job.{IsSteady}
 use Rattle.jwalk.specs.DirEntryIter.{DirEntryIter}
-use Rattle.jwalk.specs.jwalk_readings.declared.readers.Readers as Readers
-use Rattle.jwalk.specs.jwalk_iter.DirEntryIter.{Answers}
 use Rattle.jwalk.specs.WalkDir.{Starts, callback_of, file_system_of, job_for, root_of, state_of}
 use Rattle.jwalk.specs.declared.walk_dir.WalkDirGeneric.{WalkDirGeneric}
 use Rattle.jwalk_ignore.specs.Callback.Excluding.{Excluded, excluded_by, excluding}
@@ -77,15 +75,27 @@ kept_below fs texts asked root = ignoring_walk fs texts (settings_asked asked) (
 abbrev pub counted_below : Functions → Texts → Asked → List ℕ → List (Item Worth Worth)
 counted_below fs texts asked root = if asked.ignore then kept_below fs texts asked root else all_below fs asked root
 
+-- An iterator yielded answers until its end, and what is written of their subtotals is taken, beside the files that were counted before. It is known whether one has an error.
+pub record CountsAnswers {C A I R E : Type 0} (next : I → Option (Result (DirEntry C A R E) (Error A)) → I → Type 0) (answers : I) (asked : Asked) (known : List Identity) (old : Results) (before : Option (List ℕ)) (new : Results) (after : Option (List ℕ)) (counted : Counted) : Type 0 where
+  pub yielded : List (Result (DirEntry C A R E) (Error A))
+  pub drains : Drains next answers yielded
+  pub taken : Takes (rows_of (shown_asked asked) (subtotals_beside (subtotals_asked asked) known (map item yielded))) old before new after
+  pub tells : counted.clean ≡ list_all is_clean (subtotals_beside (subtotals_asked asked) known (map item yielded))
+  pub remembered : HaveSame (files_of counted.files) (files_after (subtotals_asked asked) known (map item yielded))
+
+-- the relation of one call of a walk: the walk, the answer, and the walk after the call
+abbrev pub CallsOf : (C S P A L R E : Type 0) → Type 1
+CallsOf C S P A L R E = DirEntryIter C S P A L R E → Option (Result (DirEntry C A R E) (Error A)) → DirEntryIter C S P A L R E → Type 0
+
 -- A walk was begun and yielded these answers until its end.
-abbrev pub WalkYields : {C S P A W L R E : Type 0} → FileSystem.Ghosts S → ProcessReadDir.Ghosts P C A R E → Clone.Ghosts R → Default.Ghosts E → Readers.Ghosts L C S P A R E → WalkDirGeneric C S P A W R E → List (Item R E) → Type 0
-WalkYields {C} {S} {P} {A} {W} {L} {R} {E} files process clone defaults readers walk answered =
-    (it : DirEntryIter C S P A L R E) × Starts walk it × (yielded : List (Result (DirEntry C A R E) (Error A))) × Drains (Answers files process clone defaults readers) it yielded × (map item yielded ≡ answered)
+abbrev pub WalkYields : {C S P A W L R E : Type 0} → CallsOf C S P A L R E → WalkDirGeneric C S P A W R E → List (Item R E) → Type 0
+WalkYields {C} {S} {P} {A} {W} {L} {R} {E} calls walk answered =
+    (it : DirEntryIter C S P A L R E) × Starts walk it × (yielded : List (Result (DirEntry C A R E) (Error A))) × Drains calls it yielded × (map item yielded ≡ answered)
 
 -- A walk yielded answers until its end, and what is written of their subtotals is taken, beside the files that were counted before. It is known whether one has an error. If none has, and what the walk goes over always answers the same, the answers are the whole walk.
-pub record CountsWalk {C S P A W L R E : Type 0} (files : FileSystem.Ghosts S) (process : ProcessReadDir.Ghosts P C A R E) (clone : Clone.Ghosts R) (defaults : Default.Ghosts E) (readers : Readers.Ghosts L C S P A R E) (walk : WalkDirGeneric C S P A W R E) (asked : Asked) (known : List Identity) (old : Results) (before : Option (List ℕ)) (new : Results) (after : Option (List ℕ)) (counted : Counted) : Type 0 where
+pub record CountsWalk {C S P A W L R E : Type 0} (files : FileSystem.Ghosts S) (process : ProcessReadDir.Ghosts P C A R E) (clone : Clone.Ghosts R) (defaults : Default.Ghosts E) (calls : CallsOf C S P A L R E) (walk : WalkDirGeneric C S P A W R E) (asked : Asked) (known : List Identity) (old : Results) (before : Option (List ℕ)) (new : Results) (after : Option (List ℕ)) (counted : Counted) : Type 0 where
   pub answered : List (Item R E)
-  pub walked : WalkYields files process clone defaults readers walk answered
+  pub walked : WalkYields calls walk answered
   pub whole : counted.clean ≡ true → (given : Given R E) → IsSteady files process clone defaults (file_system_of walk) (callback_of walk) given
       → map (counted_item given) answered ≡ whole_walk (job_for files given walk) (root_of walk) (given.read_dir_state (state_of walk))
   pub taken : Takes (rows_of (shown_asked asked) (subtotals_beside (subtotals_asked asked) known answered)) old before new after

@@ -1,5 +1,6 @@
 //! The subtotals of a walk, taken one after another.
 ghost use Rattle.std.specs.Prelude.{◌≡◌, false, IfOk, OnOk};
+ghost use Rattle.std.specs.Iterator.{IsFinite};
 ghost use Rattle.std.specs.List.{list_all};
 ghost use Rattle.jwalk.specs.WalkDir.{callback_of};
 ghost use Rattle.jwalk_subtotals.specs.Coming.{ends_with, value, CanGoOn, Gives};
@@ -7,7 +8,7 @@ ghost use Rattle.jwalk_subtotals.specs.Error.{is_last};
 ghost use Rattle.jwalk_subtotals.specs.Files.{files_of};
 ghost use Rattle.tally_run.specs.Results.{rows_of, Takes};
 ghost use Rattle.tally_run.specs.Counting.{is_clean, TakesAll};
-ghost use Rattle.tally_run.specs.Walks.{subtotals_taken, CountsWalk};
+ghost use Rattle.tally_run.specs.Walks.{subtotals_taken, CountsAnswers, CountsWalk};
 
 use crate::failure::Failure;
 use crate::progress::Report;
@@ -15,11 +16,11 @@ use crate::report::{report_entry, report_error};
 use crate::results::Results;
 use crate::screen::Screen;
 use crate::shown::Shown;
-use jwalk::crew::{Readers, Session};
+use jwalk::crew::Session;
 use jwalk::error::Result as Answer;
 use jwalk::file_system::FileSystem;
 use jwalk::read_dir::ProcessReadDir;
-use jwalk::{ClientState, Crew, DirEntry, Host, WalkDirGeneric};
+use jwalk::{ClientState, Crew, DirEntry, DirEntryIter, Host, WalkDirGeneric};
 use jwalk_subtotals::iter::Subtotals;
 use jwalk_subtotals::{Files, SubtotalError, SubtotalOptions, WithSubtotal, subtotals_beside};
 use program_parts::halt::Halt;
@@ -146,6 +147,46 @@ fn options_of(asked: &Asked<'_>) -> SubtotalOptions
     }
 }
 
+/// Counts a walk's answers beside the files that were counted before.
+fn count_answers<
+    C: ClientState,
+    I: Iterator<Item = Answer<DirEntry<C, Global>, Global>> + Drop,
+    W: Write,
+    E: Report,
+>(
+    alloc: Global,
+    screen: Screen,
+    answers: I,
+    files: Files<Global>,
+    asked: &Asked<'_>,
+    results: &mut Results,
+    out: &mut W,
+    err: &mut E,
+) -> Result<Counted, Failure>
+    requires can { I.can_next answers }
+    requires ends { IsFinite (I.remaining answers) }
+    ensures { IfOk result (CountsAnswers I.next_gives answers asked.now (files_of files) results.old (W.contents out.old)
+        results.new (W.contents out.new)) }
+{
+    let mut subtotals = subtotals_beside(alloc, files, answers, options_of(asked));
+    let clean = take_all(
+        alloc,
+        screen,
+        &mut subtotals,
+        Shown::of(asked),
+        results,
+        out,
+        err,
+    )?;
+    Ok(Counted {
+        files: subtotals.take_files(),
+        clean,
+    })
+}
+
+/// A walk under way that a crew may read for.
+type CrewWalk<T, C, S, P> = DirEntryIter<C, S, P, Global, Session<T, C, S, P, Global>>;
+
 /// Begins a walk that a crew may read for, and counts it beside the files that were counted before.
 pub(crate) fn count_walk<
     T: Host,
@@ -169,22 +210,9 @@ where
     C::DirEntryState: Send + 'static,
     requires { P.IsLawful (callback_of walk) }
     ensures { IfOk result (CountsWalk S.FileSystem P.ProcessReadDir C.ReadDirState.Clone C.DirEntryState.Default
-        ⟦<Session<T, C, S, P, Global> as Readers<C, S, P, Global>>⟧ walk asked.now (files_of files)
+        ⟦<CrewWalk<T, C, S, P> as Iterator>⟧.next_gives walk asked.now (files_of files)
         results.old (W.contents out.old) results.new (W.contents out.new)) }
 {
     let answers = walk.into_iter();
-    let mut subtotals = subtotals_beside(alloc, files, answers, options_of(asked));
-    let clean = take_all(
-        alloc,
-        screen,
-        &mut subtotals,
-        Shown::of(asked),
-        results,
-        out,
-        err,
-    )?;
-    Ok(Counted {
-        files: subtotals.take_files(),
-        clean,
-    })
+    count_answers(alloc, screen, answers, files, asked, results, out, err)
 }
