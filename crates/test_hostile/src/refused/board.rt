@@ -3,12 +3,13 @@ use crate::refused::memory::{Memory, Play, Player, all_are_right, is};
 use jwalk_board::board::{Board, FinishFault, FinishRefusal, HandOutRefusal, TakeRefusal};
 use jwalk_order::index_path::IndexPath;
 use jwalk_order::ordered::Ordered;
+use std::alloc::Allocator;
 
 type Names<'m> = Board<&'static str, &'static str, Memory<'m>>;
 
 type Item<'m> = Ordered<&'static str, Memory<'m>>;
 
-fn counts(board: &Names<'_>) -> [usize; 4] {
+fn counts<T: Drop, R: Drop, A: Allocator + Copy>(board: &Board<T, R, A>) -> [usize; 4] {
     [
         board.queued(),
         board.in_hand(),

@@ -176,12 +176,25 @@ fn plays_on<R: Host>(
     None
 }
 
+fn memory(alloc: Global) -> Option<Memory> {
+    Some(Box::leak(Box::new(alloc, Refusing::new(alloc)).ok()?))
+}
+
+fn tree_of(alloc: Global, row: &Row) -> Option<Arc<MemoryFs>> {
+    Arc::new(alloc, tree(alloc, row.steps).ok()?).ok()
+}
+
+/// Returns a crew of two, which the memory is for too.
+fn crew_of_two<R: Host>(rt: &R, memory: Memory) -> Option<Arc<Crew<R>, Memory>> {
+    Arc::new(memory, Crew::new(rt.clone().ok()?, 1, 2)).ok()
+}
+
 /// Returns how many requests were refused one after another until five walks of the row met no refusal, or `None` if
-/// one came out wrong. The walks are on a crew of two, which the memory is for too.
+/// one came out wrong.
 fn plays<R: Host>(rt: &R, row: &Row, many: usize) -> Option<usize> {
-    let memory: Memory = Box::leak(Box::new(rt.alloc(), Refusing::new(rt.alloc())).ok()?);
-    let fs = Arc::new(rt.alloc(), tree(rt.alloc(), row.steps).ok()?).ok()?;
-    let pool = Arc::new(memory, Crew::new(rt.clone().ok()?, 1, 2)).ok()?;
+    let memory = memory(rt.alloc())?;
+    let fs = tree_of(rt.alloc(), row)?;
+    let pool = crew_of_two(rt, memory)?;
     plays_on(rt, memory, &fs, &pool, row, many)
 }
 
