@@ -334,6 +334,7 @@ def speed(folder):
         ("/usr by size, 4 threads", [[PROGRAM, "-j4", "-S", "+1M", ".", "/usr"], fd + ["-j4", "-S", "+1M", ".", "/usr"], ["find", "/usr", "-type", "f", "-size", "+999999c"]]),
         ("/usr by size without ignore files, 4 threads", [[PROGRAM, "-HI", "-j4", "-S", "+1M", ".", "/usr"], fd + ["-HI", "-j4", "-S", "+1M", ".", "/usr"], ["find", "/usr", "-type", "f", "-size", "+999999c"]]),
         ("/usr by size, one thread", [[PROGRAM, "-HI", "-j1", "-S", "+1M", ".", "/usr"], fd + ["-HI", "-j1", "-S", "+1M", ".", "/usr"], ["find", "/usr", "-type", "f", "-size", "+999999c"]]),
+        ("/usr by time without ignore files, 4 threads", [[PROGRAM, "-HI", "-j4", "--changed-within", "1d", ".", "/usr"], fd + ["-HI", "-j4", "--changed-within", "1d", ".", "/usr"], ["find", "/usr", "-mtime", "-1"]]),
         ("/usr by time, 4 threads", [[PROGRAM, "-j4", "--changed-within", "1d", ".", "/usr"], fd + ["-j4", "--changed-within", "1d", ".", "/usr"], ["find", "/usr", "-mtime", "-1"]]),
     ]
     for name, rows in tables:
