@@ -71,10 +71,12 @@ $ seek --no-hidden -H git /r
   /r/lib/.gitignore
 $ seek -H --no-hidden -H ^.git /r/lib
   /r/lib/.gitignore
-$ seek -u --ignore o$|git /r/lib
+$ seek -u --ignore o$|git /r
+  /r/.gitignore
   /r/lib/.gitignore
   /r/lib/keep.o
-$ seek -u --no-hidden o$|git /r/lib
+$ seek -u --no-hidden o$|git /r
+  /r/a.o
   /r/lib/keep.o
   /r/lib/b.o
 # rules of exclude and words of a call
