@@ -13,6 +13,9 @@ use std::sync::{Arc, Wait};
 use std::thread::{Threads, available_parallelism};
 use std::time::Clock;
 
+/// How many directories are read ahead at most: enough for all threads but one, while that one lists a large directory.
+const READ_AHEAD: usize = 8192;
+
 /// A walk that has not begun, with the states of ignore files.
 pub type Plain<T, S> = WalkDirGeneric<KeptStates, Arc<S>, NoProcess, Global, Crew<T>>;
 
@@ -44,7 +47,8 @@ pub fn crew_of<T: Wait + Threads + Clock + Clone + Drop>(
     if threads < 2 {
         return Ok(None);
     }
-    Ok(Some(Arc::new(alloc, Crew::new(rt.clone()?, 1, threads))?))
+    let crew = Crew::new(rt.clone()?, 1, threads).with_read_ahead(READ_AHEAD);
+    Ok(Some(Arc::new(alloc, crew)?))
 }
 
 /// Returns the walk below a root with these options, without a callback. If there is a crew, it reads the directories.
