@@ -35,13 +35,7 @@ use std::time::Duration;
 /// system, `P` the callback (`NoProcess` for none), and `A` the allocator. `W` is the crew that reads ahead, `NoCrew`
 /// for none.
 #[derive(Drop)]
-pub struct WalkDirGeneric<
-    C: ClientState,
-    S: FileSystem,
-    P: ProcessReadDir<C, A>,
-    A: Allocator + Copy = Global,
-    W = NoCrew,
-> {
+pub struct WalkDirGeneric<C: ClientState, S, P, A: Allocator + Copy = Global, W = NoCrew> {
     fs: S,
     root: String<A>,
     process: P,

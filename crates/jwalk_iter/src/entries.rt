@@ -16,7 +16,7 @@ use jwalk_readings::readings::Readings;
 use std::alloc::{AllocError, Allocator};
 
 /// A walk under way: an iterator over its entries and errors, in strict depth-first order.
-pub struct Entries<C: ClientState, A: Allocator + Copy, B: Readings<C, A>> {
+pub struct Entries<C: ClientState, A: Allocator + Copy, B> {
     reads: B,
     // What was received and not yet passed on, the next one last.
     items: List<C, A>,
@@ -24,7 +24,7 @@ pub struct Entries<C: ClientState, A: Allocator + Copy, B: Readings<C, A>> {
     refused: bool,
 }
 
-impl<C: ClientState, A: Allocator + Copy, B: Readings<C, A>> Drop for Entries<C, A, B> {
+impl<C: ClientState, A: Allocator + Copy, B: Drop> Drop for Entries<C, A, B> {
     fn drop(self) {
         let Entries {
             reads: _,

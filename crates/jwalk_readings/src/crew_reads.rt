@@ -31,13 +31,7 @@ use std::sync::Arc;
 
 /// Readings in preorder, which a crew makes ahead. It keeps which address comes next, and which directory is there.
 /// Only a reading of this directory, made by the same options, is handed on.
-pub struct CrewReads<
-    C: ClientState,
-    S: FileSystem,
-    P: ProcessReadDir<C, A>,
-    A: Allocator + Copy = Global,
-    L = NoCrew,
-> {
+pub struct CrewReads<C: ClientState, S, P, A: Allocator + Copy = Global, L = NoCrew> {
     job: Arc<Job<C, S, P, A>, A>,
     matcher: OrderedMatcher<A>,
     // The directories whose readings are still to be handed on, the next one last.
@@ -46,7 +40,7 @@ pub struct CrewReads<
     readers: Option<L>,
 }
 
-impl<C: ClientState, S: FileSystem, P: ProcessReadDir<C, A>, A: Allocator + Copy, L: Drop> Drop
+impl<C: ClientState, S: Drop, P: Drop, A: Allocator + Copy, L: Drop> Drop
     for CrewReads<C, S, P, A, L> {
     fn drop(self) {
         let CrewReads {
