@@ -1,6 +1,7 @@
 -- What fits behind a star, and what is left of a pattern behind its front.
-use Rattle.std.proofs.Common.{◌∙◌, add-one, ◌≡◌, ℕ, suc, ◌+◌, List, [], ◌∷◌, ◌++◌, length, drop, map, ap, subst, sym, refl, ◌↔◌, arith}
+use Rattle.std.proofs.Common.{◌∙◌, add-one, ◌≡◌, ℕ, suc, ◌+◌, List, [], ◌∷◌, ◌++◌, length, take, drop, map, ap, subst, sym, refl, ◌↔◌, arith, append_assoc, take-append-drop}
 use Prim.Native.Nat.{zero}
+use Rattle.std.specs.Borrow.{Bor}
 use Rattle.std.specs.Prelude.{min}
 use Rattle.std.proofs.lemmas.List.{drop_all, drop-append-le, drop-drop, drop_min, map-append}
 use Rattle.std.proofs.Math.Seq.{drop-nil}
@@ -9,7 +10,7 @@ use Rattle.jwalk_ignore_rules.specs.declared.pattern.part.Part.{Part}
 use Rattle.jwalk_ignore_rules.specs.declared.pattern.part.Part.TheVariants.{Many, One}
 use Rattle.jwalk_ignore_rules.specs.declared.pattern.taken.Taken.{Taken}
 use Rattle.jwalk_ignore_rules.specs.declared.pattern.taken.Taken.TheVariants.{Misfit, Whole, ToStar}
-use Rattle.jwalk_ignore_rules.specs.Pattern.Fits.{Fits, part_map}
+use Rattle.jwalk_ignore_rules.specs.Pattern.Fits.{Fits, FirstFits, LastFits, part_map}
 
 module _ {T X : Type 0} (takes : T → X → Type 0) where
   -- what fits behind a star later on fits behind it earlier
@@ -40,36 +41,45 @@ module _ {T X : Type 0} (takes : T → X → Type 0) where
       let none : drop n items ≡ items = ap (drop n) is ∙ drop-nil n ∙ sym is in
       not_here (subst (λ (xs : List X). Fits takes parts xs) none fits)
 
-  module _ (parts : List (Part T)) (test : T) (behind : List (Part T)) (is : parts ≡ One test ∷ behind) where
-    -- nothing fits a part that takes one item where none is left
-    pub none_left : (items : List X) → items ≡ [] → Fits takes parts items → ⊥
-    none_left items none fits =
+  -- a star that is the last part takes all items
+  pub all_behind : (parts : List (Part T)) (items : List X) → length parts ≡ 0 → Fits takes (Many ∷ parts) items
+  all_behind [] items none = (length items, drop_all (length items) items (omega arith))
+  all_behind (part ∷ parts) items some = absurd (omega arith)
+
+  module _ (parts : List (Part T)) (test : T) (behind : List (Part T)) (is : parts ≡ One test ∷ behind) (items : List X) where
+    -- a first item that doesn't fit, or none
+    pub first_unfit : ((after : List X) → FirstFits (takes test) items after → ⊥) → Fits takes parts items → ⊥
+    first_unfit unfit fits =
         let at_one = subst (λ (ps : List (Part T)). Fits takes ps items) is fits in
-        let clash : at_one.0 ∷ at_one.1 ≡ [] = sym at_one.2 ∙ none in
-        cc
+        unfit at_one.1 (at_one.0, at_one.2, at_one.3)
 
-    module _ (items : List X) (item : X) (after : List X) (first : items ≡ item ∷ after) where
-      -- an item that doesn't fit
-      pub first_unfit : (takes test item → ⊥) → Fits takes parts items → ⊥
-      first_unfit unfit fits =
-          let at_one = subst (λ (ps : List (Part T)). Fits takes ps items) is fits in
-          let same : item ≡ at_one.0 = cc in
-          unfit (subst (λ (x : X). takes test x) (sym same) at_one.3)
-
+    module _ (after : List X) (first : FirstFits (takes test) items after) where
       -- one item taken
-      pub one_enough : takes test item → Fits takes behind after → Fits takes parts items
-      one_enough fit fits = subst (λ (ps : List (Part T)). Fits takes ps items) (sym is) (item, after, first, fit, fits)
+      pub one_enough : Fits takes behind after → Fits takes parts items
+      one_enough fits = subst (λ (ps : List (Part T)). Fits takes ps items) (sym is) (first.0, after, first.1, first.2, fits)
 
       -- a pattern behind a part fits one item later
       pub one_later : (n : ℕ) → Fits takes parts (drop n items) → Fits takes behind (drop n after)
       one_later n fits =
           let at_one = subst (λ (ps : List (Part T)). Fits takes ps (drop n items)) is fits in
-          let e : drop (suc n) items ≡ drop n after = ap (drop (suc n)) first in
+          let e : drop (suc n) items ≡ drop n after = ap (drop (suc n)) first.1 in
           let rest : at_one.1 ≡ drop n after =
           ap (drop 1) (sym at_one.2) ∙ drop-drop 1 n items ∙ ap (λ (k : ℕ). drop k items) (add-one n) ∙ e in subst (λ (xs : List X). Fits takes behind xs) rest at_one.4
 
 -- a pattern whose last part takes one item
 module _ {T X : Type 0} (takes : T → X → Type 0) (test : T) where
+  -- it takes the last item
+  pub some_last : (parts : List (Part T)) (items : List X) → Fits takes (parts ++ One test ∷ []) items → (front : List X) × LastFits (takes test) items front
+  some_last [] items (item, rest, is, fit, none) = ([], (item, is ∙ ap (λ (xs : List X). item ∷ xs) none, fit))
+  some_last (Many ∷ parts) items (n, fits) =
+      let (front, (last, at_end, fit)) = some_last parts (drop n items) fits in
+      let all : items ≡ (take n items ++ front) ++ last ∷ [] =
+      sym (take-append-drop n items) ∙ ap (λ (xs : List X). take n items ++ xs) at_end ∙ sym (append_assoc (take n items) front (last ∷ [])) in
+      (take n items ++ front, (last, all, fit))
+  some_last (One first ∷ parts) items (item, rest, is, one, fits) =
+      let (front, (last, at_end, fit)) = some_last parts rest fits in
+      (item ∷ front, (last, is ∙ ap (λ (xs : List X). item ∷ xs) at_end, fit))
+
   -- it fits no list that is empty
   pub last_none : (parts : List (Part T)) → Fits takes (parts ++ One test ∷ []) [] → ⊥
   last_none [] (item, rest, is, fit, none) = cc
@@ -114,52 +124,69 @@ module _ {T X : Type 0} (takes : T → X → Type 0) (test : T) where
         (item, rest ++ last ∷ [], ap (λ (xs : List X). xs ++ last ∷ []) is, one, fits_last fit parts rest fits)
 
 module _ {T X : Type 0} (takes : T → X → Type 0) (parts : List (Part T)) (front : List (Part T)) (test : T) (is : parts ≡ front ++ One test ∷ []) where
-  -- nothing fits a last part that takes one item where there is none
-  pub none_at_end : (items : List X) → items ≡ [] → Fits takes parts items → ⊥
-  none_at_end items none fits =
-      last_none takes test front (subst (λ (xs : List X). Fits takes (front ++ One test ∷ []) xs) none (subst (λ (ps : List (Part T)). Fits takes ps items) is fits))
+  -- the last part takes the last item
+  pub last_taken : (items : List X) → Fits takes parts items → (before : List X) × LastFits (takes test) items before
+  last_taken items fits = some_last takes test front items (subst (λ (ps : List (Part T)). Fits takes ps items) is fits)
 
-  module _ (items : List X) (before : List X) (last : X) (at_end : items ≡ before ++ last ∷ []) where
-    -- the last part takes the last item, and the others the others
-    pub both_fit : Fits takes parts items → takes test last × Fits takes front before
-    both_fit fits =
-        last_fits takes test last front before (subst (λ (xs : List X). Fits takes (front ++ One test ∷ []) xs) at_end (subst (λ (ps : List (Part T)). Fits takes ps items) is fits))
+  -- a last item that doesn't fit, or none
+  pub last_unfit : (items : List X) → ((before : List X) → LastFits (takes test) items before → ⊥) → Fits takes parts items → ⊥
+  last_unfit items unfit fits = let (before, taken) = last_taken items fits in unfit before taken
 
-    -- a last item that doesn't fit
-    pub last_unfit : (takes test last → ⊥) → Fits takes parts items → ⊥
-    last_unfit unfit fits = unfit (both_fit fits).0
+  -- a last item taken
+  pub without_last : (items before : List X) → LastFits (takes test) items before → Fits takes parts items ↔ Fits takes front before
+  without_last items before (last, at_end, fit) = (
+    (λ fits.
+        (last_fits takes test last front before (subst (λ (xs : List X). Fits takes (front ++ One test ∷ []) xs) at_end (subst (λ (ps : List (Part T)). Fits takes ps items) is fits))).1),
+    (λ fits. subst (λ (ps : List (Part T)). Fits takes ps items) (sym is) (subst (λ (xs : List X). Fits takes (front ++ One test ∷ []) xs) (sym at_end) (fits_last takes test last fit front before fits))),
+  )
 
-    -- a last item taken
-    pub without_last : takes test last → Fits takes parts items ↔ Fits takes front before
-    without_last fit = (
-      (λ fits. (both_fit fits).1),
-      (λ fits. subst (λ (ps : List (Part T)). Fits takes ps items) (sym is) (subst (λ (xs : List X). Fits takes (front ++ One test ∷ []) xs) (sym at_end) (fits_last takes test last fit front before fits))),
-    )
+module _ {T X : Type 0} (takes : T → X → Type 0) (items : List ℕ → List X) where
+  -- what decides a fact decides what is the same
+  pub decides_same : (taken : Taken T) (all other : Type 0) → all ↔ other → Decides takes items taken other → Decides takes items taken all
+  decides_same Misfit all other same decides = λ h. decides (same.0 h)
+  decides_same Whole all other same decides = same.1 decides
+  decides_same (ToStar behind left) all other same decides = ((λ h. decides.0 (same.0 h)), (λ h. same.1 (decides.1 h)))
 
-module _ {T S X : Type 0} (value : T → S) (takes : S → X → Type 0) (items : List ℕ → List X) where
-  -- parts by value, of which the first is known
-  pub mapped : (rest : List (Part T)) (part : Part T) (behind : List (Part T)) (p : Part T) → rest ≡ part ∷ behind → part ≡ p
-      → map (part_map value) rest ≡ part_map value p ∷ map (part_map value) behind
-  mapped rest part behind p is same = ap (map (part_map value)) is ∙ ap (λ q. part_map value q ∷ map (part_map value) behind) same
+  -- what is neither all nor goes to a star doesn't fit
+  pub misfits : (taken : Taken T) → (taken ≡ Whole → ⊥) → ((behind : Bor (List (Part T))) → (left : Bor (List ℕ)) → taken ≡ ToStar behind left → ⊥)
+      → (all : Type 0) → Decides takes items taken all → all → ⊥
+  misfits Misfit not_whole to_no_star all decides = decides
+  misfits Whole not_whole to_no_star all decides = absurd (not_whole refl)
+  misfits (ToStar behind left) not_whole to_no_star all decides = absurd (to_no_star behind left refl)
 
   -- what is taken of a text decides what fits it behind a star
-  pub behind_decides : (taken : Taken T) → (taken ≡ Misfit → ⊥) → (parts : List (Part S)) (text : List X) (all : Type 0)
-      → all ↔ Fits takes (Many ∷ parts) text → Decides value takes items taken (Fits takes parts text) → LeavesLater value takes items taken parts text
-      → Decides value takes items taken all
+  pub behind_decides : (taken : Taken T) → (taken ≡ Misfit → ⊥) → (parts : List (Part T)) (text : List X) (all : Type 0) → all ↔ Fits takes (Many ∷ parts) text
+      → Decides takes items taken (Fits takes parts text) → LeavesLater takes items taken parts text → Decides takes items taken all
   behind_decides Misfit fit parts text all same decides later = absurd (fit refl)
   behind_decides Whole fit parts text all same decides later = same.1 (star_here takes parts text decides)
   behind_decides (ToStar behind left) fit parts text all same decides later = (
-    (λ h. let at = same.0 h in star_earlier takes (map (part_map value) behind.now) (items left.now) at.0 (later at.0 at.1)),
+    (λ h. let at = same.0 h in star_earlier takes behind.now (items left.now) at.0 (later at.0 at.1)),
     (λ h. same.1 (star_here takes parts text (decides.1 h))),
   )
 
+module _ {T S : Type 0} (value : T → S) where
   -- parts by value, of which the last is known
   pub mapped_last : (rest front : List (Part T)) (part p : Part T) → rest ≡ front ++ part ∷ [] → part ≡ p
       → map (part_map value) rest ≡ map (part_map value) front ++ part_map value p ∷ []
   mapped_last rest front part p is same =
       ap (map (part_map value)) is ∙ map-append (part_map value) front (part ∷ []) ∙ ap (λ q. map (part_map value) front ++ part_map value q ∷ []) same
 
-  -- a star that is the last part takes all items
-  pub all_behind : (parts : List (Part T)) (text : List X) → length parts ≡ 0 → Fits takes (Many ∷ map (part_map value) parts) text
-  all_behind [] text none = (length text, drop_all (length text) text (omega arith))
-  all_behind (part ∷ parts) text some = absurd (omega arith)
+  -- what fits parts fits them by value
+  module _ {X : Type 0} (takes : S → X → Type 0) where
+    same_fits : (parts : List (Part T)) (items : List X) → Fits (λ test item. takes (value test) item) parts items ↔ Fits takes (map (part_map value) parts) items
+    same_fits [] items = ((λ none. none), (λ none. none))
+    same_fits (Many ∷ parts) items = (
+      (λ fits. (fits.0, (same_fits parts (drop fits.0 items)).0 fits.1)),
+      (λ fits. (fits.0, (same_fits parts (drop fits.0 items)).1 fits.1)),
+    )
+    same_fits (One test ∷ parts) items = (
+      (λ fits. (fits.0, fits.1, fits.2, fits.3, (same_fits parts fits.1).0 fits.4)),
+      (λ fits. (fits.0, fits.1, fits.2, fits.3, (same_fits parts fits.1).1 fits.4)),
+    )
+
+    pub by_value : {Yes : Type 0} (parts own : List (Part T)) (items : List X) → parts ≡ own
+        → Yes ↔ Fits (λ test item. takes (value test) item) parts items → Yes ↔ Fits takes (map (part_map value) own) items
+    by_value {Yes} parts own items is decides =
+        let same = same_fits own items in
+        let fits = subst (λ (ps : List (Part T)). Yes ↔ Fits (λ test item. takes (value test) item) ps items) is decides in
+        ((λ yes. same.0 (fits.0 yes)), (λ all. fits.1 (same.1 all)))

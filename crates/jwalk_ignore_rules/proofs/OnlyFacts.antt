@@ -9,7 +9,7 @@ use Rattle.jwalk_ignore_rules.specs.Pattern.Names.{names_of}
 use Rattle.jwalk_ignore_rules.specs.Pattern.{EndsWith, Pattern}
 use Rattle.jwalk_ignore_rules.specs.declared.pattern.part.Part.{Part}
 use Rattle.jwalk_ignore_rules.specs.declared.pattern.part.Part.TheVariants.{One}
-use Rattle.jwalk_ignore_rules.proofs.FitsFacts.{both_fit, none_at_end}
+use Rattle.jwalk_ignore_rules.proofs.FitsFacts.{last_taken}
 use Rattle.jwalk_ignore_rules.proofs.NamesFacts.{last_byte, same_last}
 
 -- a part that takes one byte
@@ -41,31 +41,23 @@ module _ {X : Type 0} where
 
 -- where all names that fit the last part end with one byte, so do the paths that fit
 pub ends_with_byte : (parts front : List (Part (List (Part ByteTest)))) (glob : List (Part ByteTest)) (byte : ℕ) → parts ≡ front ++ One glob ∷ [] → EachEndsWith glob byte → LastByteIs parts byte
-ends_with_byte parts front glob byte is each before last other fits = at_last (by_last (names_of (before ++ last ∷ []))) where
-  at_last : ByLast (names_of (before ++ last ∷ [])) → last ≡ byte
-  at_last (inl none) = absurd (none_at_end IsNamed parts front glob is (names_of (before ++ last ∷ [])) none fits)
-  at_last (inr (names, name, at_end)) =
-      let own = each name (both_fit IsNamed parts front glob is (names_of (before ++ last ∷ [])) names name at_end fits).0 in
-      let end = last_byte (before ++ last ∷ []) before last refl other names name at_end in
-      same_last end.0 own.0 last byte (sym end.1 ∙ own.1)
+ends_with_byte parts front glob byte is each before last other fits =
+    let (names, (name, at_end, fit)) = last_taken IsNamed parts front glob is (names_of (before ++ last ∷ [])) fits in
+    let own = each name fit in
+    let end = last_byte (before ++ last ∷ []) before last refl other names name at_end in
+    same_last end.0 own.0 last byte (sym end.1 ∙ own.1)
 
 -- a pattern whose last part is a byte takes names that end with it
 pub each_ends_with : (glob front : List (Part ByteTest)) (byte : ℕ) → glob ≡ front ++ One (Byte byte) ∷ [] → EachEndsWith glob byte
-each_ends_with glob front byte is name fits = at_last (by_last name) where
-  at_last : ByLast name → (before : List ℕ) × (name ≡ before ++ byte ∷ [])
-  at_last (inl none) = absurd (none_at_end TakesByte glob front (Byte byte) is name none fits)
-  at_last (inr (before, last, at_end)) =
-      let fit = (both_fit TakesByte glob front (Byte byte) is name before last at_end fits).0 in
-      (before, at_end ∙ ap (λ (b : ℕ). before ++ b ∷ []) (sym ((Decides-eqb byte last).0 fit)))
+each_ends_with glob front byte is name fits =
+    let (before, (last, at_end, fit)) = last_taken TakesByte glob front (Byte byte) is name fits in
+    (before, at_end ∙ ap (λ (b : ℕ). before ++ b ∷ []) (sym ((Decides-eqb byte last).0 fit)))
 
 -- where the last part takes one name alone, all paths that fit end with it
 pub ends_with : (p : Pattern) (front : List (Part (List (Part ByteTest)))) (glob : List (Part ByteTest)) (name : List ℕ) → p.parts ≡ front ++ One glob ∷ [] → TakesOnly glob name → EndsWith p name
-ends_with p front glob name is only path is_dir (dirs, fits) = at_last (by_last (names_of path)) where
-  at_last : ByLast (names_of path) → (before : List (List ℕ)) × (names_of path ≡ before ++ name ∷ [])
-  at_last (inl none) = absurd (none_at_end IsNamed p.parts front glob is (names_of path) none fits)
-  at_last (inr (before, last, at_end)) =
-      let both = both_fit IsNamed p.parts front glob is (names_of path) before last at_end fits in
-      (before, at_end ∙ ap (λ (n : List ℕ). before ++ n ∷ []) (only last both.0))
+ends_with p front glob name is only path is_dir (dirs, fits) =
+    let (before, (last, at_end, fit)) = last_taken IsNamed p.parts front glob is (names_of path) fits in
+    (before, at_end ∙ ap (λ (n : List ℕ). before ++ n ∷ []) (only last fit))
 
 -- what holds of a name holds of it where there is one
 pub on_some : {T F : Type 0} (P Q : T → Type 0) → ((x : T) → P x → Q x) → (r : Result (Option T) F) → IfOk r (λ o. IfSome o P) → IfOk r (λ o. IfSome o Q)

@@ -13,13 +13,13 @@ mod byte_test;
 mod class;
 mod class_item;
 mod glob;
-mod glob_search;
 mod item_read;
-mod name_search;
+mod item_test;
 pub(crate) mod names;
 mod names_read;
 mod part;
 pub(crate) mod pieces;
+mod search;
 mod taken;
 mod token;
 
@@ -181,6 +181,13 @@ impl<A: Allocator + Copy> Pattern<A> {
         }
     }
 
+    /// Returns whether the names of a path fit the parts of the pattern.
+    fn fits(&self, path: &[u8]) -> bool
+        ensures { IsTrue result ↔ IsReached (globs_value self.now.parts.items) (names_of path.now) }
+    {
+        search::fits(&self.parts, path)
+    }
+
     /// Returns whether the pattern matches a path. `is_dir` says whether that is of a directory.
     pub fn matches(&self, path: &[u8], is_dir: bool) -> bool
         ensures { IsTrue result ↔ Matches (pattern_value self.now) path.now is_dir }
@@ -188,6 +195,6 @@ impl<A: Allocator + Copy> Pattern<A> {
         if self.only_dirs && !is_dir || !self.may_end(path) {
             return false;
         }
-        name_search::fits(&self.parts, path)
+        self.fits(path)
     }
 }

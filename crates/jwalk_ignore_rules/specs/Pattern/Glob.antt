@@ -2,11 +2,9 @@
 use Rattle.std.specs.Prelude.{◌≡◌, ◌++◌, ℕ, List, [], ◌∷◌, IsTrue, map}
 use Rattle.jwalk_ignore_rules.specs.Pattern.ByteTest.{ByteTest, test_value, fits, in_either_case}
 use Rattle.jwalk_ignore_rules.specs.Pattern.Fits.{Fits, part_map}
-use Rattle.jwalk_ignore_rules.specs.Pattern.Taken.{Decides, LeavesLater}
 use Rattle.jwalk_ignore_rules.specs.declared.pattern.byte_test.ByteTest.{ByteTest as CodeTest}
 use Rattle.jwalk_ignore_rules.specs.declared.pattern.glob.Glob.{Glob}
 use Rattle.jwalk_ignore_rules.specs.declared.pattern.part.Part.{Part}
-use Rattle.jwalk_ignore_rules.specs.declared.pattern.taken.Taken.{Taken}
 
 -- a test takes a byte that fits
 abbrev pub TakesByte : ByteTest → ℕ → Type 0
@@ -35,11 +33,3 @@ TakesOnly glob name = (other : List ℕ) → IsNamed glob other → other ≡ na
 -- the same pattern with letters in either case
 abbrev pub glob_in_either_case : List (Part ByteTest) → List (Part ByteTest)
 glob_in_either_case glob = map (part_map in_either_case) glob
-
--- what was taken of a name decides whether all fits, or what is left does
-abbrev pub GlobDecides : {A : Type 0} → Taken (CodeTest A) → Type 0 → Type 0
-GlobDecides taken all = Decides test_value TakesByte (λ name. name) taken all
-
--- what is left later fits what is left later
-abbrev pub GlobLeavesLater : {A : Type 0} → Taken (CodeTest A) → List (Part ByteTest) → List ℕ → Type 0
-GlobLeavesLater taken parts name = LeavesLater test_value TakesByte (λ rest. rest) taken parts name

@@ -4,10 +4,8 @@ use Rattle.jwalk_ignore_rules.specs.Pattern.ByteTest.{ByteTest}
 use Rattle.jwalk_ignore_rules.specs.Pattern.Glob.{glob_value, IsNamed}
 use Rattle.jwalk_ignore_rules.specs.Pattern.Names.{names_of}
 use Rattle.jwalk_ignore_rules.specs.Pattern.Fits.{Fits, part_map}
-use Rattle.jwalk_ignore_rules.specs.Pattern.Taken.{Decides, LeavesLater}
 use Rattle.jwalk_ignore_rules.specs.declared.pattern.glob.Glob.{Glob}
 use Rattle.jwalk_ignore_rules.specs.declared.pattern.part.Part.{Part}
-use Rattle.jwalk_ignore_rules.specs.declared.pattern.taken.Taken.{Taken}
 
 -- parts by value
 abbrev pub globs_value : {A : Type 0} → List (Part (Glob A)) → List (Part (List (Part ByteTest)))
@@ -20,11 +18,3 @@ IsReached parts names = Fits IsNamed parts names
 -- each path that fits ends with this byte, unless it ends with a slash
 abbrev pub LastByteIs : List (Part (List (Part ByteTest))) → ℕ → Type 0
 LastByteIs parts byte = (front : List ℕ) → (last : ℕ) → last ≢ 47 → IsReached parts (names_of (front ++ last ∷ [])) → last ≡ byte
-
--- what was taken of a path decides whether all fits, or what is left does
-abbrev pub PathDecides : {A : Type 0} → Taken (Glob A) → Type 0 → Type 0
-PathDecides taken all = Decides glob_value IsNamed names_of taken all
-
--- what is left later fits what is left later
-abbrev pub PathLeavesLater : {A : Type 0} → Taken (Glob A) → List (Part (List (Part ByteTest))) → List (List ℕ) → Type 0
-PathLeavesLater taken parts names = LeavesLater glob_value IsNamed names_of taken parts names

@@ -58,19 +58,39 @@ impl ByteClass {
         if name == b"xdigit".as_slice() {
             return Some(ByteClass::Xdigit);
         }
-        match name {
-            b"alnum" => Some(ByteClass::Alnum),
-            b"alpha" => Some(ByteClass::Alpha),
-            b"blank" => Some(ByteClass::Blank),
-            b"cntrl" => Some(ByteClass::Cntrl),
-            b"digit" => Some(ByteClass::Digit),
-            b"graph" => Some(ByteClass::Graph),
-            b"lower" => Some(ByteClass::Lower),
-            b"print" => Some(ByteClass::Print),
-            b"punct" => Some(ByteClass::Punct),
-            b"space" => Some(ByteClass::Space),
-            b"upper" => Some(ByteClass::Upper),
-            _ => None,
+        if name == b"alnum".as_slice() {
+            return Some(ByteClass::Alnum);
         }
+        if name == b"alpha".as_slice() {
+            return Some(ByteClass::Alpha);
+        }
+        if name == b"blank".as_slice() {
+            return Some(ByteClass::Blank);
+        }
+        if name == b"cntrl".as_slice() {
+            return Some(ByteClass::Cntrl);
+        }
+        if name == b"digit".as_slice() {
+            return Some(ByteClass::Digit);
+        }
+        if name == b"graph".as_slice() {
+            return Some(ByteClass::Graph);
+        }
+        if name == b"lower".as_slice() {
+            return Some(ByteClass::Lower);
+        }
+        if name == b"print".as_slice() {
+            return Some(ByteClass::Print);
+        }
+        if name == b"punct".as_slice() {
+            return Some(ByteClass::Punct);
+        }
+        if name == b"space".as_slice() {
+            return Some(ByteClass::Space);
+        }
+        if name == b"upper".as_slice() {
+            return Some(ByteClass::Upper);
+        }
+        None
     }
 }

@@ -1,7 +1,8 @@
 //! What one byte of a name is compared with.
-ghost use Rattle.std.specs.Prelude.{◌≡◌};
+ghost use Rattle.std.specs.Prelude.{◌≡◌, ℕ};
 
 use crate::pattern::class::Class;
+use crate::pattern::item_test::ItemTest;
 use std::alloc::{Allocator, Global};
 
 /// Which bytes fit at one place of a name.
@@ -39,5 +40,32 @@ impl<A: Allocator + Copy> ByteTest<A> {
             ByteTest::OneOf(class) => class.ignore_case(),
             ByteTest::EitherCase(_) | ByteTest::Any => {}
         }
+    }
+}
+
+/// A test of bytes takes a byte of a name.
+impl<A: Allocator + Copy> ItemTest for ByteTest<A> {
+    ghost use Rattle.jwalk_ignore_rules.specs.Pattern.ByteTest.{test_value};
+    ghost use Rattle.jwalk_ignore_rules.specs.Pattern.Glob.{TakesByte};
+
+    ghost Item = { ℕ };
+
+    ghost items = { λ name. name };
+
+    ghost takes = { λ test byte. TakesByte (test_value test) byte };
+
+    fn take_first<'t>(&self, text: &'t [u8]) -> Option<&'t [u8]> {
+        let (byte, behind) = text.split_first()?;
+        if self.fits(*byte) { Some(behind) } else { None }
+    }
+
+    fn take_last<'t>(&self, text: &'t [u8]) -> Option<&'t [u8]> {
+        let (byte, front) = text.split_last()?;
+        if self.fits(*byte) { Some(front) } else { None }
+    }
+
+    fn skip_first<'t>(text: &'t [u8]) -> Option<&'t [u8]> {
+        let (_, behind) = text.split_first()?;
+        Some(behind)
     }
 }

@@ -1,7 +1,7 @@
 //! Classes of bytes in brackets.
-ghost use Rattle.std.specs.Prelude.{◌≡◌, ◌<◌, [], length, IfOk, IfSome};
+ghost use Rattle.std.specs.Prelude.{◌≡◌, ◌<◌, ◌≤◌, [], length, IfOk, IfSome};
 ghost use Rattle.std.specs.Option.{option_map};
-ghost use Rattle.jwalk_ignore_rules.specs.Pattern.Class.{closes, items_in};
+ghost use Rattle.jwalk_ignore_rules.specs.Pattern.Class.{class_in, class_of, closes, items_in};
 ghost use Rattle.jwalk_ignore_rules.specs.Pattern.ClassItem.{lists};
 
 use crate::pattern::class_item::ClassItem;
@@ -46,6 +46,17 @@ fn read_items<A: Allocator + Copy>(
     Ok(None)
 }
 
+/// Returns whether a class is of all other bytes, by its first byte, and the text of its items.
+fn negation_in(text: &[u8]) -> (bool, &[u8])
+    ensures class { class_in text.now ≡ class_of result.0 (items_in [] None 0 result.1.now) }
+    ensures within { length result.1.now ≤ length text.now }
+{
+    match text.split_first() {
+        Some((byte, behind)) if *byte == b'!' || *byte == b'^' => (true, behind),
+        _ => (false, text),
+    }
+}
+
 /// A class of bytes, as `[a-z]`, or `[!a-z]` and `[^a-z]` for all other bytes.
 #[derive(Drop)]
 pub(crate) struct Class<A: Allocator + Copy = Global> {
@@ -64,10 +75,7 @@ impl<A: Allocator + Copy> Class<A> {
         ensures read { IfOk result (λ r. option_map (λ x. (class_value x.0, x.1.now)) r ≡ class_in text.now) }
         ensures shorter { IfOk result (λ r. IfSome r (λ x. length x.1.now < length text.now)) }
     {
-        let (negated, listed) = match text {
-            [b'!' | b'^', behind @ ..] => (true, behind),
-            _ => (false, text),
-        };
+        let (negated, listed) = negation_in(text);
         match read_items(alloc, listed)? {
             Some((items, behind)) => Ok(Some((
                 Class {

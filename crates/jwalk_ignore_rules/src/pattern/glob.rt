@@ -1,12 +1,14 @@
 //! Patterns of one name.
-ghost use Rattle.std.specs.Prelude.{◌≡◌, ◌↔◌, IfOk, IfSome, IsTrue};
+ghost use Rattle.std.specs.Prelude.{◌≡◌, ◌↔◌, ℕ, List, IfOk, IfSome, IsTrue};
 ghost use Rattle.std.specs.Option.{ForSome};
 ghost use Rattle.jwalk_ignore_rules.specs.Pattern.ByteTest.{in_either_case, test_value};
 ghost use Rattle.jwalk_ignore_rules.specs.Pattern.Fits.{part_map};
 
 use crate::pattern::byte_test::ByteTest;
-use crate::pattern::glob_search;
+use crate::pattern::item_test::ItemTest;
+use crate::pattern::names::{split_last_name, split_name};
 use crate::pattern::part::Part;
+use crate::pattern::search;
 use std::alloc::{AllocError, Allocator, Global};
 
 /// A pattern of one name, as `*.o`.
@@ -66,6 +68,33 @@ impl<A: Allocator + Copy> Glob<A> {
     pub(crate) fn fits(&self, name: &[u8]) -> bool
         ensures { IsTrue result ↔ IsNamed (glob_value self.now) name.now }
     {
-        glob_search::fits(&self.parts, name)
+        search::fits(&self.parts, name)
+    }
+}
+
+/// A pattern of one name takes a name of a path.
+impl<A: Allocator + Copy> ItemTest for Glob<A> {
+    ghost use Rattle.jwalk_ignore_rules.specs.Pattern.Glob.{glob_value, IsNamed};
+    ghost use Rattle.jwalk_ignore_rules.specs.Pattern.Names.{names_of};
+
+    ghost Item = { List ℕ };
+
+    ghost items = { names_of };
+
+    ghost takes = { λ glob name. IsNamed (glob_value glob) name };
+
+    fn take_first<'t>(&self, text: &'t [u8]) -> Option<&'t [u8]> {
+        let (name, behind) = split_name(text)?;
+        if self.fits(name) { Some(behind) } else { None }
+    }
+
+    fn take_last<'t>(&self, text: &'t [u8]) -> Option<&'t [u8]> {
+        let (front, name) = split_last_name(text)?;
+        if self.fits(name) { Some(front) } else { None }
+    }
+
+    fn skip_first<'t>(text: &'t [u8]) -> Option<&'t [u8]> {
+        let (_, behind) = split_name(text)?;
+        Some(behind)
     }
 }

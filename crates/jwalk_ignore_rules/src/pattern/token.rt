@@ -17,7 +17,7 @@ pub(crate) enum Token<A: Allocator + Copy> {
 }
 
 impl<A: Allocator + Copy> Token<A> {
-    ghost use Rattle.jwalk_ignore_rules.specs.Pattern.Token.{class_token, escaped_token, plain_token, token_in, token_read, token_value};
+    ghost use Rattle.jwalk_ignore_rules.specs.Pattern.Token.{class_token, escaped_in, escaped_token, plain_token, token_in, token_read, token_value};
 
     fn escaped(byte: u8) -> Self
         ensures { token_value result ≡ escaped_token byte }
@@ -40,6 +40,17 @@ impl<A: Allocator + Copy> Token<A> {
         }
     }
 
+    /// Reads a byte behind a backslash. None if there is none.
+    fn escaped_in(text: &[u8]) -> Option<(Self, &[u8])>
+        ensures read { option_map token_read result ≡ escaped_in text.now }
+        ensures shorter { IfSome result (λ x. length x.1.now < length text.now) }
+    {
+        match text {
+            [] => None,
+            [byte, behind @ ..] => Some((Token::escaped(*byte), behind)),
+        }
+    }
+
     /// Reads a class behind its opening bracket.
     fn read_class(alloc: A, text: &[u8]) -> Result<Option<(Self, &[u8])>, AllocError>
         ensures read { IfOk result (λ r. option_map token_read r ≡ class_token text.now) }
@@ -59,11 +70,13 @@ impl<A: Allocator + Copy> Token<A> {
         ensures read { IfOk result (λ r. option_map token_read r ≡ token_in text.now) }
         ensures shorter { IfOk result (λ r. IfSome r (λ x. length x.1.now < length text.now)) }
     {
-        match text {
-            [] | [b'\\'] => Ok(None),
-            [b'\\', byte, behind @ ..] => Ok(Some((Token::escaped(*byte), behind))),
-            [b'[', behind @ ..] => Token::read_class(alloc, behind),
-            [byte, behind @ ..] => Ok(Some((Token::plain(*byte), behind))),
+        let Some((byte, behind)) = text.split_first() else {
+            return Ok(None);
+        };
+        match *byte {
+            b'\\' => Ok(Token::escaped_in(behind)),
+            b'[' => Token::read_class(alloc, behind),
+            _ => Ok(Some((Token::plain(*byte), behind))),
         }
     }
 }
