@@ -11,7 +11,7 @@ use std::io::ErrorKind;
 
 /// A disk on which a link that leads nowhere is its own target in place of an error, if links are followed.
 #[derive(Drop)]
-pub(crate) struct KeptLinks<S: FileSystem> {
+pub(crate) struct KeptLinks<S> {
     pub(crate) disk: S,
     pub(crate) follow: bool,
 }

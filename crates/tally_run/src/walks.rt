@@ -64,7 +64,7 @@ fn count_ruled<
 
 /// What is asked for, what errors are written to, what walks go over, and how they are read.
 #[derive(Drop)]
-pub(crate) struct Walks<'a, 'w, T: Drop, S: FileSystem, X: Texts> {
+pub(crate) struct Walks<'a, 'w, T, S, X> {
     asked: &'a Asked<'w>,
     screen: Screen,
     disk: Arc<S>,

@@ -64,13 +64,13 @@ pub struct Asked<'a> {
 }
 
 /// A crew, and a file system for its walks.
-pub struct Stand<R: Drop, S: FileSystem> {
+pub struct Stand<R, S> {
     pub alloc: Global,
     pub crew: Arc<Crew<R>>,
     pub fs: Arc<S>,
 }
 
-impl<R: Drop, S: FileSystem> Drop for Stand<R, S> {
+impl<R: Drop, S: Drop> Drop for Stand<R, S> {
     fn drop(self) {
         let Stand {
             alloc: _,

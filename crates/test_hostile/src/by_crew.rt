@@ -106,7 +106,7 @@ impl Visit<((), ()), Global> for Takes {
 
 /// A walk to make: its file system, its root and its options.
 #[derive(Drop)]
-pub struct ByCrew<'a, S: FileSystem> {
+pub struct ByCrew<'a, S> {
     /// The file system that the walk reads.
     pub fs: Arc<S>,
     /// The root.

@@ -72,7 +72,7 @@ fn count_read<S: FileSystem, P: ProcessReadDir<((), Size), Global>>(
 
 /// A walk that has not begun, and the file system that is asked for sizes.
 #[derive(Drop)]
-struct Asked<'a, S: FileSystem> {
+struct Asked<'a, S> {
     root: &'a str,
     min_depth: usize,
     fs: &'a S,

@@ -40,7 +40,7 @@ use std::mem;
 ///
 /// If memory runs out, the callback fails with that.
 #[derive(Drop)]
-pub struct IgnoreFiles<T: Texts, P: Drop = NoProcess> {
+pub struct IgnoreFiles<T, P = NoProcess> {
     reader: RulesReader<T>,
     next: P,
 }

@@ -19,7 +19,7 @@ pub type KeptStates = ((Chain, ()), ());
 /// callback within it, and has a short type of its own: a function over any texts that begins a walk is proved with
 /// this one.
 #[derive(Drop)]
-pub struct KeptRules<X: Texts> {
+pub struct KeptRules<X> {
     pub rules: IgnoreFiles<Arc<X>, Excluding>,
 }
 

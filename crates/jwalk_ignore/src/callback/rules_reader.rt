@@ -27,7 +27,7 @@ use std::sync::Arc;
 
 /// Texts, and how the rules in them are used.
 #[derive(Drop)]
-pub(crate) struct RulesReader<T: Texts> {
+pub(crate) struct RulesReader<T> {
     pub(crate) texts: T,
     pub(crate) settings: Settings,
 }
