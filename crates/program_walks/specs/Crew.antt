@@ -1,7 +1,19 @@
--- The crew that reads directories.
-use Rattle.std.specs.Prelude.{Bool, if◌then◌else◌}
+-- The crew that reads directories, and a walk that it may read for.
+use Rattle.std.specs.Prelude.{Bool, Option, Result, if◌then◌else◌}
 use Rattle.jwalk_model.specs.Options.{serial, crew, Options, with_parallelism}
+use Rattle.jwalk.specs.jwalk_job.declared.dir_entry.DirEntry.{DirEntry}
+use Rattle.jwalk.specs.jwalk_job.declared.error.Error.{Error}
+use Rattle.jwalk.specs.DirEntryIter.{DirEntryIter}
+use Rattle.jwalk.specs.declared.crew.Session.{Session}
 
 -- the options of a walk by how its directories are read: by a crew, or one at a time
 abbrev pub with_crew : Bool → Options → Options
 with_crew reads options = with_parallelism (if reads then crew else serial) options
+
+-- the relation of one call of a walk: the walk, the answer, and the walk after the call
+abbrev pub CallsOf : (C S P A L R E : Type 0) → Type 1
+CallsOf C S P A L R E = DirEntryIter C S P A L R E → Option (Result (DirEntry C A R E) (Error A)) → DirEntryIter C S P A L R E → Type 0
+
+-- the same of a walk that a crew may read for
+abbrev pub CrewCallsOf : (T C S P A R E : Type 0) → Type 1
+CrewCallsOf T C S P A R E = CallsOf C S P A (Session T C S P A R E) R E

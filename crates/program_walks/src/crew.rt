@@ -1,12 +1,15 @@
 //! The crew that reads directories.
-ghost use Rattle.std.specs.Prelude.{◌≡◌, ℕ, Some, is_some, nat_lt, string_bytes, IfOk};
+ghost use Rattle.std.specs.Prelude.{◌≡◌, ℕ, Some, is_some, min, nat_lt, string_bytes, IfOk, IfSome};
+ghost use Rattle.std.specs.Arc.{arc_value};
 ghost use Rattle.jwalk.specs.jwalk_job.Options.{options_value};
+ghost use Rattle.jwalk.specs.tree_crew.Crew.{limit_of, workers_of};
 ghost use Rattle.jwalk.specs.WalkDir.{file_system_of, root_of, state_of, options_of};
 ghost use Rattle.program_walks.specs.Crew.{with_crew};
 
+use jwalk::crew::Session;
 use jwalk::file_system::FileSystem;
 use jwalk::read_dir::NoProcess;
-use jwalk::{ClientState, Crew, Options, Parallelism, WalkDirGeneric};
+use jwalk::{ClientState, Crew, DirEntryIter, Options, Parallelism, WalkDirGeneric};
 use jwalk_ignore::kept_rules::KeptStates;
 use std::alloc::{AllocError, Allocator, Global};
 use std::sync::{Arc, Wait};
@@ -18,6 +21,9 @@ const READ_AHEAD: usize = 8192;
 
 /// A walk that has not begun, with the states of ignore files.
 pub type Plain<T, S> = WalkDirGeneric<KeptStates, Arc<S>, NoProcess, Global, Crew<T>>;
+
+/// A walk under way that a crew may read for.
+pub type CrewWalk<T, C, S, P> = DirEntryIter<C, S, P, Global, Session<T, C, S, P, Global>>;
 
 fn threads_of<T: Threads>(rt: &T, asked: Option<usize>) -> usize
     ensures { (threads : ℕ) → asked ≡ Some threads → result ≡ threads }
@@ -31,7 +37,8 @@ fn threads_of<T: Threads>(rt: &T, asked: Option<usize>) -> usize
     }
 }
 
-/// Returns a crew of as many threads as are asked for, or else as can run at a time. One thread needs no crew.
+/// Returns a crew of as many threads as are asked for, or else as can run at a time, but at most 256. One thread needs no
+/// crew. The threads read at most 8,192 directories ahead.
 ///
 /// # Errors
 ///
@@ -41,7 +48,10 @@ pub fn crew_of<T: Wait + Threads + Clock + Clone + Drop>(
     alloc: Global,
     asked: Option<usize>,
 ) -> Result<Option<Arc<Crew<T>>>, AllocError>
-    ensures { (threads : ℕ) → asked ≡ Some threads → IfOk result (λ crew. is_some crew ≡ nat_lt 1 threads) }
+    ensures crew { (threads : ℕ) → asked ≡ Some threads → IfOk result (λ crew. is_some crew ≡ nat_lt 1 threads) }
+    ensures workers { (threads : ℕ) → asked ≡ Some threads
+        → IfOk result (λ crew. IfSome crew (λ it. workers_of (arc_value it) ≡ min threads 256)) }
+    ensures read_ahead { IfOk result (λ crew. IfSome crew (λ it. limit_of (arc_value it) ≡ 8192)) }
 {
     let threads = threads_of(rt, asked);
     if threads < 2 {

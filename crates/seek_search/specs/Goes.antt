@@ -28,7 +28,7 @@ use Rattle.seek_found.specs.Found.{IfAsked}
 use Rattle.seek_found.specs.Limit.{is_hit}
 use Rattle.seek_found.specs.Prune.{unpruned}
 use Rattle.seek_found.specs.Roots.{AreBelow, Below, PrintsSuch}
-use Rattle.program_walks.specs.Crew.{with_crew}
+use Rattle.program_walks.specs.Crew.{CrewCallsOf, with_crew}
 use Rattle.jwalk.specs.jwalk_callbacks.Both.{first_of, second_of}
 use Rattle.jwalk.specs.jwalk_callbacks.declared.both.Both.{Both}
 use Rattle.jwalk_ignore.specs.Callback.Excluding.{excluded_of}
@@ -38,14 +38,9 @@ use Rattle.seek_search.specs.KeptLinks.{functions_kept}
 use Rattle.seek_search.specs.declared.kept_links.KeptLinks.{KeptLinks}
 use Rattle.jwalk_ignore.specs.declared.callback.kept_rules.KeptRules.{KeptRules}
 
--- the relation of one call of a walk that a crew may read for: the walk, the answer, and the walk after the call
-abbrev pub CallsOf : (T C S P A R E : Type 0) → Type 1
-CallsOf T C S P A R E =
-    DirEntryIter C S P A (Session T C S P A R E) R E → Option (Result (DirEntry C A R E) (Error A)) → DirEntryIter C S P A (Session T C S P A R E) R E → Type 0
-
 -- A walk with these facts was begun and called until it ended, or some calls were made if the search may stop. These
 -- are its answers, whatever the states are, without those below a find if these aren't looked for.
-pub record Yielded {T C S P A R E : Type 0} (calls : CallsOf T C S P A R E) (is : WalkDirGeneric C S P A (Crew T) R E → Type 0) (sought : Sought) (may_stop : Type 0) (answers : List (Item Worth Worth)) : Type 0 where
+pub record Yielded {T C S P A R E : Type 0} (calls : CrewCallsOf T C S P A R E) (is : WalkDirGeneric C S P A (Crew T) R E → Type 0) (sought : Sought) (may_stop : Type 0) (answers : List (Item Worth Worth)) : Type 0 where
   pub walk : WalkDirGeneric C S P A (Crew T) R E
   pub is_so : is walk
   pub it : DirEntryIter C S P A (Session T C S P A R E) R E
@@ -80,13 +75,13 @@ pub record IsHonouring {T C S B X A D Q E : Type 0} (disk : S) (texts : X) (line
   pub excluded : excluded_of (next_of (callback_of walk).rules) ≡ excluded_asked asked root
   pub begins : rules_alone (state_of walk) ≡ no_rules_yet
 
-module _ {T C S B X A D Q E G H F : Type 0} (plain : CallsOf T G (Arc S B) LeavesOut A H F) (honouring : CallsOf T C (Arc S B) (KeptRules X) A (Chain D × Q) E) where
+module _ {T C S B X A D Q E G H F : Type 0} (plain : CrewCallsOf T G (Arc S B) LeavesOut A H F) (honouring : CrewCallsOf T C (Arc S B) (KeptRules X) A (Chain D × Q) E) where
   -- The answers are those of the walk that is asked for below this root: all of them, unless the search may stop.
   abbrev pub YieldedBelow : S → X → List ℕ → Asked → Sought → Below
   YieldedBelow disk texts lines asked sought may_stop root answers =
       MatchBool asked.no_ignore (Yielded plain (IsPlain disk lines asked root) sought may_stop answers) (Yielded honouring (IsHonouring disk texts lines asked root) sought may_stop answers)
 
-module _ {T C Z B X A D Q E G H F : Type 0} (plain : CallsOf T G (Arc (KeptLinks Z) B) LeavesOut A H F) (honouring : CallsOf T C (Arc (KeptLinks Z) B) (KeptRules X) A (Chain D × Q) E) where
+module _ {T C Z B X A D Q E G H F : Type 0} (plain : CrewCallsOf T G (Arc (KeptLinks Z) B) LeavesOut A H F) (honouring : CrewCallsOf T C (Arc (KeptLinks Z) B) (KeptRules X) A (Chain D × Q) E) where
   -- The answers are those of the walks below the roots that are asked for, one root after another. Links that lead
   -- nowhere stay links.
   abbrev pub AreYielded : Z → X → List ℕ → Asked → Sought → Type 0 → List (Item Worth Worth) → Type 0

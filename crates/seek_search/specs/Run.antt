@@ -15,7 +15,8 @@ use Rattle.seek_found.specs.Sought.{IsFor, takes_by}
 use Rattle.seek_found.specs.declared.sought.Sought.{Sought}
 use Rattle.seek_found.specs.Times.{AreTimes}
 use Rattle.seek_search.specs.Based.{base_asked, functions_based, has_folder, texts_based, IsBased}
-use Rattle.seek_search.specs.Goes.{ByRead, CallsOf, FindsOne, LeavesOut, PrintsYielded}
+use Rattle.seek_search.specs.Goes.{ByRead, FindsOne, LeavesOut, PrintsYielded}
+use Rattle.program_walks.specs.Crew.{CrewCallsOf}
 use Rattle.seek_search.specs.KeptLinks.{functions_kept}
 use Rattle.seek_search.specs.RulesRead.{excludes_asked, lines_asked}
 use Rattle.user_excludes.specs.declared.home.Home.{Home}
@@ -36,7 +37,7 @@ abbrev pub PrintsAsked : Functions → Texts → Home → Screen → Asked → S
 PrintsAsked fs texts home screen asked sought =
     PrintsRead fs (with_excludes (excludes_asked texts home asked) texts) (lines_asked texts asked) screen asked sought
 
-module _ {T C Z B X A D Q E G H F : Type 0} (plain : CallsOf T G (Arc (KeptLinks Z) B) LeavesOut A H F) (honouring : CallsOf T C (Arc (KeptLinks Z) B) (KeptRules (WithExcludes X)) A (Chain D × Q) E) where
+module _ {T C Z B X A D Q E G H F : Type 0} (plain : CrewCallsOf T G (Arc (KeptLinks Z) B) LeavesOut A H F) (honouring : CrewCallsOf T C (Arc (KeptLinks Z) B) (KeptRules (WithExcludes X)) A (Chain D × Q) E) where
   -- This is searched over this disk. The times that are asked for are known. Paths are in colors if the words or the
   -- screen ask for it. A quiet search writes nothing, and finds one of the answers of its walks. Any other search prints
   -- their lines in the way that is asked for, and all answers are clean. If there is no limit, and the file system and
@@ -50,7 +51,7 @@ module _ {T C Z B X A D Q E G H F : Type 0} (plain : CallsOf T G (Arc (KeptLinks
     pub yielded : asked.quiet ≡ false → ByRead reads (λ texts lines. PrintsYielded plain honouring disk still fs texts lines screen asked (takes_by sought) old new true)
     pub prints : fixed → limit_asked asked ≡ None → PrintsAsked fs texts home screen asked sought old new
 
-module _ {T C Z B X A D Q E G H F : Type 0} (plain : CallsOf T G (Arc (KeptLinks (Based Z)) B) LeavesOut A H F) (honouring : CallsOf T C (Arc (KeptLinks (Based Z)) B) (KeptRules (WithExcludes (Based X))) A (Chain D × Q) E) where
+module _ {T C Z B X A D Q E G H F : Type 0} (plain : CrewCallsOf T G (Arc (KeptLinks (Based Z)) B) LeavesOut A H F) (honouring : CrewCallsOf T C (Arc (KeptLinks (Based Z)) B) (KeptRules (WithExcludes (Based X))) A (Chain D × Q) E) where
   -- The words ask for a search, and the names that are looked for are those of the patterns. This is searched, over the
   -- disk and the texts as they are seen from the folder that is asked for, which is one.
   pub record Searches (disk : Z) (reads : X) (still fixed : Type 0) (fs : Functions) (texts : Texts) (home : Home) (screen : Screen) (words : List (List ℕ)) (old new : Option (List ℕ)) : Type 0 where

@@ -19,10 +19,9 @@ ghost use Rattle.seek_found.specs.Roots.{AreBelow};
 ghost use Rattle.seek_found.specs.SoughtTest.{takes_of};
 
 use crate::excluded::{excluding_of, naming_of};
-use jwalk::crew::Session;
 use jwalk::file_system::FileSystem;
 use jwalk::read_dir::{Both, ProcessReadDir};
-use jwalk::{ClientState, Crew, DirEntryIter, Options, WalkDirGeneric};
+use jwalk::{ClientState, Crew, Options, WalkDirGeneric};
 use jwalk_ignore::builder::with_hidden_shown;
 use jwalk_ignore::excluding::Excluding;
 use jwalk_ignore::ignore_files::IgnoreFiles;
@@ -30,7 +29,7 @@ use jwalk_ignore::kept_rules::{KeptRules, KeptStates};
 use jwalk_ignore::rules::Rules;
 use jwalk_ignore::texts::Texts;
 use program_parts::halt::Halt;
-use program_walks::crew::{Plain, walk_below};
+use program_walks::crew::{CrewWalk, Plain, walk_below};
 use seek_found::found::print_found;
 use seek_found::printer::Printer;
 use seek_found::sought_test::SoughtTest;
@@ -40,9 +39,6 @@ use std::io::Write;
 use std::sync::{Arc, Wait};
 use std::thread::Threads;
 use std::time::Clock;
-
-/// A walk under way that a crew may read for.
-pub(crate) type CrewWalk<T, C, S, P> = DirEntryIter<C, S, P, Global, Session<T, C, S, P, Global>>;
 
 /// A callback without ignore files: it drops what lines of named files leave out, and then what `-E` does.
 type LeavesOut = Both<Excluding, Excluding>;
@@ -154,7 +150,7 @@ fn search_walk<
 }
 
 #[derive(Drop)]
-pub(crate) struct Search<'a, 'w, T: Drop, K: Clock, S: FileSystem, X: Texts> {
+pub(crate) struct Search<'a, 'w, T, K, S, X> {
     pub(crate) clock: &'a K,
     pub(crate) asked: &'a Asked<'w>,
     /// The lines of the ignore files that decide last.

@@ -16,14 +16,14 @@ use crate::report::{report_entry, report_error};
 use crate::results::Results;
 use crate::screen::Screen;
 use crate::shown::Shown;
-use jwalk::crew::Session;
 use jwalk::error::Result as Answer;
 use jwalk::file_system::FileSystem;
 use jwalk::read_dir::ProcessReadDir;
-use jwalk::{ClientState, Crew, DirEntry, DirEntryIter, Host, WalkDirGeneric};
+use jwalk::{ClientState, Crew, DirEntry, Host, WalkDirGeneric};
 use jwalk_subtotals::iter::Subtotals;
 use jwalk_subtotals::{Files, SubtotalError, SubtotalOptions, WithSubtotal, subtotals_beside};
 use program_parts::halt::Halt;
+use program_walks::crew::CrewWalk;
 use std::alloc::{Allocator, Global};
 use std::io::Write;
 use tally_words::asked::Asked;
@@ -183,9 +183,6 @@ fn count_answers<
         clean,
     })
 }
-
-/// A walk under way that a crew may read for.
-type CrewWalk<T, C, S, P> = DirEntryIter<C, S, P, Global, Session<T, C, S, P, Global>>;
 
 /// Begins a walk that a crew may read for, and counts it beside the files that were counted before.
 pub(crate) fn count_walk<
