@@ -132,11 +132,11 @@ module _ (fixed : Type 0) (below : List ℕ → List (Item Worth Worth)) (asked 
           taken = subst (λ (rows : List Row). Takes rows old before new after)
               (sym (ap (rows_of shown) (subtotals_more o [] ls l) ∙ flat_map-append (row_of shown) (all_subtotals o [] ls) (subtotals_beside o known l)))
               (takes_then (rows_of shown (all_subtotals o [] ls)) (rows_of shown (subtotals_beside o known l)) old mid new before during after so_far.taken
-              (subst (λ w. Takes (rows_of shown (listed_all o w)) mid during new after) (weighed_same o files known so_far.remembered l) counts.taken));
+              (subst (λ w. Takes (rows_of shown (listed_all o w)) mid during new after) (weighed_same o files known so_far.remembered l) counts.takes.taken));
           tells =
-              ap₂ (λ (a b : Bool). a && b) so_far.tells (counts.tells ∙ ap (λ w. list_all is_clean (listed_all o w)) (weighed_same o files known so_far.remembered l))
+              ap₂ (λ (a b : Bool). a && b) so_far.tells (counts.takes.tells ∙ ap (λ w. list_all is_clean (listed_all o w)) (weighed_same o files known so_far.remembered l))
               ∙ sym (ap (list_all is_clean) (subtotals_more o [] ls l) ∙ all_seam is_clean (all_subtotals o [] ls) (subtotals_beside o known l));
-          remembered = λ j. counts.remembered j ∙ after_same o files known so_far.remembered l j ∙ ap (λ (fs : List Identity). is_among fs j) (sym (files_more o [] ls l));
+          remembered = λ j. counts.takes.remembered j ∙ after_same o files known so_far.remembered l j ∙ ap (λ (fs : List Identity). is_among fs j) (sym (files_more o [] ls l));
         }
 
     -- one root more

@@ -33,11 +33,12 @@ use Rattle.jwalk_subtotals.specs.Subtotals.{Yielded, subtotals_beside, yielded_b
 use Rattle.jwalk_subtotals.specs.declared.iter.Subtotals.{Subtotals}
 use Rattle.jwalk_subtotals.proofs.StateFacts.{files_same, subtotals_same}
 use Rattle.jwalk_subtotals.proofs.WholeFacts.{all_yielded_beside}
+use Rattle.program_walks.specs.Crew.{CallsOf}
 use Rattle.tally_run.specs.Counting.{TakesAll, is_clean}
 use Rattle.tally_words.specs.declared.asked.Asked.{Asked}
 use Rattle.tally_run.specs.Results.{Row, Takes, row_of, rows_of}
 use Rattle.tally_run.specs.Shown.{shown_asked}
-use Rattle.tally_run.specs.Walks.{CallsOf, CountsAnswers, CountsBelow, CountsWalk, all_below, counted_below, kept_below, subtotals_asked, subtotals_taken}
+use Rattle.tally_run.specs.Walks.{CountsAnswers, CountsBelow, CountsWalk, all_below, counted_below, kept_below, subtotals_asked, subtotals_taken}
 use Rattle.tally_run.specs.declared.counting.Counted.{Counted}
 use Rattle.tally_run.specs.declared.results.Results.{Results}
 use Rattle.tally_run.specs.declared.shown.Shown.{Shown}
@@ -72,13 +73,15 @@ below_counted files process clone defaults calls walk given fixed below asked kn
     record {
       answered = map (counted_item given) counts.answered;
       whole = λ always clean. counts.whole clean given (steady always) ∙ is always;
-      taken = subst (λ (rows : List Row). Takes rows old before new after)
-          (sym (ap (rows_of shown) (subtotals_same given.read_dir_state given.dir_entry_state o known counts.answered) ∙ rows_same given.read_dir_state given.dir_entry_state shown (subtotals_beside o known counts.answered)))
-          counts.taken;
-      tells =
-          counts.tells
-          ∙ sym (ap (list_all is_clean) (subtotals_same given.read_dir_state given.dir_entry_state o known counts.answered) ∙ all_clean given.read_dir_state given.dir_entry_state shown (subtotals_beside o known counts.answered));
-      remembered = λ i. counts.remembered i ∙ ap (λ (l : List Identity). is_among l i) (sym (files_same given.read_dir_state given.dir_entry_state o known counts.answered));
+      takes = record {
+        taken = subst (λ (rows : List Row). Takes rows old before new after)
+            (sym (ap (rows_of shown) (subtotals_same given.read_dir_state given.dir_entry_state o known counts.answered) ∙ rows_same given.read_dir_state given.dir_entry_state shown (subtotals_beside o known counts.answered)))
+            counts.takes.taken;
+        tells =
+            counts.takes.tells
+            ∙ sym (ap (list_all is_clean) (subtotals_same given.read_dir_state given.dir_entry_state o known counts.answered) ∙ all_clean given.read_dir_state given.dir_entry_state shown (subtotals_beside o known counts.answered));
+        remembered = λ i. counts.takes.remembered i ∙ ap (λ (l : List Identity). is_among l i) (sym (files_same given.read_dir_state given.dir_entry_state o known counts.answered));
+      };
     }
 
 -- So it is of what is known otherwise.
@@ -87,9 +90,7 @@ pub below_as : {fixed fixed' : Type 0} {below below' : List (Item Worth Worth)} 
 below_as always is counts = record {
   answered = counts.answered;
   whole = λ fixed clean. counts.whole (always fixed) clean ∙ is;
-  taken = counts.taken;
-  tells = counts.tells;
-  remembered = counts.remembered;
+  takes = counts.takes;
 }
 
 -- what is counted below a root, with ignore files and without
@@ -111,9 +112,11 @@ answers_counted next answers asked known old new before after counted start end 
     record {
       yielded = xs;
       drains = subst (λ i. Drains next i xs) same all.1;
-      taken = subst (λ (rows : List Row). Takes rows old before new after) (ap₂ (λ s l. rows_of s l) shown_is (sym told) ∙ rows_taken asked known (map item xs)) took.taken;
-      tells = took.tells ∙ ap (list_all is_clean) (sym told) ∙ clean_taken asked known (map item xs);
-      remembered = λ i. remembered i ∙ all.3 i ∙ ap (λ s. is_among (files_after s known (map item xs)) i) options ∙ ap (λ files. is_among files i) (files_taken asked known (map item xs));
+      takes = record {
+        taken = subst (λ (rows : List Row). Takes rows old before new after) (ap₂ (λ s l. rows_of s l) shown_is (sym told) ∙ rows_taken asked known (map item xs)) took.taken;
+        tells = took.tells ∙ ap (list_all is_clean) (sym told) ∙ clean_taken asked known (map item xs);
+        remembered = λ i. remembered i ∙ all.3 i ∙ ap (λ s. is_among (files_after s known (map item xs)) i) options ∙ ap (λ files. is_among files i) (files_taken asked known (map item xs));
+      };
     }
 
 module _ {C S P A W L R E : Type 0} (files : FileSystem.Ghosts S) (process : ProcessReadDir.Ghosts P C A R E) (clone : Clone.Ghosts R) (defaults : Default.Ghosts E) (readers : Readers.Ghosts L C S P A R E) (walk : WalkDirGeneric C S P A W R E) (it : DirEntryIter C S P A L R E) where
@@ -129,8 +132,6 @@ module _ {C S P A W L R E : Type 0} (files : FileSystem.Ghosts S) (process : Pro
         walked = (it, starts, xs, counts.drains, refl);
         whole = λ is given steady.
             clean_whole files process clone defaults readers given walk it xs why_not holds (steady_begun files process clone defaults readers given walk it steadily starts steady) starts steady counts.drains
-            (answers_ok (subtotals_asked asked) known xs (subtotals_beside (subtotals_asked asked) known (map item xs)) refl (sym counts.tells ∙ is));
-        taken = counts.taken;
-        tells = counts.tells;
-        remembered = counts.remembered;
+            (answers_ok (subtotals_asked asked) known xs (subtotals_beside (subtotals_asked asked) known (map item xs)) refl (sym counts.takes.tells ∙ is));
+        takes = counts.takes;
       }
