@@ -179,6 +179,7 @@ fn file_system_option<'a>(alloc: Global) -> Result<Arg<'a>, AllocError>
 fn reach_options<'a>(alloc: Global) -> Result<Vec<Arg<'a>>, AllocError>
     ensures { IfOk result (λ options. HaveRules options.items reach_rules) }
 {
+    let stays = file_system_option(alloc)?;
     Ok(vec![in alloc;
         search_option(alloc),
         valued(
@@ -187,7 +188,7 @@ fn reach_options<'a>(alloc: Global) -> Result<Vec<Arg<'a>>, AllocError>
             "DIR",
             "Search as if the program ran in this folder",
         ),
-        file_system_option(alloc)?,
+        stays,
         long_flag(
             alloc,
             "prune",
@@ -236,9 +237,10 @@ fn owner_option<'a>(alloc: Global) -> Arg<'a>
 fn filter_options<'a>(alloc: Global) -> Result<Vec<Arg<'a>>, AllocError>
     ensures { IfOk result (λ options. AreFilters options.items) }
 {
+    let greatest = max_depth_option(alloc)?;
     Ok(vec![in alloc;
         number(alloc, "min-depth", "The least depth"),
-        max_depth_option(alloc)?,
+        greatest,
         number(alloc, "exact-depth", "The depth, where a root has depth 0",),
         kind_option(alloc),
         listed(alloc, "extension", 'e', "EXT", "The name's extension"),
@@ -275,9 +277,11 @@ fn before_option<'a>(alloc: Global) -> Result<Arg<'a>, AllocError>
 fn time_options<'a>(alloc: Global) -> Result<Vec<Arg<'a>>, AllocError>
     ensures { IfOk result (λ options. HaveRules options.items time_rules) }
 {
+    let within = within_option(alloc)?;
+    let before = before_option(alloc)?;
     Ok(vec![in alloc;
-        within_option(alloc)?,
-        before_option(alloc)?,
+        within,
+        before,
         valued(
             alloc,
             "newer-than-file",
@@ -312,10 +316,11 @@ fn one_option<'a>(alloc: Global) -> Arg<'a>
 fn print_options<'a>(alloc: Global) -> Result<Vec<Arg<'a>>, AllocError>
     ensures { IfOk result (λ options. HaveRules options.items print_rules) }
 {
+    let quiet = quiet_option(alloc)?;
     Ok(vec![in alloc;
         number(alloc, "max-results", "Print at most N paths"),
         one_option(alloc),
-        quiet_option(alloc)?,
+        quiet,
         flag(alloc, "absolute-path", 'a', "Print absolute paths"),
         flag(
             alloc,
@@ -349,7 +354,7 @@ fn print_options<'a>(alloc: Global) -> Result<Vec<Arg<'a>>, AllocError>
     ]?)
 }
 
-/// Options that undo others, wherever these are set in front.
+/// Options that undo others that were named in front of them.
 fn undo_options<'a>(alloc: Global) -> Result<Vec<Arg<'a>>, AllocError>
     ensures { IfOk result (λ options. HaveRules options.items undo_rules) }
 {
