@@ -34,12 +34,10 @@ impl<C: ClientState, A: Allocator + Copy, B: Drop> Drop for Entries<C, A, B> {
     }
 }
 
-impl<C: ClientState, A: Allocator + Copy, B: Readings<C, A>> Entries<C, A, B> {
-    ghost use Rattle.std.specs.Prelude.{◌++◌, [], false, OnOk, IsSome, IfSome, IfNone, option_map, map};
-    ghost use Rattle.jwalk_model.specs.Listing.{is_answered};
+impl<C: ClientState, A: Allocator + Copy, B> Entries<C, A, B> {
+    ghost use Rattle.std.specs.Prelude.{◌++◌, OnOk, IsSome, option_map, map};
     ghost use Rattle.jwalk_job.specs.ReadDir.{reading, outcome};
-    ghost use Rattle.jwalk_readings.specs.ReadAhead.{nothing_ahead};
-    ghost use Rattle.jwalk_iter.specs.Entries.{reads_of, is_refused, min_depth_of, items_of, unread_of, Stays, Passes, GoesOn, Answers, AnswersWhatCame, Fills, Counts};
+    ghost use Rattle.jwalk_iter.specs.Entries.{reads_of, is_refused, items_of};
     ghost use Rattle.jwalk_iter.specs.Step.{Receives};
 
     /// Returns the walk over these readings that holds a root's list. If `refused`, memory ran out: the walk first
@@ -58,6 +56,13 @@ impl<C: ClientState, A: Allocator + Copy, B: Readings<C, A>> Entries<C, A, B> {
         }
     }
 
+    /// Returns whether memory ran out at the start, and the error that reports it was not yielded yet.
+    pub fn is_refused(&self) -> bool
+        ensures { result ≡ is_refused self.now }
+    {
+        self.refused
+    }
+
     fn receive(&mut self, read: ReadDir<C, A>) -> Result<(), AllocError>
         ensures reads { self.new.reads ≡ self.old.reads }
         ensures refused { self.new.refused ≡ self.old.refused }
@@ -70,16 +75,6 @@ impl<C: ClientState, A: Allocator + Copy, B: Readings<C, A>> Entries<C, A, B> {
             return Ok(());
         }
         self.items.append(&mut items)
-    }
-
-    fn stop(&mut self)
-        ensures stays { Stays B.Readings self.old self.new }
-        ensures items { items_of self.new ≡ [] }
-        ensures unread { unread_of B.Readings self.new ≡ [] }
-        ensures read_ahead { B.read_ahead self.new.reads ≡ nothing_ahead }
-    {
-        self.items.clear();
-        self.reads.stop();
     }
 
     fn entered(
@@ -101,6 +96,23 @@ impl<C: ClientState, A: Allocator + Copy, B: Readings<C, A>> Entries<C, A, B> {
                 Ok(found)
             }
         }
+    }
+}
+
+impl<C: ClientState, A: Allocator + Copy, B: Readings<C, A>> Entries<C, A, B> {
+    ghost use Rattle.std.specs.Prelude.{[], false, IfSome, IfNone};
+    ghost use Rattle.jwalk_model.specs.Listing.{is_answered};
+    ghost use Rattle.jwalk_readings.specs.ReadAhead.{nothing_ahead};
+    ghost use Rattle.jwalk_iter.specs.Entries.{min_depth_of, items_of, unread_of, Stays, Passes, GoesOn, Answers, AnswersWhatCame, Fills, Counts};
+
+    fn stop(&mut self)
+        ensures stays { Stays B.Readings self.old self.new }
+        ensures items { items_of self.new ≡ [] }
+        ensures unread { unread_of B.Readings self.new ≡ [] }
+        ensures read_ahead { B.read_ahead self.new.reads ≡ nothing_ahead }
+    {
+        self.items.clear();
+        self.reads.stop();
     }
 
     fn pass(&mut self) -> Result<Option<Item<C, A>>, Missed>
@@ -196,13 +208,6 @@ impl<C: ClientState, A: Allocator + Copy, B: Readings<C, A>> Entries<C, A, B> {
             filled += 1;
         }
         Ok(filled)
-    }
-
-    /// Returns whether memory ran out at the start, and the error that reports it was not yielded yet.
-    pub fn is_refused(&self) -> bool
-        ensures { result ≡ is_refused self.now }
-    {
-        self.refused
     }
 
     /// Returns how many directories were read whose readings are not yet handed on. A serial walk reads none ahead.
