@@ -34,7 +34,6 @@ use std::time::Duration;
 /// `C` is the pair of states that a user keeps beside directories and entries, `((), ())` for none. `S` is the file
 /// system, `P` the callback (`NoProcess` for none), and `A` the allocator. `W` is the crew that reads ahead, `NoCrew`
 /// for none.
-#[derive(Drop)]
 pub struct WalkDirGeneric<C: ClientState, S, P, A: Allocator + Copy = Global, W = NoCrew> {
     fs: S,
     root: String<A>,
@@ -43,6 +42,20 @@ pub struct WalkDirGeneric<C: ClientState, S, P, A: Allocator + Copy = Global, W 
     root_read_dir_state: C::ReadDirState,
     // The crew that reads ahead, and how long the walk blocks for a place of it.
     crew: Option<(Arc<W, A>, Option<Duration>)>,
+}
+
+impl<C: ClientState, S: Drop, P: Drop, A: Allocator + Copy, W: Drop> Drop
+    for WalkDirGeneric<C, S, P, A, W> {
+    fn drop(self) {
+        let WalkDirGeneric {
+            fs: _,
+            root: _,
+            process: _,
+            options: _,
+            root_read_dir_state: _,
+            crew: _,
+        } = self;
+    }
 }
 
 /// A walk of the file system that a runtime reaches, without states beside directories and entries.
@@ -268,13 +281,21 @@ impl<
     ) -> WalkDirGeneric<C, S, Q, A, W>
         ensures { Sets (with_callback process (described self)) result }
     {
+        let WalkDirGeneric {
+            fs,
+            root,
+            process: _,
+            options,
+            root_read_dir_state,
+            crew,
+        } = self;
         WalkDirGeneric {
-            fs: self.fs,
-            root: self.root,
+            fs,
+            root,
             process,
-            options: self.options,
-            root_read_dir_state: self.root_read_dir_state,
-            crew: self.crew,
+            options,
+            root_read_dir_state,
+            crew,
         }
     }
 }
@@ -382,13 +403,21 @@ impl<C: ClientState, S: FileSystem, P: ProcessReadDir<C, Global>, W: Drop> WalkD
         ensures closure { closure_of (callback_of result) ≡ f }
         ensures rest { Sets (with_callback (callback_of result) (described self)) result }
     {
+        let WalkDirGeneric {
+            fs,
+            root,
+            process: _,
+            options,
+            root_read_dir_state,
+            crew,
+        } = self;
         WalkDirGeneric {
-            fs: self.fs,
-            root: self.root,
+            fs,
+            root,
             process: ByFn::of(f),
-            options: self.options,
-            root_read_dir_state: self.root_read_dir_state,
-            crew: self.crew,
+            options,
+            root_read_dir_state,
+            crew,
         }
     }
 }

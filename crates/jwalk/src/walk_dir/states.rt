@@ -25,13 +25,21 @@ impl<C: ClientState, S: FileSystem, A: Allocator + Copy, W: Drop> WalkDirGeneric
         ensures state { B.is_default (state_of result) }
         ensures rest { Sets (with_state (state_of result) (described self)) result }
     {
+        let WalkDirGeneric {
+            fs,
+            root,
+            process: _,
+            options,
+            root_read_dir_state: _,
+            crew,
+        } = self;
         WalkDirGeneric {
-            fs: self.fs,
-            root: self.root,
+            fs,
+            root,
             process: NoProcess,
-            options: self.options,
+            options,
             root_read_dir_state: B::default(),
-            crew: self.crew,
+            crew,
         }
     }
 }

@@ -80,12 +80,20 @@ impl<C: ClientState, S: FileSystem, P: ProcessReadDir<C, A>, A: Allocator + Copy
     fn for_crew<W: Drop>(self) -> WalkDirGeneric<C, S, P, A, W>
         ensures { Sets (with_crew None (described self)) result }
     {
+        let WalkDirGeneric {
+            fs,
+            root,
+            process,
+            options,
+            root_read_dir_state,
+            crew: _,
+        } = self;
         WalkDirGeneric {
-            fs: self.fs,
-            root: self.root,
-            process: self.process,
-            options: self.options,
-            root_read_dir_state: self.root_read_dir_state,
+            fs,
+            root,
+            process,
+            options,
+            root_read_dir_state,
             crew: None,
         }
     }
