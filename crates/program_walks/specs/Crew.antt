@@ -1,5 +1,8 @@
 -- The crew that reads directories, and a walk that it may read for.
-use Rattle.std.specs.Prelude.{Bool, Option, Result, if◌then◌else◌}
+use Rattle.std.specs.Prelude.{◌≡◌, Bool, Option, Some, None, Result, if◌then◌else◌}
+use Rattle.std.specs.Arc.{arc_value}
+use Rattle.std.specs.declared.sync.Arc.{Arc}
+use Rattle.std.specs.declared.time.Duration.{Duration}
 use Rattle.jwalk_model.specs.Options.{serial, crew, Options, with_parallelism}
 use Rattle.jwalk.specs.jwalk_job.declared.dir_entry.DirEntry.{DirEntry}
 use Rattle.jwalk.specs.jwalk_job.declared.error.Error.{Error}
@@ -9,6 +12,11 @@ use Rattle.jwalk.specs.declared.crew.Session.{Session}
 -- the options of a walk by how its directories are read: by a crew, or one at a time
 abbrev pub with_crew : Bool → Options → Options
 with_crew reads options = with_parallelism (if reads then crew else serial) options
+
+-- The crew of a walk is the one given, if there is one, and the walk blocks for a place of it without a limit.
+abbrev pub ReadsBy : {W A : Type 0} → Option (Arc W A) → Option (Arc W A × Option Duration) → Type 0
+ReadsBy None own = own ≡ None
+ReadsBy {W} {A} (Some given) own = (shared : Arc W A) × (own ≡ Some (shared, None)) × (arc_value shared ≡ arc_value given)
 
 -- the relation of one call of a walk: the walk, the answer, and the walk after the call
 abbrev pub CallsOf : (C S P A L R E : Type 0) → Type 1

@@ -3,8 +3,8 @@ ghost use Rattle.std.specs.Prelude.{◌≡◌, ℕ, Some, is_some, min, nat_lt, 
 ghost use Rattle.std.specs.Arc.{arc_value};
 ghost use Rattle.jwalk.specs.jwalk_job.Options.{options_value};
 ghost use Rattle.jwalk.specs.tree_crew.Crew.{limit_of, workers_of};
-ghost use Rattle.jwalk.specs.WalkDir.{file_system_of, root_of, state_of, options_of};
-ghost use Rattle.program_walks.specs.Crew.{with_crew};
+ghost use Rattle.jwalk.specs.WalkDir.{file_system_of, root_of, state_of, options_of, described};
+ghost use Rattle.program_walks.specs.Crew.{with_crew, ReadsBy};
 
 use jwalk::crew::Session;
 use jwalk::file_system::FileSystem;
@@ -61,7 +61,8 @@ pub fn crew_of<T: Wait + Threads + Clock + Clone + Drop>(
     Ok(Some(Arc::new(alloc, crew)?))
 }
 
-/// Returns the walk below a root with these options, without a callback. If there is a crew, it reads the directories.
+/// Returns the walk below a root with these options, without a callback. If there is a crew, it reads the directories,
+/// and the start of the walk blocks until one of its places is free.
 ///
 /// # Errors
 ///
@@ -81,6 +82,7 @@ pub fn walk_below<
     ensures root { IfOk result (λ walk. root_of walk ≡ string_bytes root) }
     ensures state { IfOk result (λ walk. C.ReadDirState.is_default (state_of walk)) }
     ensures options { IfOk result (λ walk. options_of walk ≡ with_crew (is_some crew.now) (options_value options)) }
+    ensures crew { IfOk result (λ walk. ReadsBy crew.now (described walk).crew) }
 {
     let parallelism = match crew {
         Some(crew) => Parallelism::RayonExistingPool {
