@@ -5,6 +5,7 @@ pub mod builder;
 mod entry_rules;
 pub mod excluding;
 pub mod ignore_files;
+mod kept;
 pub mod kept_rules;
 mod listed;
 mod places;

@@ -1,5 +1,7 @@
 -- The rules that decide on the entries of a directory.
-use Rattle.std.specs.Prelude.{◌≡◌, ℕ, List}
+use Rattle.std.specs.Prelude.{◌≡◌, ℕ, Bool, List}
+use Rattle.jwalk.specs.jwalk_model.Entry.{Item}
+use Rattle.jwalk_ignore.specs.Callback.IgnoreFiles.{is_kept}
 use Rattle.jwalk_ignore.specs.Callback.Places.{IsPlaced}
 use Rattle.jwalk_ignore.specs.Callback.Settings.{patterns_in}
 use Rattle.jwalk_ignore.specs.Pattern.{Pattern}
@@ -13,3 +15,11 @@ pub record Decide {A : Type 0} (given : List Pattern) (directory : List ℕ) (ch
   pub chain_is : chain_value rules.chain.now ≡ chain
   pub placed : IsPlaced (place_in chain directory) rules.places
   pub at_path : IsPlaced directory rules.paths
+
+-- The rules decide by this test on the items of their directory.
+pub record DecideBy {A R E : Type 0} (rules : EntryRules A) (test : Item R E → Bool) : Type 0 where
+  pub given : List Pattern
+  pub directory : List ℕ
+  pub chain : Chain
+  pub decide : Decide given directory chain rules
+  pub by : test ≡ is_kept given directory chain (place_in chain directory)

@@ -1,13 +1,12 @@
 //! The rules that decide on the entries of a directory.
 ghost use Rattle.std.specs.Prelude.{◌≡◌, IfOk};
-ghost use Rattle.jwalk.specs.jwalk_job.Entry.{item};
 ghost use Rattle.jwalk_ignore.specs.Callback.EntryRules.{Decide};
-ghost use Rattle.jwalk_ignore.specs.Callback.IgnoreFiles.{given_says, is_kept, without_dot};
+ghost use Rattle.jwalk_ignore.specs.Callback.IgnoreFiles.{given_says, without_dot};
 ghost use Rattle.jwalk_ignore.specs.Callback.Places.{IsPlaced};
 ghost use Rattle.jwalk_ignore.specs.Callback.Settings.{patterns_in};
-ghost use Rattle.jwalk_ignore.specs.Rules.Chain.{place_in};
 ghost use Rattle.jwalk_ignore.specs.Rules.ChainViews.{chain_value};
 
+use crate::callback::kept::Keeps;
 use crate::callback::places::Places;
 use crate::rules::Rules;
 use crate::rules::chain::Chain;
@@ -74,17 +73,15 @@ impl<'r, A: Allocator + Copy> EntryRules<'r, A> {
         self.paths.set_name(name)?;
         Ok(given.decision(without_dot(self.paths.bytes()), is_dir))
     }
+}
 
-    /// Returns whether an item of the directory stays. The rules that are given decide where those in force say nothing.
-    pub(crate) fn is_kept<C: ClientState>(
-        &mut self,
-        found: &Result<DirEntry<C, A>, Error<A>>,
-    ) -> Result<bool, AllocError>
-        ensures kept { (given : _) → (directory : _) → (chain : _) → Decide given directory chain self.old
-            → IfOk result (λ kept. kept ≡ is_kept given directory chain (place_in chain directory) (item found.now)) }
-        ensures rules { (given : _) → (directory : _) → (chain : _) → Decide given directory chain self.old
-            → Decide given directory chain self.new }
-    {
+/// An item stays unless the rules in force ignore it. The rules that are given decide where these say nothing.
+impl<C: ClientState, A: Allocator + Copy> Keeps<C, A> for EntryRules<'_, A> {
+    ghost use Rattle.jwalk_ignore.specs.Callback.EntryRules.{DecideBy};
+
+    ghost decides_by = { λ rules test. DecideBy rules test };
+
+    fn keeps(&mut self, found: &Result<DirEntry<C, A>, Error<A>>) -> Result<bool, AllocError> {
         let Ok(entry) = found else {
             return Ok(true);
         };

@@ -1,5 +1,5 @@
 //! A callback that leaves out what lines of an ignore file name.
-ghost use Rattle.std.specs.Prelude.{◌≡◌, ◌++◌, ◌∷◌, [], map, IfOk, OnOk};
+ghost use Rattle.std.specs.Prelude.{◌≡◌, ◌++◌, map, IfOk, OnOk};
 ghost use Rattle.std.specs.List.{filter};
 ghost use Rattle.jwalk.specs.jwalk_job.Entry.{item};
 ghost use Rattle.jwalk_ignore.specs.Rules.Chain.{is_ignored};
@@ -7,6 +7,7 @@ ghost use Rattle.jwalk_ignore.specs.Rules.Matching.{patterns_say};
 ghost use Rattle.jwalk_ignore.specs.Rules.{rules_value};
 ghost use Rattle.jwalk_ignore.specs.Callback.Excluding.{behind, lines_text, place_of, is_included};
 
+use crate::callback::kept::{Keeps, kept};
 use crate::pattern::without_first_slash;
 use crate::rules::Rules;
 use jwalk::read_dir::ProcessReadDir;
@@ -97,52 +98,37 @@ fn ignores<A: Allocator + Copy>(
     Ok(decision.is_ignored())
 }
 
-/// Returns whether an item stays that is in a folder with this place.
-fn is_included<C: ClientState, A: Allocator + Copy>(
-    rules: &Rules,
-    place: &mut Vec<u8, A>,
-    found: &Result<DirEntry<C, A>, Error<A>>,
-) -> Result<bool, AllocError>
-    ensures answer { IfOk result (λ yes. yes ≡ is_included (rules_value rules.now) place.old.items (item found.now)) }
-    ensures place { OnOk result (place.new.items ≡ place.old.items) }
-{
-    match found {
-        Ok(entry) => Ok(!ignores(rules, place, entry.file_name(), entry.file_type().is_dir())?),
-        Err(_) => Ok(true),
-    }
+/// Rules of a folder's items, by the place of the folder.
+#[derive(Drop)]
+struct Placed<'r, A: Allocator + Copy> {
+    rules: &'r Rules,
+    place: Vec<u8, A>,
 }
 
-/// Adds an item that stays.
-fn push_included<C: ClientState, A: Allocator + Copy>(
-    rules: &Rules,
-    place: &mut Vec<u8, A>,
-    found: Result<DirEntry<C, A>, Error<A>>,
-    kept: &mut Vec<Result<DirEntry<C, A>, Error<A>>, A>,
-) -> Result<(), AllocError>
-    ensures kept { OnOk result (map item kept.new.items
-        ≡ map item kept.old.items ++ filter (is_included (rules_value rules.now) place.old.items) (item found ∷ [])) }
-    ensures place { OnOk result (place.new.items ≡ place.old.items) }
-{
-    if is_included(rules, place, &found)? {
-        kept.push(found)?;
+impl<C: ClientState, A: Allocator + Copy> Keeps<C, A> for Placed<'_, A> {
+    ghost decides_by = { λ it test. test ≡ is_included (rules_value it.rules.now) it.place.items };
+
+    fn keeps(&mut self, found: &Result<DirEntry<C, A>, Error<A>>) -> Result<bool, AllocError> {
+        match found {
+            Ok(entry) => {
+                let is_dir = entry.file_type().is_dir();
+                Ok(!ignores(self.rules, &mut self.place, entry.file_name(), is_dir)?)
+            }
+            Err(_) => Ok(true),
+        }
     }
-    Ok(())
 }
 
 /// Returns what stays of a list of a folder with this place.
 fn included<C: ClientState, A: Allocator + Copy>(
     rules: &Rules,
-    mut place: Vec<u8, A>,
+    place: Vec<u8, A>,
     list: Vec<Result<DirEntry<C, A>, Error<A>>, A>,
 ) -> Result<Vec<Result<DirEntry<C, A>, Error<A>>, A>, AllocError>
     ensures { IfOk result (λ kept. map item kept.items
         ≡ filter (is_included (rules_value rules.now) place.items) (map item list.items)) }
 {
-    let mut kept = Vec::with_capacity(*list.allocator(), list.len())?;
-    for found in list {
-        push_included(rules, &mut place, found, &mut kept)?;
-    }
-    Ok(kept)
+    kept(&mut Placed { rules, place }, list)
 }
 
 impl Excluding {

@@ -39,10 +39,15 @@ use std::mem;
 ///   begun at `/`. The root itself is never dropped.
 ///
 /// If memory runs out, the callback fails with that.
-#[derive(Drop)]
 pub struct IgnoreFiles<T, P = NoProcess> {
     reader: RulesReader<T>,
     next: P,
+}
+
+impl<T: Drop, P: Drop> Drop for IgnoreFiles<T, P> {
+    fn drop(self) {
+        let IgnoreFiles { reader: _, next: _ } = self;
+    }
 }
 
 impl<T: Texts> IgnoreFiles<T, NoProcess> {

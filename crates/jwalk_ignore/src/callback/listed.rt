@@ -1,7 +1,6 @@
 //! Items of a list, as rules see them.
 ghost use Rattle.std.specs.Prelude.{◌≡◌, IfOk, map, filter, find, option_map, string_bytes};
 ghost use Rattle.jwalk.specs.jwalk_job.Entry.{item};
-ghost use Rattle.jwalk.specs.jwalk_model.Entry.{is_hidden};
 ghost use Rattle.jwalk_ignore.specs.Callback.IgnoreFiles.{depth_of, git_by, git_in, is_git, is_git_path, is_shown, kind_of, kind_of_file, own_kind, root_of};
 ghost use Rattle.jwalk_ignore.specs.Callback.Settings.{settings_value};
 
@@ -126,12 +125,6 @@ pub(crate) fn git_in<T: Texts, C: ClientState, A: Allocator + Copy>(
     }
 }
 
-fn is_hidden(name: &str) -> bool
-    ensures { result ≡ is_hidden name.now }
-{
-    matches!(name.as_bytes(), [b'.', ..])
-}
-
 /// Returns whether an item is an error, or an entry that is neither `.git` nor hidden.
 fn is_shown<C: ClientState, A: Allocator + Copy>(
     settings: &Settings,
@@ -142,7 +135,8 @@ fn is_shown<C: ClientState, A: Allocator + Copy>(
     match found {
         Ok(entry) => {
             let name = entry.file_name.as_str();
-            name != ".git" && (settings.keeps_hidden || !is_hidden(name))
+            let is_hidden = matches!(name.as_bytes(), [b'.', ..]);
+            name != ".git" && (settings.keeps_hidden || !is_hidden)
         }
         Err(_) => true,
     }

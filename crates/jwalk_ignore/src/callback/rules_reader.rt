@@ -1,16 +1,16 @@
 //! What rules make of lists.
-ghost use Rattle.std.specs.Prelude.{◌≡◌, ◌++◌, ◌∷◌, [], IfOk, OnOk, map, filter, fold};
+ghost use Rattle.std.specs.Prelude.{◌≡◌, ◌∷◌, [], IfOk, OnOk, map, filter, fold};
 ghost use Rattle.jwalk.specs.jwalk_model.Entry.{AtDepth};
 ghost use Rattle.jwalk.specs.jwalk_job.Entry.{item};
 ghost use Rattle.jwalk_ignore.specs.Rules.Chain.{place_in};
 ghost use Rattle.jwalk_ignore.specs.Rules.ChainViews.{chain_value};
 ghost use Rattle.jwalk_ignore.specs.Rules.Folder.{folder_value};
 ghost use Rattle.jwalk_ignore.specs.Callback.IgnoreFiles.{at_root, by_rules, if_read, in_directory, is_kept, is_read, is_read_above, kind_of, own_rules, with_above, with_absolute, with_folder, with_folders, with_listed, with_root_item};
-ghost use Rattle.jwalk_ignore.specs.Callback.EntryRules.{Decide};
 ghost use Rattle.jwalk_ignore.specs.Callback.Settings.{patterns_in, settings_value};
 ghost use Rattle.jwalk_ignore.specs.Callback.Sources.{made_value};
 
 use crate::callback::entry_rules::EntryRules;
+use crate::callback::kept::kept;
 use crate::callback::listed::{depth_of, drop_hidden, git_in, kind_of, root_of};
 use crate::callback::settings::Settings;
 use crate::callback::source::{Made, Source};
@@ -43,24 +43,8 @@ struct Directory<'p> {
     git: Option<FileType>,
 }
 
-fn push_kept<C: ClientState, A: Allocator + Copy>(
-    rules: &mut EntryRules<'_, A>,
-    found: Result<DirEntry<C, A>, Error<A>>,
-    kept: &mut Vec<Result<DirEntry<C, A>, Error<A>>, A>,
-) -> Result<(), AllocError>
-    ensures kept { (given : _) → (directory : _) → (chain : _) → Decide given directory chain rules.old
-        → OnOk result (map item kept.new.items
-        ≡ map item kept.old.items ++ filter (is_kept given directory chain (place_in chain directory)) (item found ∷ [])) }
-    ensures rules { (given : _) → (directory : _) → (chain : _) → Decide given directory chain rules.old
-        → Decide given directory chain rules.new }
-{
-    if rules.is_kept(&found)? {
-        kept.push(found)?;
-    }
-    Ok(())
-}
-
-fn kept<C: ClientState, A: Allocator + Copy>(
+/// Returns what the rules in force, and those that are given, leave of a directory's list.
+fn kept_by<C: ClientState, A: Allocator + Copy>(
     chain: &Chain<A>,
     given: &Option<Rules>,
     directory: &str,
@@ -72,13 +56,8 @@ fn kept<C: ClientState, A: Allocator + Copy>(
     if given.is_none() && !chain.has_rules() {
         return Ok(list);
     }
-    let alloc = *list.allocator();
-    let mut rules = EntryRules::new(alloc, chain, given, directory)?;
-    let mut kept = Vec::with_capacity(alloc, list.len())?;
-    for found in list {
-        push_kept(&mut rules, found, &mut kept)?;
-    }
-    Ok(kept)
+    let mut rules = EntryRules::new(*list.allocator(), chain, given, directory)?;
+    kept(&mut rules, list)
 }
 
 impl<T: Texts> RulesReader<T> {
@@ -185,7 +164,7 @@ impl<T: Texts> RulesReader<T> {
     {
         let Made { chain, mut list } = self.own_rules(directory, chain, list)?;
         drop_hidden(&self.settings, &mut list);
-        let list = kept(&chain, &self.settings.given, directory, list)?;
+        let list = kept_by(&chain, &self.settings.given, directory, list)?;
         Ok(Made { chain, list })
     }
 

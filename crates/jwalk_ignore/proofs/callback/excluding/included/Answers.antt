@@ -1,28 +1,7 @@
-use Rattle.std.proofs.Common.{◌∷◌, [], ◌++◌, map, ap, sym, ◌∙◌}
-use Rattle.std.specs.List.{filter}
-use Rattle.std.proofs.lemmas.List.{map-id}
-use Rattle.std.proofs.lemmas.Iterator.Adapters.{YieldsList-from_vec}
-use Rattle.std.proofs.lemmas.Iterator.Consumers.{YieldsList-end}
-use Rattle.jwalk.specs.jwalk_job.Entry.{item}
-use Rattle.jwalk_ignore.specs.Rules.{rules_value}
-use Rattle.jwalk_ignore.proofs.ListFacts.{filter_more}
+use Rattle.std.proofs.Common.{refl}
 use Rattle.jwalk_ignore.specs.Callback.Excluding.{is_included}
+use Rattle.jwalk_ignore.specs.Rules.{rules_value}
 use Rattle.jwalk_ignore.proofs.callback.excluding.included.Goals as goal
 
-pub loop-found-preserved : goal.loop-found-preserved
-loop-found-preserved g c =
-    let held = c.loop-found.invariant in
-    let test = is_included (rules_value c.args.rules.now) c.args.place.items in
-    record {
-      placed = c.in_ok-push_included.ensures.place ∙ held.placed;
-      kept = c.in_ok-push_included.ensures.kept
-          ∙ ap (λ place. map item c.loop-found.kept.items ++ filter (is_included (rules_value c.args.rules.now) place) (item c.in-Some.found ∷ [])) held.placed
-          ∙ ap (λ l. l ++ filter test (item c.in-Some.found ∷ [])) held.kept
-          ∙ sym (filter_more test item c.loop-found.yielded c.in-Some.found);
-    }
-
 pub returns : goal.returns
-returns g c =
-    let begins = c.into_iter-found-iterator.ensures.into_iter_gives in
-    let all = YieldsList-end (YieldsList-from_vec {s = c.into_iter-found-iterator.result} c.args.list.items begins.0 (begins.1 ∙ c.args.list.ok.0)) c.loop-found.yielded c.loop-found.found-iterator c.loop-found.yielded_by c.next.result c.next.new.self c.in-None.is c.next.ensures.steps in
-    c.loop-found.invariant.kept ∙ ap (λ l. filter (is_included (rules_value c.args.rules.now) c.args.place.items) (map item l)) (sym (map-id c.loop-found.yielded) ∙ all.0)
+returns g c = c.kept.ensures (is_included (rules_value c.args.rules.now) c.args.place.items) refl
