@@ -28,7 +28,6 @@ use Rattle.jwalk_ignore.specs.Rules.Texts.{Texts}
 use Rattle.std.specs.declared.sync.Arc.{Arc}
 use Rattle.jwalk_ignore.specs.declared.callback.kept_rules.KeptRules.{KeptRules}
 use Rattle.jwalk_ignore.specs.jwalk_ignore_rules.declared.rules.chain.Chain.{Chain}
-use Rattle.seek_found.specs.Sought.{takes_by}
 use Rattle.seek_found.specs.SoughtTest.{takes_of}
 use Rattle.seek_found.specs.declared.sought_test.SoughtTest.{SoughtTest}
 use Rattle.seek_found.specs.declared.sought.Sought.{Sought as Looked}

@@ -23,6 +23,11 @@ use Rattle.seek_found.specs.SoughtTest.{takes_of}
 use Rattle.seek_found.specs.declared.printer.Printer.{Printer}
 use Rattle.seek_found.specs.declared.sought_test.SoughtTest.{SoughtTest}
 
+-- A printer still looks for the same, and writes lines in the same form.
+pub record StaysAs (fs : Functions) (old new : Printer SoughtTest) : Type 0 where
+  pub sought : sought_of takes_of fs new.filter ≡ sought_of takes_of fs old.filter
+  pub form : form_of fs new.lines ≡ form_of fs old.lines
+
 -- If there is no limit and was no error, the line of each of these answers that a printer looks for is written, or
 -- gathered by it. `answers` says which they are, by what it looks for over a file system.
 abbrev pub PrintsAll : {R E : Type 0} → Functions → (Sought → List (Item R E)) → Printer SoughtTest → Printer SoughtTest → Option (List ℕ) → Option (List ℕ) → Bool → Type 0

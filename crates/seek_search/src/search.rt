@@ -2,8 +2,6 @@
 ghost use Rattle.std.specs.Prelude.{◌≡◌, [], false, flat_map, IfOk};
 ghost use Rattle.std.specs.Arc.{arc_value};
 ghost use Rattle.program_parts.specs.Values.{texts_of as texts_now};
-ghost use Rattle.seek_words.specs.Filter.{sought_of};
-ghost use Rattle.seek_words.specs.Lines.{form_of};
 ghost use Rattle.jwalk.specs.jwalk_model.Options.{with_skip_hidden};
 ghost use Rattle.jwalk.specs.jwalk_job.Options.{options_value};
 ghost use Rattle.jwalk.specs.WalkDir.{callback_of, described, file_system_of, options_of, root_of, state_of, with_callback, Sets};
@@ -12,11 +10,10 @@ ghost use Rattle.jwalk_ignore.specs.Callback.IgnoreViews.{next_of, settings_of, 
 ghost use Rattle.jwalk_ignore.specs.Callback.Excluding.{excluded_of};
 ghost use Rattle.jwalk_ignore.specs.Callback.Kept.{ignoring_walk};
 ghost use Rattle.seek_search.specs.Goes.{IsHonouring, IsPlain, Yielded, YieldedBelow};
-ghost use Rattle.seek_search.specs.Printed.{PrintsAll, PrintsThose, PrintsWalk};
+ghost use Rattle.seek_search.specs.Printed.{PrintsAll, PrintsThose, PrintsWalk, StaysAs};
 ghost use Rattle.seek_search.specs.Search.{all_below, excluded_asked, kept_below, options_asked, roots_asked, settings_asked, unpruned_below, yielded_by};
 ghost use Rattle.seek_found.specs.Prune.{unpruned};
 ghost use Rattle.seek_found.specs.Roots.{AreBelow};
-ghost use Rattle.seek_found.specs.SoughtTest.{takes_of};
 
 use crate::excluded::{excluding_of, naming_of};
 use jwalk::file_system::FileSystem;
@@ -75,8 +72,7 @@ where
         printer.old printer.new (W.contents out.old) (W.contents out.new)) }
     ensures yielded { IfOk result (PrintsThose (S.IsFixed disk.now) (S.functions disk.now) (Yielded ⟦<CrewWalk<T, C, S, P> as Iterator>⟧.next_gives (λ it. it ≡ walk))
         printer.old printer.new (W.contents out.old) (W.contents out.new)) }
-    ensures sought { sought_of takes_of (S.functions disk.now) printer.new.filter ≡ sought_of takes_of (S.functions disk.now) printer.old.filter }
-    ensures form { form_of (S.functions disk.now) printer.new.lines ≡ form_of (S.functions disk.now) printer.old.lines }
+    ensures stays { StaysAs (S.functions disk.now) printer.old printer.new }
 {
     let mut answers = walk.into_iter();
     print_found(&mut answers, printer, disk, clock, out, err)
@@ -136,8 +132,7 @@ fn search_walk<
     ensures yielded { IfOk result (PrintsThose (S.IsFixed (arc_value disk.now)) (S.functions (arc_value disk.now)) (Yielded ⟦<HonouringWalk<T, S, X> as Iterator>⟧.next_gives
         (Sets (record (with_callback rules (described walk)) { options = with_skip_hidden false (options_of walk) })))
         printer.old printer.new (W.contents out.old) (W.contents out.new)) }
-    ensures sought { sought_of takes_of (S.functions (arc_value disk.now)) printer.new.filter ≡ sought_of takes_of (S.functions (arc_value disk.now)) printer.old.filter }
-    ensures form { form_of (S.functions (arc_value disk.now)) printer.new.lines ≡ form_of (S.functions (arc_value disk.now)) printer.old.lines }
+    ensures stays { StaysAs (S.functions (arc_value disk.now)) printer.old printer.new }
 {
     print_begun(
         with_hidden_shown(walk, rules),
@@ -196,8 +191,7 @@ impl<
         ensures yielded { IfOk result (PrintsThose (S.IsFixed (arc_value self.now.disk)) (S.functions (arc_value self.now.disk)) (Yielded ⟦<PlainWalk<T, S> as Iterator>⟧.next_gives
             (IsPlain (arc_value self.now.disk) self.now.lines.now self.now.asked.now root.now))
             printer.old printer.new (W.contents out.old) (W.contents out.new)) }
-        ensures sought { sought_of takes_of (S.functions (arc_value self.now.disk)) printer.new.filter ≡ sought_of takes_of (S.functions (arc_value self.now.disk)) printer.old.filter }
-        ensures form { form_of (S.functions (arc_value self.now.disk)) printer.new.lines ≡ form_of (S.functions (arc_value self.now.disk)) printer.old.lines }
+        ensures stays { StaysAs (S.functions (arc_value self.now.disk)) printer.old printer.new }
     {
         let naming = naming_of(alloc, self.lines, root)?;
         let excluding = excluding_of(alloc, self.asked.excludes.as_slice(), root)?;
@@ -231,8 +225,7 @@ impl<
         ensures yielded { IfOk result (PrintsThose (S.IsFixed (arc_value self.now.disk)) (S.functions (arc_value self.now.disk)) (Yielded ⟦<HonouringWalk<T, S, X> as Iterator>⟧.next_gives
             (IsHonouring (arc_value self.now.disk) (arc_value self.now.texts) self.now.lines.now self.now.asked.now root.now))
             printer.old printer.new (W.contents out.old) (W.contents out.new)) }
-        ensures sought { sought_of takes_of (S.functions (arc_value self.now.disk)) printer.new.filter ≡ sought_of takes_of (S.functions (arc_value self.now.disk)) printer.old.filter }
-        ensures form { form_of (S.functions (arc_value self.now.disk)) printer.new.lines ≡ form_of (S.functions (arc_value self.now.disk)) printer.old.lines }
+        ensures stays { StaysAs (S.functions (arc_value self.now.disk)) printer.old printer.new }
     {
         let excluding = excluding_of(alloc, self.asked.excludes.as_slice(), root)?;
         let texts = self.texts.clone()?;
@@ -267,8 +260,7 @@ impl<
         ensures yielded { IfOk result (PrintsThose (S.IsFixed (arc_value self.now.disk)) (S.functions (arc_value self.now.disk)) (λ sought may_stop. YieldedBelow ⟦<PlainWalk<T, S> as Iterator>⟧.next_gives
             ⟦<HonouringWalk<T, S, X> as Iterator>⟧.next_gives (arc_value self.now.disk) (arc_value self.now.texts)
             self.now.lines.now self.now.asked.now sought may_stop root.now) printer.old printer.new (W.contents out.old) (W.contents out.new)) }
-        ensures sought { sought_of takes_of (S.functions (arc_value self.now.disk)) printer.new.filter ≡ sought_of takes_of (S.functions (arc_value self.now.disk)) printer.old.filter }
-        ensures form { form_of (S.functions (arc_value self.now.disk)) printer.new.lines ≡ form_of (S.functions (arc_value self.now.disk)) printer.old.lines }
+        ensures stays { StaysAs (S.functions (arc_value self.now.disk)) printer.old printer.new }
     {
         if self.asked.no_ignore {
             return self.search_all(alloc, root, printer, out, err);
@@ -291,8 +283,7 @@ impl<
         ensures whole { IfOk result (λ clean. S.IsFixed (arc_value self.now.disk) → X.IsFixed (arc_value self.now.texts)
             → PrintsAll (S.functions (arc_value self.now.disk)) (λ sought. flat_map (unpruned_below (S.functions (arc_value self.now.disk))
             (X.functions (arc_value self.now.texts)) self.now.lines.now self.now.asked.now sought) (texts_now roots.now)) printer.old printer.new (W.contents out.old) (W.contents out.new) clean) }
-        ensures sought { sought_of takes_of (S.functions (arc_value self.now.disk)) printer.new.filter ≡ sought_of takes_of (S.functions (arc_value self.now.disk)) printer.old.filter }
-        ensures form { form_of (S.functions (arc_value self.now.disk)) printer.new.lines ≡ form_of (S.functions (arc_value self.now.disk)) printer.old.lines }
+        ensures stays { StaysAs (S.functions (arc_value self.now.disk)) printer.old printer.new }
     {
         match roots {
             [] => Ok(true),
