@@ -1,5 +1,5 @@
 #!/usr/bin/env python3
-"""Rows of ignore files, paths and what git says of them, as in crates/test_ignore/src/rows.rt.
+"""Rows of ignore files, paths and what git says of them, as in crates/test_seek/src/ignore/rows.rt.
 
     python3 bench/ignore.py [SEED [COUNT]]
     python3 bench/ignore.py speed [PROGRAM ..]      times of `seek` beside `fd` (ignore_speed.py)

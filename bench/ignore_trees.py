@@ -1,5 +1,5 @@
 #!/usr/bin/env python3
-"""Small trees with ignore files, and what git keeps of them, as in crates/test_ignore/src/tree_rows.
+"""Small trees with ignore files, and what git keeps of them, as in crates/test_seek/src/ignore/tree_rows.
 
     python3 bench/ignore_trees.py write SEED           writes the 100 trees of the tests, 50 a file; theirs is seed 1
     python3 bench/ignore_trees.py against PROGRAM COUNT SEED
@@ -160,7 +160,7 @@ def chosen(rows, count):
 
 def write(seed):
     """Writes the tables of the tests, of trees of at most 12 lines."""
-    top = os.path.join(os.path.dirname(os.path.abspath(__file__)), "..", "crates", "test_ignore", "src", "tree_rows")
+    top = os.path.join(os.path.dirname(os.path.abspath(__file__)), "..", "crates", "test_seek", "src", "ignore", "tree_rows")
     os.makedirs(top, exist_ok=True)
     rows = [(lines, left) for _, _, lines, left in trees(900, seed) if len(lines) <= 12 and len(left) < len(paths_of(lines))]
     rows = chosen(rows[:200], PER_FILE * len(FILES))

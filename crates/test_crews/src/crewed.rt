@@ -1,6 +1,4 @@
 //! Walks that a crew reads for, over a tree.
-ghost use Rattle.jwalk.specs.WalkDir.{callback_of};
-
 use jwalk::crew::Session;
 use jwalk::file_system::FileSystem;
 use jwalk::read_dir::{NoProcess, ProcessReadDir};
@@ -10,8 +8,9 @@ use std::sync::{Arc, Wait};
 use std::time::{Clock, Duration};
 use test_fixtures::answers::Answer;
 use test_fixtures::builders::builder;
+use test_fixtures::by_crew::all_by_crew;
 use test_fixtures::host::Host;
-use test_fixtures::ways::{Setting, all_of, with_all};
+use test_fixtures::ways::{Setting, with_all};
 
 /// States without a content.
 pub type States = ((), ());
@@ -143,24 +142,6 @@ impl<R: Host, S: FileSystem + Send + Sync + 'static> Stand<R, S> {
         let walk = self.builder(asked)?.process_read_dir(process);
         all_by_crew(self.alloc, walk)
     }
-}
-
-/// Returns all that a walk yields, for which a crew may read.
-pub fn all_by_crew<
-    R: Host,
-    C: ClientState + Send + 'static,
-    S: FileSystem + Send + Sync + 'static,
-    P: ProcessReadDir<C, Global> + Send + Sync + 'static,
->(
-    alloc: Global,
-    walk: WalkDirGeneric<C, S, P, Global, Crew<R>>,
-) -> Result<Vec<Answer<C>>, AllocError>
-where
-    C::ReadDirState: Send + 'static,
-    C::DirEntryState: Send + 'static,
-    requires { P.IsLawful (callback_of walk) }
-{
-    all_of(alloc, walk.into_iter())
 }
 
 /// Returns all that a walk yields, for which this number of workers of its own read.

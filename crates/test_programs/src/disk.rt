@@ -1,5 +1,4 @@
 //! Walks over the real disk, and over disks whose answers are in a table.
-mod folder;
 pub mod lines;
 mod links;
 mod listings;

@@ -1,4 +1,4 @@
-//! The output of the program `walk` and of the small programs of `examples`, and walks over a disk.
+//! The output of the programs `walk` and `tally` and of the small programs of `examples`, and walks over a disk.
 #![tactic(auto)]
 
 #[cfg(test)]
@@ -7,3 +7,5 @@ mod disk;
 mod program;
 #[cfg(test)]
 mod small_programs;
+#[cfg(test)]
+mod tally;

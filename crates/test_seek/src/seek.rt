@@ -5,7 +5,6 @@ mod broken;
 mod come;
 mod disk;
 mod errors;
-mod folder;
 mod given;
 mod help;
 mod hyphens;

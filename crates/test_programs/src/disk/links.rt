@@ -1,15 +1,15 @@
 //! Walks over links on the disk.
-use crate::disk::folder::{Step, make, remove};
 use crate::disk::real::{BY_NAME, FOLLOWED, Row, found, holds};
 use std::alloc::{AllocError, Global};
 use std::test::Fail;
 use std::{env, io};
+use test_fixtures::folder::{Step, make, remove};
 use test_fixtures::ways::Setting;
 
 /// A directory of one file, and links to both and to nothing.
 const LINKED: &[Step] = &[
     Step::Dir("/a"),
-    Step::File(1, "/a/x"),
+    Step::Zeros(1, "/a/x"),
     Step::Link("a", "/to_a"),
     Step::Link("a/x", "/to_x"),
     Step::Link("none", "/to_none"),

@@ -1,5 +1,4 @@
 //! The metadata that entries of the disk keep.
-use crate::disk::folder::{Step, make, path_in, remove};
 use crate::disk::lines::Walk;
 use crate::disk::real::{BY_NAME, answers_of};
 use jwalk::file_system::{Details, FileType, Metadata, Moment};
@@ -11,12 +10,13 @@ use std::test::Fail;
 use std::time::{Duration, SystemTime, UNIX_EPOCH};
 use std::{fs, io};
 use test_fixtures::answers::Answer;
+use test_fixtures::folder::{Step, make, path_in, remove};
 
 /// A directory, a file, a link to it, and a file that will have two names.
 const KINDS: &[Step] = &[
     Step::Dir("/d"),
-    Step::File(5_000, "/f"),
-    Step::File(3, "/h1"),
+    Step::Zeros(5_000, "/f"),
+    Step::Zeros(3, "/h1"),
     Step::Link("f", "/l"),
 ];
 

@@ -1,9 +1,9 @@
 //! Walks over folders on the disk.
-use crate::disk::folder::{Step, make, path_in, remove};
 use crate::disk::lines::{Walk, answers, lines};
 use jwalk::file_system::RealFs;
 use std::alloc::AllocError;
 use test_fixtures::answers::Answer;
+use test_fixtures::folder::{Step, make, path_in, remove};
 use test_fixtures::ways::Setting;
 
 /// The settings of a walk by name.

@@ -1,7 +1,6 @@
 //! Walks over directories on the disk that can't be read.
 ghost use Rattle.jwalk.specs.DirEntryIter.{reads_of};
 
-use crate::disk::folder::{Step, make, path_in, remove};
 use crate::disk::real::{BY_NAME, shows_from};
 use jwalk::entries::Entries;
 use jwalk::file_system::{FileSystem, RealFs};
@@ -13,6 +12,7 @@ use std::test::Fail;
 use std::{fs, io};
 use test_fixtures::answers::{Answer, are_lines};
 use test_fixtures::builders::{Builder, builder};
+use test_fixtures::folder::{Step, make, path_in, remove};
 use test_fixtures::ways::with_all;
 
 /// Adds the first answer, removes the directory, and adds the other answers.
@@ -59,11 +59,11 @@ fn shows_removal(rt: &HostRuntime, folder: &str) -> io::Result<bool> {
 fn a_directory_that_is_removed_under_way(rt: HostRuntime) -> Result<(), Fail> {
     const STEPS: &[Step] = &[
         Step::Dir("/a"),
-        Step::File(1, "/a/x"),
+        Step::Zeros(1, "/a/x"),
         Step::Dir("/b"),
-        Step::File(1, "/b/x"),
+        Step::Zeros(1, "/b/x"),
         Step::Dir("/c"),
-        Step::File(1, "/c/x"),
+        Step::Zeros(1, "/c/x"),
     ];
     let folder = make(&rt, "removed", STEPS)?;
     let is_shown = shows_removal(&rt, folder.as_str());
@@ -88,7 +88,11 @@ fn shows_closed(rt: &HostRuntime, folder: &str) -> io::Result<bool> {
 }
 
 /// A directory of one file, and a file beside it.
-const CLOSED: &[Step] = &[Step::Dir("/a"), Step::File(1, "/a/x"), Step::File(1, "/b")];
+const CLOSED: &[Step] = &[
+    Step::Dir("/a"),
+    Step::Zeros(1, "/a/x"),
+    Step::Zeros(1, "/b"),
+];
 
 #[test]
 fn a_directory_without_permissions(rt: HostRuntime) -> Result<(), Fail> {

@@ -1,10 +1,10 @@
 //! Walks over large folders on the disk.
-use crate::disk::folder::{make, path_in, remove};
 use crate::disk::lines::Walk;
 use crate::disk::real::{BY_NAME, answers_of, shows_from};
 use std::test::Fail;
 use std::{fs, io};
 use test_fixtures::answers::Answer;
+use test_fixtures::folder::{make, path_in, remove};
 
 /// Makes a file of the wide directory, and adds the line of its entry. The names have the order of the numbers.
 fn make_file(rt: &HostRuntime, folder: &str, number: usize, lines: &mut String) -> io::Result<()> {

@@ -1,5 +1,4 @@
 //! Walks from folders, files and other things on the disk.
-use crate::disk::folder::{Step, make, path_in, remove};
 use crate::disk::lines::lines;
 use crate::disk::real::{Row, found, holds, shows_from};
 use crate::program::runs::comes_unread;
@@ -10,19 +9,20 @@ use std::test::Fail;
 use std::thread::Threads;
 use std::{env, io};
 use test_fixtures::builders::{Builder, builder};
+use test_fixtures::folder::{Step, make, path_in, remove};
 use test_fixtures::host::Host;
 use test_fixtures::ways::{Setting, all_on_threads};
 
 /// Files and two groups of files, one of which has a hidden name.
 const GROUPED: &[Step] = &[
-    Step::File(1, "/c.txt"),
-    Step::File(2, "/a.txt"),
+    Step::Zeros(1, "/c.txt"),
+    Step::Zeros(2, "/a.txt"),
     Step::Dir("/group 2"),
-    Step::File(3, "/group 2/.hidden_file.txt"),
-    Step::File(4, "/group 2/e.txt"),
+    Step::Zeros(3, "/group 2/.hidden_file.txt"),
+    Step::Zeros(4, "/group 2/e.txt"),
     Step::Dir("/group 1"),
-    Step::File(5, "/group 1/d.txt"),
-    Step::File(6, "/b.txt"),
+    Step::Zeros(5, "/group 1/d.txt"),
+    Step::Zeros(6, "/b.txt"),
 ];
 
 /// The lines of a walk by name over these files.

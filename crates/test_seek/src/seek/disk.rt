@@ -1,28 +1,28 @@
 //! Runs over the disk. Only a test itself names a runtime whose threads may reach the disk.
 use crate::seek::come::wrong_below;
-use crate::seek::folder::{Step, make, remove};
 use crate::seek::kept;
 use jwalk::file_system::RealFs;
 use jwalk_ignore::real_texts::RealTexts;
 use std::io;
 use std::sync::Arc;
+use test_fixtures::folder::{Step, make, remove};
 
 const RULED: &[Step] = &[
-    Step::Dir(".git"),
-    Step::Dir(".git/info"),
-    Step::File("/d\n", ".git/info/exclude"),
-    Step::File("*.o\n!k.o\n", ".gitignore"),
-    Step::File("", "a.c"),
-    Step::File("", "a.o"),
-    Step::File("", "k.o"),
-    Step::Dir("d"),
-    Step::File("", "d/x"),
-    Step::Dir("e"),
-    Step::File("y\n", "e/.ignore"),
-    Step::File("", "e/x"),
-    Step::File("", "e/y"),
-    Step::Link("a.c", "l"),
-    Step::File("", "new\nline"),
+    Step::Dir("/.git"),
+    Step::Dir("/.git/info"),
+    Step::File("/d\n", "/.git/info/exclude"),
+    Step::File("*.o\n!k.o\n", "/.gitignore"),
+    Step::File("", "/a.c"),
+    Step::File("", "/a.o"),
+    Step::File("", "/k.o"),
+    Step::Dir("/d"),
+    Step::File("", "/d/x"),
+    Step::Dir("/e"),
+    Step::File("y\n", "/e/.ignore"),
+    Step::File("", "/e/x"),
+    Step::File("", "/e/y"),
+    Step::Link("a.c", "/l"),
+    Step::File("", "/new\nline"),
 ];
 
 const RULES: &str = "\
@@ -63,13 +63,13 @@ $ seek --xdev ^ptmx$ /dev
 
 /// A folder above `s` in which no file of rules is a regular file, and `.git` is a link that leads nowhere.
 const ABOVE: &[Step] = &[
-    Step::Link("nowhere", ".git"),
-    Step::Dir(".gitignore"),
-    Step::File("a\n", "rules"),
-    Step::Link("rules", ".ignore"),
-    Step::Dir("s"),
-    Step::File("", "s/a"),
-    Step::Link("../rules", "s/.ignore"),
+    Step::Link("nowhere", "/.git"),
+    Step::Dir("/.gitignore"),
+    Step::File("a\n", "/rules"),
+    Step::Link("rules", "/.ignore"),
+    Step::Dir("/s"),
+    Step::File("", "/s/a"),
+    Step::Link("../rules", "/s/.ignore"),
 ];
 
 const BELOW: &str = "\
@@ -78,7 +78,7 @@ $ seek . %/s
   %/s/a
 ";
 
-const FEEDS: &[Step] = &[Step::File("", "a\nb"), Step::File("", "\n")];
+const FEEDS: &[Step] = &[Step::File("", "/a\nb"), Step::File("", "/\n")];
 
 const FED: &str = "\
 # a name with a line feed

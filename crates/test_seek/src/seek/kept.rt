@@ -1,22 +1,22 @@
 //! Finds by the metadata that a listing keeps: times and modes.
 use crate::seek::come::all_come;
-use crate::seek::folder::Step;
 use jwalk::file_system::{Details, FileType, Identity, Metadata, Moment};
 use seek_words::kinds::Kinds;
+use test_fixtures::folder::Step;
 
 /// Files of known times, of which two are a nanosecond apart, and new files.
 pub(crate) const STEPS: &[Step] = &[
-    Step::Dir("d"),
-    Step::File("", "may"),
-    Step::Modified(1_714_521_600, 0, "may"),
-    Step::File("", "later"),
-    Step::Modified(1_714_521_600, 1, "later"),
-    Step::File("", "old"),
-    Step::Modified(1_672_531_200, 0, "old"),
-    Step::File("", "new"),
-    Step::File("", "run"),
-    Step::Mode(0o755, "run"),
-    Step::Link("old", "l"),
+    Step::Dir("/d"),
+    Step::File("", "/may"),
+    Step::Modified(1_714_521_600, 0, "/may"),
+    Step::File("", "/later"),
+    Step::Modified(1_714_521_600, 1, "/later"),
+    Step::File("", "/old"),
+    Step::Modified(1_672_531_200, 0, "/old"),
+    Step::File("", "/new"),
+    Step::File("", "/run"),
+    Step::Mode(0o755, "/run"),
+    Step::Link("old", "/l"),
 ];
 
 /// The finds of `fd` and of `find -newer` in the folder of these steps.

@@ -1,5 +1,5 @@
 //! What is left where not all files of rules count, or more of them do.
-use crate::leave::all_leave;
+use crate::ignore::leave::all_leave;
 
 const ROWS: &str = "\
 # without version control ignore files count

@@ -1,5 +1,5 @@
 //! The rules that are in force at each place.
-use crate::leave::all_leave;
+use crate::ignore::leave::all_leave;
 
 const ROWS: &str = "\
 # the kinds decide in order

@@ -1,5 +1,5 @@
 //! The rules of files, and the pattern of a line.
-use crate::rows::{ROWS, Row};
+use crate::ignore::rows::{ROWS, Row};
 use jwalk_ignore::decision::Decision;
 use jwalk_ignore::pattern::Pattern;
 use jwalk_ignore::rules::Rules;

@@ -1,6 +1,6 @@
 //! The identity of files, and the room that they take on the disk.
-use crate::numbered::{Known, Numbered};
-use crate::runs::{Want, comes};
+use crate::tally::numbered::{Known, Numbered};
+use crate::tally::runs::{Want, comes};
 use std::process::Abort;
 use test_fixtures::host::Host;
 use walk_text::tree::build_tree;

@@ -1,6 +1,6 @@
 //! Subtotals where each request for memory is refused, or all from each on.
-use crate::files::{KNOWN, TREE};
-use crate::numbered::Numbered;
+use crate::tally::files::{KNOWN, TREE};
+use crate::tally::numbered::Numbered;
 use jwalk::file_system::FileSystem;
 use jwalk::read_dir::NoProcess;
 use jwalk::{ClientState, DirEntryIter, WalkDirGeneric};

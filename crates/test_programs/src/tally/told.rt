@@ -1,5 +1,5 @@
 //! The line that tells how far a call is.
-use crate::runs::{FILE, TREE_A};
+use crate::tally::runs::{FILE, TREE_A};
 use jwalk_ignore::memory_texts::MemoryTexts;
 use std::alloc::{AllocError, Global};
 use std::io;

@@ -1,5 +1,5 @@
 //! Tables.
-use crate::runs::{Row, TREE_A, all_come};
+use crate::tally::runs::{Row, TREE_A, all_come};
 
 #[test]
 fn a_table_has_what_is_in_the_root_largest_first(rt: HostRuntime) {

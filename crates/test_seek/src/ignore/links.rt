@@ -1,8 +1,8 @@
 //! Many links to the directory that they are in, with rules in force.
-use crate::left::{Numbers, Wanted};
-use crate::planted::{Planted, tree_of};
-use crate::settings::Settings;
-use crate::walks::{Shared, crew_of_two};
+use crate::ignore::left::{Numbers, Wanted};
+use crate::ignore::planted::{Planted, tree_of};
+use crate::ignore::settings::Settings;
+use crate::ignore::walks::{Shared, crew_of_two};
 use jwalk::file_system::BuildError;
 use std::alloc::Global;
 use test_fixtures::host::Host;

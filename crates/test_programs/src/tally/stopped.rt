@@ -1,5 +1,5 @@
 //! Calls that are stopped early.
-use crate::runs::{Want, comes};
+use crate::tally::runs::{Want, comes};
 use test_fixtures::host::Host;
 use test_fixtures::watched::{Failing, Watched};
 use walk_text::tree::build_tree;

@@ -1,9 +1,9 @@
 //! Walks that honour ignore files, in each way and over a crew.
 ghost use Rattle.std.specs.Prelude.{IfOk};
 
-use crate::left::Wanted;
-use crate::planted::{Planted, Rules};
-use crate::settings::Settings;
+use crate::ignore::left::Wanted;
+use crate::ignore::planted::{Planted, Rules};
+use crate::ignore::settings::Settings;
 use jwalk::file_system::{FileSystem, MemoryFs};
 use jwalk::read_dir::ProcessReadDir;
 use jwalk::{ClientState, Crew, Parallelism, WalkDirGeneric};
@@ -14,8 +14,9 @@ use std::alloc::{AllocError, Global};
 use std::sync::Arc;
 use std::thread::Threads;
 use test_fixtures::answers::Answer;
+use test_fixtures::by_crew::all_by_crew;
 use test_fixtures::host::Host;
-use test_fixtures::ways::{Asked, Setting, WAYS, Way, all_of};
+use test_fixtures::ways::{Asked, Setting, WAYS, Way};
 
 /// The crew serves one walk at a time.
 pub(crate) fn crew_of_two<R: Host>(rt: &R) -> Result<Arc<Crew<R>>, AllocError> {
@@ -70,7 +71,7 @@ impl Again<Rules> for SharedRules {
 }
 
 /// The walk is by name, and is shown hidden names.
-fn all_by_crew<
+fn all_by_name<
     R: Host,
     C: ClientState + Send + 'static,
     S: FileSystem + Send + Sync + 'static,
@@ -97,7 +98,7 @@ where
             pool,
             busy_timeout: None,
         });
-    all_of(alloc, walk.process_read_dir(process).into_iter())
+    all_by_crew(alloc, walk.process_read_dir(process))
 }
 
 /// A walk by name, over a tree that a crew's workers share. It is shown hidden names.
@@ -142,7 +143,7 @@ impl<S: FileSystem + Send + Sync + 'static, P> Walk<'_, S, P> {
     {
         let fs = self.fs.clone()?;
         let process = self.process.again()?;
-        all_by_crew(alloc, fs, self.root, self.follow, process, pool.clone()?)
+        all_by_name(alloc, fs, self.root, self.follow, process, pool.clone()?)
     }
 
     /// Walks over a crew and in each way. Returns the items of the first walk that doesn't yield what is wanted.

@@ -1,5 +1,5 @@
 //! Rules that are the same wherever a walk starts.
-use crate::leave::all_leave;
+use crate::ignore::leave::all_leave;
 
 const ROWS: &str = "\
 # ignore files above a repository are in force

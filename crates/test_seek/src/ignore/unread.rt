@@ -1,5 +1,5 @@
 //! Files of rules that can't be read.
-use crate::leave::all_leave;
+use crate::ignore::leave::all_leave;
 
 const ROWS: &str = "\
 # rules that cannot be read are an error behind their entry

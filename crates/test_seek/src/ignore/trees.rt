@@ -1,6 +1,6 @@
 //! Trees of one repository, compared with git's answers.
-use crate::leave::all_leave;
-use crate::tree_rows::{first, second};
+use crate::ignore::leave::all_leave;
+use crate::ignore::tree_rows::{first, second};
 
 #[test]
 fn walks_leave_what_git_keeps(rt: HostRuntime) {

@@ -1,5 +1,5 @@
 //! Walks with rules, where each request for memory is refused, or all from each on.
-use crate::planted::{Planted, tree_of};
+use crate::ignore::planted::{Planted, tree_of};
 use jwalk::file_system::{BuildError, FileSystem, MemoryFs};
 use jwalk::read_dir::ProcessReadDir;
 use jwalk::{ClientState, WalkDirGeneric};

@@ -12,9 +12,9 @@
 //! | `$ walk ROOT SETTING ..` | a row, which is a walk by name |
 //! | two spaces, `TEXT` | a line of the tree, or an item that the walk must yield |
 //!
-//! An item is as in [`Wanted`](crate::left::Wanted). An empty line says nothing.
-use crate::planted::Planted;
-use crate::settings::Settings;
+//! An item is as in [`Wanted`](crate::ignore::left::Wanted). An empty line says nothing.
+use crate::ignore::planted::Planted;
+use crate::ignore::settings::Settings;
 use jwalk::file_system::FileType;
 use std::alloc::Global;
 use std::io::ErrorKind;

@@ -1,5 +1,5 @@
 //! Lines of a size and a path.
-use crate::runs::{FILE, Row, TREE_A, all_come, comes_on};
+use crate::tally::runs::{FILE, Row, TREE_A, all_come, comes_on};
 use tally_run::screen::Screen;
 
 #[test]

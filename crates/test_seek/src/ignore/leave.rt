@@ -1,7 +1,7 @@
 //! What the walks of a table leave.
-use crate::left::Wanted;
-use crate::table::{Scene, read_table};
-use crate::walks::{Shared, crew_of_two};
+use crate::ignore::left::Wanted;
+use crate::ignore::table::{Scene, read_table};
+use crate::ignore::walks::{Shared, crew_of_two};
 use jwalk::Crew;
 use std::alloc::AllocError;
 use std::process::Abort;

@@ -1,5 +1,5 @@
 //! Entries that are left out: by the words of the call, and by files of rules.
-use crate::runs::{Row, RulesFile, all_come_with};
+use crate::tally::runs::{Row, RulesFile, all_come_with};
 
 /// A repository with rules at two depths.
 const TREE: &str =
