@@ -7,10 +7,10 @@ use Rattle.jwalk.specs.jwalk_model.Entry.{Item, AtDepth}
 use Rattle.jwalk.specs.jwalk_model.FileType.{is_file}
 use Rattle.jwalk.specs.jwalk_model.Job.{Processing, KeepsDepthsOf}
 use Rattle.jwalk.specs.jwalk_model.ReadDir.{list_depth}
-use Rattle.jwalk_ignore.specs.Rules.ChainViews.{chain_value}
 use Rattle.jwalk_ignore.specs.Rules.ChainWorth.{bool_in, bool_worth, chain_worth, first_in, second_in}
 use Rattle.jwalk_ignore.specs.Callback.Given.{ignoring-KeepsDepthsOf}
 use Rattle.jwalk_ignore.specs.Callback.IgnoreViews.{ignoring}
+use Rattle.jwalk_ignore.specs.Callback.States.{beside, first_rules}
 use Rattle.jwalk_ignore.specs.Rules.Texts.{Texts}
 use Rattle.jwalk_ignore.specs.jwalk_ignore_rules.declared.rules.chain.Chain.{Chain}
 use Rattle.jwalk_ignore.specs.Callback.Settings.{Settings}
@@ -42,7 +42,7 @@ packages-KeepsDepthsOf depth path state list h = marks_keep (list_depth depth) _
 
 -- what the state of a directory counts as: the rules in force, beside whether it lies in a package
 abbrev pub rules_and_package : {A : Type 0} → Chain A × Bool → Worth
-rules_and_package state = both (chain_worth (chain_value state.0)) (bool_worth state.1)
+rules_and_package state = both (chain_worth (first_rules state)) (bool_worth (beside state))
 
 -- The callback makes of lists what is given: states count so, and lists are marked.
 abbrev pub CountsPackages : {A : Type 0} → Given (Chain A × Bool) Bool → Type 0

@@ -9,6 +9,7 @@ ghost use Rattle.jwalk.specs.WalkDir.{file_system_of, options_of, root_of, state
 ghost use Rattle.jwalk.specs.DirEntryIter.{NoneRefused};
 ghost use Rattle.jwalk_ignore.specs.Callback.Given.{first_settings, ignoring_alone, job_ignoring, no_rules_yet, rules_alone};
 ghost use Rattle.jwalk_ignore.specs.Callback.IgnoreViews.{settings_of, texts_of};
+ghost use Rattle.jwalk_ignore.specs.Callback.States.{first_rules};
 ghost use Rattle.jwalk_ignore.specs.Rules.MemoryTexts.{texts_of as texts_in};
 
 use crate::given::walk_ignoring_given;
@@ -43,10 +44,10 @@ pub fn walk_ignoring<S: FileSystem, X: Texts, A: Allocator + Copy>(
 ) -> Result<Vec<Found<A>, A>, AllocError>
     ensures { IfOk result (λ found. S.IsFixed (file_system_of walk) → X.IsFixed (texts_of rules)
         → NoneRefused found.items
-        → counted_list (ignoring_alone (settings_of rules) (X.functions (texts_of rules))) found.items
+        → counted_list (ignoring_alone first_rules (settings_of rules) (X.functions (texts_of rules))) found.items
         ≡ whole_walk (job_ignoring (settings_of rules) (X.functions (texts_of rules))
         (S.functions (file_system_of walk)) (with_skip_hidden false (options_of walk)))
-        (root_of walk) (rules_alone (state_of walk))) }
+        (root_of walk) (rules_alone first_rules (state_of walk))) }
 {
     walk_ignoring_given(alloc, walk, rules)
 }
@@ -64,7 +65,7 @@ pub fn walk_tree_ignoring(
     root: String,
 ) -> Result<Vec<Found<Global>>, AllocError>
     ensures { IfOk result (λ found. NoneRefused found.items
-        → counted_list (ignoring_alone first_settings (texts_in texts.now)) found.items
+        → counted_list (ignoring_alone first_rules first_settings (texts_in texts.now)) found.items
         ≡ whole_walk (job_ignoring first_settings (texts_in texts.now)
         (functions_of (tree_of fs.now)) (with_skip_hidden false defaults))
         (string_bytes root) no_rules_yet) }

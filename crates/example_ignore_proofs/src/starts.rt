@@ -5,6 +5,7 @@ ghost use Rattle.jwalk.specs.jwalk_memory_fs.MemoryFs.{tree_of};
 ghost use Rattle.jwalk.specs.jwalk_job.Given.{counted_list};
 ghost use Rattle.jwalk.specs.DirEntryIter.{NoneRefused};
 ghost use Rattle.jwalk_ignore.specs.Callback.Given.{first_settings, ignoring_alone};
+ghost use Rattle.jwalk_ignore.specs.Callback.States.{first_rules};
 ghost use Rattle.jwalk_ignore.specs.Rules.MemoryTexts.{texts_of};
 ghost use Rattle.jwalk_ignore_laws.specs.Walks.{AreStarts};
 ghost use Rattle.example_ignore_proofs.specs.Starts.{SameBelow, first_options};
@@ -31,8 +32,8 @@ pub fn walk_twice(
     ensures { IfOk result (λ both. NoneRefused both.0.items → NoneRefused both.1.items
         → AreStarts first_settings (texts_of texts.now) (functions_of (tree_of fs.now)) first_options (string_bytes root) (string_bytes directory)
         → SameBelow (string_bytes directory)
-        (counted_list (ignoring_alone first_settings (texts_of texts.now)) both.0.items)
-        (counted_list (ignoring_alone first_settings (texts_of texts.now)) both.1.items)) }
+        (counted_list (ignoring_alone first_rules first_settings (texts_of texts.now)) both.0.items)
+        (counted_list (ignoring_alone first_rules first_settings (texts_of texts.now)) both.1.items)) }
 {
     let above = walk_tree_ignoring(alloc, fs, texts, root)?;
     let below = walk_tree_ignoring(alloc, fs, texts, directory)?;

@@ -9,17 +9,18 @@ use Rattle.jwalk.specs.jwalk_model.Walk.{whole_walk}
 use Rattle.jwalk_ignore.specs.Callback.Excluding.{Excluded, Excludes, excluding, excluding-KeepsDepthsOf}
 use Rattle.jwalk_ignore.specs.Callback.IgnoreViews.{ignoring, Ignores}
 use Rattle.jwalk_ignore.specs.Callback.Kept.{given_kept, ignoring_walk, job_with}
+use Rattle.jwalk_ignore.specs.Rules.Chain.{Chain}
 use Rattle.jwalk_ignore.specs.Rules.Texts.{Texts}
 use Rattle.jwalk_ignore.specs.Callback.Settings.{Settings}
 
 -- the callback of ignore files with lines behind it makes of lists what is given
-pub ignores_kept : (A B E : Type 0) {fixed : Type 0} {texts texts' : Texts} {settings settings' : Settings} {excluded excluded' : Excluded}
+pub ignores_kept : (R E : Type 0) (rules_in : R → Chain) (others : R → R → Type 0) {fixed : Type 0} {texts texts' : Texts} {settings settings' : Settings} {excluded excluded' : Excluded}
     → fixed → texts' ≡ texts → settings' ≡ settings → excluded' ≡ excluded
-    → Ignores {A = A} {B = B} {E = E} fixed texts' settings' (λ given. Excludes excluded' given) (given_kept settings texts excluded)
-ignores_kept A B E {texts} {texts'} {settings} {settings'} {excluded} {excluded'} told texts_are settings_are lines_are = (
+    → Ignores {R = R} {E = E} rules_in others fixed texts' settings' (λ given. Excludes excluded' given) (given_kept rules_in settings texts excluded)
+ignores_kept R E rules_in others {texts} {texts'} {settings} {settings'} {excluded} {excluded'} told texts_are settings_are lines_are = (
   told,
   (λ state. blank),
-  (λ chain state. refl),
+  ((λ state. refl), (λ old new same. refl)),
   excluding excluded,
   excluding-KeepsDepthsOf excluded,
   (λ (depth : Option ℕ) (path : List ℕ) (state : Worth) (list : List (Item Worth Worth)). ap (λ (x : Excluded). excluding x depth path state list) (sym lines_are)),

@@ -8,5 +8,6 @@ mod SettingsRows
 pub mod MadeDepths
 pub mod Places
 pub mod Sources
+pub mod States
 pub mod Excluding
 pub mod Kept

@@ -12,3 +12,4 @@ mod places;
 mod rules_reader;
 mod settings;
 mod source;
+pub mod states;

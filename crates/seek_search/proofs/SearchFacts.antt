@@ -6,7 +6,6 @@ use Rattle.std.specs.declared.sync.Arc.{Arc}
 use Rattle.jwalk.specs.jwalk_model.Counted.{Worth}
 use Rattle.jwalk.specs.jwalk_model.Entry.{Item}
 use Rattle.jwalk.specs.jwalk_model.Paths.{dot}
-use Rattle.jwalk_ignore.specs.jwalk_ignore_rules.declared.rules.chain.Chain.{Chain}
 use Rattle.jwalk_job.specs.declared.dir_entry.DirEntry.{DirEntry}
 use Rattle.jwalk_job.specs.declared.error.Error.{Error}
 use Rattle.jwalk_job.specs.Error.{depth_of, failure}
@@ -24,6 +23,7 @@ use Rattle.seek_search.specs.Goes.{IsHonouring, IsPlain, LeavesOut, Yielded, Yie
 use Rattle.program_walks.specs.Crew.{CrewCallsOf}
 use Rattle.seek_search.specs.Search.{roots_asked}
 use Rattle.jwalk_ignore.specs.declared.callback.kept_rules.KeptRules.{KeptRules}
+use Rattle.jwalk_ignore.specs.declared.callback.states.RulesState.{RulesState}
 
 module _ {T C S P A R E : Type 0} (calls : CrewCallsOf T C S P A R E) {is : WalkDirGeneric C S P A (Crew T) R E → Type 0} {sought : Sought} where
   -- the answers of a walk with further facts
@@ -65,7 +65,7 @@ module _ {T C S P A R E : Type 0} (calls : CrewCallsOf T C S P A R E) {is : Walk
     counted = y.counted;
   }
 
-module _ {T C S B X A D Q E G H F : Type 0} (plain : CrewCallsOf T G (Arc S B) LeavesOut A H F) (honouring : CrewCallsOf T C (Arc S B) (KeptRules X) A (Chain D × Q) E) (disk : S) (texts : X) (lines : List ℕ) (asked : Asked) (sought : Sought) (may_stop : Type 0) (root : List ℕ) (answers : List (Item Worth Worth)) where
+module _ {T C S B X A E G H F : Type 0} (plain : CrewCallsOf T G (Arc S B) LeavesOut A H F) (honouring : CrewCallsOf T C (Arc S B) (KeptRules X) A RulesState E) (disk : S) (texts : X) (lines : List ℕ) (asked : Asked) (sought : Sought) (may_stop : Type 0) (root : List ℕ) (answers : List (Item Worth Worth)) where
   abbrev Two : Type 0 → Bool → Type 0
   Two stop b = MatchBool b (Yielded plain (IsPlain disk lines asked root) sought stop answers) (Yielded honouring (IsHonouring disk texts lines asked root) sought stop answers)
 
@@ -85,7 +85,7 @@ module _ {T C S B X A D Q E G H F : Type 0} (plain : CrewCallsOf T G (Arc S B) L
   below_may = elim asked.no_ignore as (λ b. Two may_stop b → Two (Unit {0}) b) [ true ↦ yielded_may plain answers | false ↦ yielded_may honouring answers ]
 
 -- the answers below roots depend on the disk, the texts and what is looked for
-pub same_below : {T C S B X A D Q E G H F : Type 0} (plain : CrewCallsOf T G (Arc S B) LeavesOut A H F) (honouring : CrewCallsOf T C (Arc S B) (KeptRules X) A (Chain D × Q) E) (lines : List ℕ) (asked : Asked) (may_stop : Type 0) (roots : List (List ℕ)) {disk disk' : S} {texts texts' : X} {sought sought' : Sought} → disk ≡ disk' → texts ≡ texts' → sought ≡ sought'
+pub same_below : {T C S B X A E G H F : Type 0} (plain : CrewCallsOf T G (Arc S B) LeavesOut A H F) (honouring : CrewCallsOf T C (Arc S B) (KeptRules X) A RulesState E) (lines : List ℕ) (asked : Asked) (may_stop : Type 0) (roots : List (List ℕ)) {disk disk' : S} {texts texts' : X} {sought sought' : Sought} → disk ≡ disk' → texts ≡ texts' → sought ≡ sought'
     → (answers : List (Item Worth Worth)) → AreBelow (YieldedBelow plain honouring disk texts lines asked sought) may_stop roots answers → AreBelow (YieldedBelow plain honouring disk' texts' lines asked sought') may_stop roots answers
 same_below {S} {X} plain honouring lines asked may_stop roots {disk} {disk'} {texts} {texts'} {sought} {sought'} over from same answers are =
     subst (λ (s : Sought). AreBelow (YieldedBelow plain honouring disk' texts' lines asked s) may_stop roots answers) same
@@ -93,12 +93,12 @@ same_below {S} {X} plain honouring lines asked may_stop roots {disk} {disk'} {te
     (subst (λ (d : S). AreBelow (YieldedBelow plain honouring d texts lines asked sought) may_stop roots answers) over are))
 
 -- a search that stops may stop
-pub stops_somewhere : {T C S B X A D Q E G H F : Type 0} (plain : CrewCallsOf T G (Arc S B) LeavesOut A H F) (honouring : CrewCallsOf T C (Arc S B) (KeptRules X) A (Chain D × Q) E) (disk : S) (texts : X) (lines : List ℕ) (asked : Asked) (sought : Sought) (may_stop : Type 0) (roots : List (List ℕ)) (answers : List (Item Worth Worth))
+pub stops_somewhere : {T C S B X A E G H F : Type 0} (plain : CrewCallsOf T G (Arc S B) LeavesOut A H F) (honouring : CrewCallsOf T C (Arc S B) (KeptRules X) A RulesState E) (disk : S) (texts : X) (lines : List ℕ) (asked : Asked) (sought : Sought) (may_stop : Type 0) (roots : List (List ℕ)) (answers : List (Item Worth Worth))
     → AreBelow (YieldedBelow plain honouring disk texts lines asked sought) may_stop roots answers → AreBelow (YieldedBelow plain honouring disk texts lines asked sought) (Unit {0}) roots answers
 stops_somewhere plain honouring disk texts lines asked sought may_stop =
     may_stop_sooner (YieldedBelow plain honouring disk texts lines asked sought) may_stop (Unit {0}) (λ stops. tt) (λ root answers. below_may plain honouring disk texts lines asked sought may_stop root answers)
 
-module _ {T C S B X A D Q E G H F : Type 0} (plain : CrewCallsOf T G (Arc S B) LeavesOut A H F) (honouring : CrewCallsOf T C (Arc S B) (KeptRules X) A (Chain D × Q) E) (disk : S) (texts : X) (lines : List ℕ) (asked : Asked) (sought : Sought) (may_stop : Type 0) where
+module _ {T C S B X A E G H F : Type 0} (plain : CrewCallsOf T G (Arc S B) LeavesOut A H F) (honouring : CrewCallsOf T C (Arc S B) (KeptRules X) A RulesState E) (disk : S) (texts : X) (lines : List ℕ) (asked : Asked) (sought : Sought) (may_stop : Type 0) where
   -- the answers below the folder that the program runs in, if no root is named
   pub below_here : (length asked.roots.items == 0) ≡ true → (answers : List (Item Worth Worth)) → YieldedBelow plain honouring disk texts lines asked sought may_stop dot answers → AreBelow (YieldedBelow plain honouring disk texts lines asked sought) may_stop (roots_asked asked) answers
   below_here none answers y =

@@ -16,10 +16,10 @@ use Rattle.jwalk.specs.declared.crew.Crew.{Crew}
 use Rattle.jwalk.specs.declared.crew.Session.{Session}
 use Rattle.jwalk.specs.DirEntryIter.{DirEntryIter}
 use Rattle.jwalk.specs.declared.walk_dir.WalkDirGeneric.{WalkDirGeneric}
-use Rattle.jwalk_ignore.specs.Callback.Given.{no_rules_yet, rules_alone}
 use Rattle.jwalk_ignore.specs.Callback.IgnoreViews.{next_of, settings_of, texts_of}
+use Rattle.jwalk_ignore.specs.Callback.States.{rules_held}
+use Rattle.jwalk_ignore.specs.Rules.Chain.{no_rules}
 use Rattle.jwalk_ignore.specs.Rules.WithExcludes.{texts_behind}
-use Rattle.jwalk_ignore.specs.jwalk_ignore_rules.declared.rules.chain.Chain.{Chain}
 use Rattle.jwalk_ignore.specs.jwalk_ignore_rules.declared.rules.with_excludes.WithExcludes.{WithExcludes}
 use Rattle.seek_words.specs.declared.asked.Asked.{Asked}
 use Rattle.seek_words.specs.declared.screen.Screen.{Screen}
@@ -37,6 +37,7 @@ use Rattle.jwalk_ignore.specs.declared.callback.excluding.Excluding.{Excluding}
 use Rattle.seek_search.specs.KeptLinks.{functions_kept}
 use Rattle.seek_search.specs.declared.kept_links.KeptLinks.{KeptLinks}
 use Rattle.jwalk_ignore.specs.declared.callback.kept_rules.KeptRules.{KeptRules}
+use Rattle.jwalk_ignore.specs.declared.callback.states.RulesState.{RulesState}
 
 -- A walk with these facts was begun and called until it ended, or some calls were made if the search may stop. These
 -- are its answers, whatever the states are, without those below a find if these aren't looked for.
@@ -65,7 +66,7 @@ pub record IsPlain {T C S B A R E : Type 0} (disk : S) (lines : List ℕ) (asked
 
 -- The walk over this disk below this root that honours the ignore files of these texts, and at last these lines. It begins without rules, and is
 -- shown hidden names. It drops these itself, unless they are asked for.
-pub record IsHonouring {T C S B X A D Q E : Type 0} (disk : S) (texts : X) (lines : List ℕ) (asked : Asked) (root : List ℕ) (walk : WalkDirGeneric C (Arc S B) (KeptRules X) A (Crew T) (Chain D × Q) E) : Type 0 where
+pub record IsHonouring {T C S B X A E : Type 0} (disk : S) (texts : X) (lines : List ℕ) (asked : Asked) (root : List ℕ) (walk : WalkDirGeneric C (Arc S B) (KeptRules X) A (Crew T) RulesState E) : Type 0 where
   pub over : arc_value (file_system_of walk) ≡ disk
   pub below : root_of walk ≡ root
   pub by_crew : Bool
@@ -73,15 +74,15 @@ pub record IsHonouring {T C S B X A D Q E : Type 0} (disk : S) (texts : X) (line
   pub texts_read : arc_value (texts_of (callback_of walk).rules) ≡ texts
   pub settings : settings_of (callback_of walk).rules ≡ settings_asked lines asked
   pub excluded : excluded_of (next_of (callback_of walk).rules) ≡ excluded_asked asked root
-  pub begins : rules_alone (state_of walk) ≡ no_rules_yet
+  pub begins : rules_held (state_of walk) ≡ no_rules
 
-module _ {T C S B X A D Q E G H F : Type 0} (plain : CrewCallsOf T G (Arc S B) LeavesOut A H F) (honouring : CrewCallsOf T C (Arc S B) (KeptRules X) A (Chain D × Q) E) where
+module _ {T C S B X A E G H F : Type 0} (plain : CrewCallsOf T G (Arc S B) LeavesOut A H F) (honouring : CrewCallsOf T C (Arc S B) (KeptRules X) A RulesState E) where
   -- The answers are those of the walk that is asked for below this root: all of them, unless the search may stop.
   abbrev pub YieldedBelow : S → X → List ℕ → Asked → Sought → Below
   YieldedBelow disk texts lines asked sought may_stop root answers =
       MatchBool asked.no_ignore (Yielded plain (IsPlain disk lines asked root) sought may_stop answers) (Yielded honouring (IsHonouring disk texts lines asked root) sought may_stop answers)
 
-module _ {T C Z B X A D Q E G H F : Type 0} (plain : CrewCallsOf T G (Arc (KeptLinks Z) B) LeavesOut A H F) (honouring : CrewCallsOf T C (Arc (KeptLinks Z) B) (KeptRules X) A (Chain D × Q) E) where
+module _ {T C Z B X A E G H F : Type 0} (plain : CrewCallsOf T G (Arc (KeptLinks Z) B) LeavesOut A H F) (honouring : CrewCallsOf T C (Arc (KeptLinks Z) B) (KeptRules X) A RulesState E) where
   -- The answers are those of the walks below the roots that are asked for, one root after another. Links that lead
   -- nowhere stay links.
   abbrev pub AreYielded : Z → X → List ℕ → Asked → Sought → Type 0 → List (Item Worth Worth) → Type 0

@@ -4,7 +4,6 @@ use Rattle.std.specs.declared.sync.Arc.{Arc}
 use Rattle.jwalk.specs.jwalk_model.FileSystem.{Functions}
 use Rattle.jwalk_ignore.specs.Rules.Texts.{Texts}
 use Rattle.jwalk_ignore.specs.Rules.WithExcludes.{with_excludes}
-use Rattle.jwalk_ignore.specs.jwalk_ignore_rules.declared.rules.chain.Chain.{Chain}
 use Rattle.jwalk_ignore.specs.jwalk_ignore_rules.declared.rules.with_excludes.WithExcludes.{WithExcludes}
 use Rattle.seek_words.specs.AsksFor.{AskFor}
 use Rattle.seek_words.specs.Screen.{is_colored}
@@ -24,6 +23,7 @@ use Rattle.seek_search.specs.Search.{form_asked, limit_asked, sought_asked, yiel
 use Rattle.seek_search.specs.declared.based.Based.{Based}
 use Rattle.seek_search.specs.declared.kept_links.KeptLinks.{KeptLinks}
 use Rattle.jwalk_ignore.specs.declared.callback.kept_rules.KeptRules.{KeptRules}
+use Rattle.jwalk_ignore.specs.declared.callback.states.RulesState.{RulesState}
 
 -- Over a file system and texts that always answer the same, the line of each entry that is looked for is printed, of
 -- all answers of the walks, and none of these is an error. If the search prunes, answers below a find don't count. A
@@ -37,7 +37,7 @@ abbrev pub PrintsAsked : Functions → Texts → Home → Screen → Asked → S
 PrintsAsked fs texts home screen asked sought =
     PrintsRead fs (with_excludes (excludes_asked texts home asked) texts) (lines_asked texts asked) screen asked sought
 
-module _ {T C Z B X A D Q E G H F : Type 0} (plain : CrewCallsOf T G (Arc (KeptLinks Z) B) LeavesOut A H F) (honouring : CrewCallsOf T C (Arc (KeptLinks Z) B) (KeptRules (WithExcludes X)) A (Chain D × Q) E) where
+module _ {T C Z B X A E G H F : Type 0} (plain : CrewCallsOf T G (Arc (KeptLinks Z) B) LeavesOut A H F) (honouring : CrewCallsOf T C (Arc (KeptLinks Z) B) (KeptRules (WithExcludes X)) A RulesState E) where
   -- This is searched over this disk. The times that are asked for are known. Paths are in colors if the words or the
   -- screen ask for it. A quiet search writes nothing, and finds one of the answers of its walks. Any other search prints
   -- their lines in the way that is asked for, and all answers are clean. If there is no limit, and the file system and
@@ -51,7 +51,7 @@ module _ {T C Z B X A D Q E G H F : Type 0} (plain : CrewCallsOf T G (Arc (KeptL
     pub yielded : asked.quiet ≡ false → ByRead reads (λ texts lines. PrintsYielded plain honouring disk still fs texts lines screen asked (takes_by sought) old new true)
     pub prints : fixed → limit_asked asked ≡ None → PrintsAsked fs texts home screen asked sought old new
 
-module _ {T C Z B X A D Q E G H F : Type 0} (plain : CrewCallsOf T G (Arc (KeptLinks (Based Z)) B) LeavesOut A H F) (honouring : CrewCallsOf T C (Arc (KeptLinks (Based Z)) B) (KeptRules (WithExcludes (Based X))) A (Chain D × Q) E) where
+module _ {T C Z B X A E G H F : Type 0} (plain : CrewCallsOf T G (Arc (KeptLinks (Based Z)) B) LeavesOut A H F) (honouring : CrewCallsOf T C (Arc (KeptLinks (Based Z)) B) (KeptRules (WithExcludes (Based X))) A RulesState E) where
   -- The words ask for a search, and the names that are looked for are those of the patterns. This is searched, over the
   -- disk and the texts as they are seen from the folder that is asked for, which is one.
   pub record Searches (disk : Z) (reads : X) (still fixed : Type 0) (fs : Functions) (texts : Texts) (home : Home) (screen : Screen) (words : List (List ℕ)) (old new : Option (List ℕ)) : Type 0 where

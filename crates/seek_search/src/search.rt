@@ -5,7 +5,8 @@ ghost use Rattle.program_parts.specs.Values.{texts_of as texts_now};
 ghost use Rattle.jwalk.specs.jwalk_model.Options.{with_skip_hidden};
 ghost use Rattle.jwalk.specs.jwalk_job.Options.{options_value};
 ghost use Rattle.jwalk.specs.WalkDir.{callback_of, described, file_system_of, options_of, root_of, state_of, with_callback, Sets};
-ghost use Rattle.jwalk_ignore.specs.Callback.Given.{no_rules_yet, rules_alone};
+ghost use Rattle.jwalk_ignore.specs.Callback.States.{rules_held};
+ghost use Rattle.jwalk_ignore.specs.Rules.Chain.{no_rules};
 ghost use Rattle.jwalk_ignore.specs.Callback.IgnoreViews.{next_of, settings_of, texts_of};
 ghost use Rattle.jwalk_ignore.specs.Callback.Excluding.{excluded_of};
 ghost use Rattle.jwalk_ignore.specs.Callback.Kept.{ignoring_walk};
@@ -125,7 +126,7 @@ fn search_walk<
     err: &mut E,
 ) -> Result<bool, Halt>
     ensures whole { IfOk result (λ clean. S.IsFixed (arc_value disk.now) → S.IsFixed (arc_value (file_system_of walk)) → X.IsFixed (arc_value (texts_of rules.rules))
-        → rules_alone (state_of walk) ≡ no_rules_yet → PrintsAll (S.functions (arc_value disk.now)) (λ sought. unpruned sought
+        → rules_held (state_of walk) ≡ no_rules → PrintsAll (S.functions (arc_value disk.now)) (λ sought. unpruned sought
         (ignoring_walk (S.functions (arc_value (file_system_of walk))) (X.functions (arc_value (texts_of rules.rules)))
         (settings_of rules.rules) (excluded_of (next_of rules.rules)) (options_of walk) (root_of walk)))
         printer.old printer.new (W.contents out.old) (W.contents out.new) clean) }

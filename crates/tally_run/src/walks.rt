@@ -4,7 +4,8 @@ ghost use Rattle.std.specs.Arc.{arc_value};
 ghost use Rattle.jwalk.specs.jwalk_job.Options.{options_value};
 ghost use Rattle.jwalk.specs.WalkDir.{file_system_of, options_of, root_of, state_of};
 ghost use Rattle.jwalk_ignore.specs.Callback.Excluding.{excluded_of};
-ghost use Rattle.jwalk_ignore.specs.Callback.Given.{no_rules_yet, rules_alone};
+ghost use Rattle.jwalk_ignore.specs.Callback.States.{rules_held};
+ghost use Rattle.jwalk_ignore.specs.Rules.Chain.{no_rules};
 ghost use Rattle.jwalk_ignore.specs.Callback.IgnoreViews.{next_of, settings_of, texts_of};
 ghost use Rattle.jwalk_ignore.specs.Callback.Kept.{ignoring_walk};
 ghost use Rattle.jwalk_subtotals.specs.Files.{files_of};
@@ -53,7 +54,7 @@ fn count_ruled<
 ) -> Result<Counted, Failure>
     ensures { IfOk result (CountsBelow (S.IsFixed (arc_value (file_system_of walk))
         × X.IsFixed (arc_value (texts_of rules))
-        × (rules_alone (state_of walk) ≡ no_rules_yet))
+        × (rules_held (state_of walk) ≡ no_rules))
         (ignoring_walk (S.functions (arc_value (file_system_of walk))) (X.functions (arc_value (texts_of rules)))
         (settings_of rules) (excluded_of (next_of rules)) (options_of walk) (root_of walk))
         asked.now (files_of files) results.old (W.contents out.old) results.new (W.contents out.new)) }

@@ -6,14 +6,12 @@ use Rattle.jwalk.specs.jwalk_model.Job.{Job, KeepsDepthsOf, Processing}
 use Rattle.jwalk.specs.jwalk_model.Options.{Options}
 use Rattle.jwalk.specs.jwalk_model.ReadDir.{list_depth}
 use Rattle.jwalk.specs.jwalk_job.Given.{Given}
-use Rattle.jwalk_ignore.specs.Rules.Chain.{no_rules}
-use Rattle.jwalk_ignore.specs.Rules.ChainViews.{chain_value}
+use Rattle.jwalk_ignore.specs.Rules.Chain.{Chain, no_rules}
 use Rattle.jwalk_ignore.specs.Rules.ChainWorth.{chain_worth, rules_of, with_chain}
 use Rattle.jwalk_ignore.specs.Callback.IgnoreViews.{ignoring}
 use Rattle.jwalk_ignore.specs.Callback.IgnoreFiles.{Made, by_rules}
 use Rattle.jwalk_ignore.specs.Callback.MadeDepths.{by_rules_at}
 use Rattle.jwalk_ignore.specs.Rules.Texts.{Texts}
-use Rattle.jwalk_ignore_rules.specs.declared.rules.chain.Chain.{Chain}
 use Rattle.jwalk_ignore.specs.Callback.Settings.{Settings}
 
 -- A callback that is given what rules leave keeps depths with them.
@@ -30,14 +28,14 @@ first_settings = record { keeps_hidden = false; anywhere = false; version_contro
 abbrev pub lists_kept : Processing Worth Worth
 lists_kept depth path state list = record { state = state; list = list }
 
--- what the state of a directory counts as: the rules in force, beside nothing
-abbrev pub rules_alone : {A B : Type 0} → Chain A × B → Worth
-rules_alone state = both (chain_worth (chain_value state.0)) blank
+-- what the state of a directory counts as: the rules that it holds, beside nothing
+abbrev pub rules_alone : {R : Type 0} → (R → Chain) → R → Worth
+rules_alone rules_in state = both (chain_worth (rules_in state)) blank
 
 -- what is given: states of directories count as the rules in force alone, and rules drop what they ignore
-abbrev pub ignoring_alone : {A B E : Type 0} → Settings → Texts → Given (Chain A × B) E
-ignoring_alone settings texts = record {
-  read_dir_state = rules_alone;
+abbrev pub ignoring_alone : {R E : Type 0} → (R → Chain) → Settings → Texts → Given R E
+ignoring_alone rules_in settings texts = record {
+  read_dir_state = rules_alone rules_in;
   dir_entry_state = λ _. blank;
   processed = ignoring settings texts lists_kept;
   keeps_depths = ignoring-KeepsDepthsOf settings texts lists_kept (λ depth path state list h. h);

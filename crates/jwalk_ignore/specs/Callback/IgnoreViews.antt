@@ -4,11 +4,10 @@ use Rattle.jwalk.specs.jwalk_model.Counted.{Worth, both}
 use Rattle.jwalk.specs.jwalk_model.Entry.{Item}
 use Rattle.jwalk.specs.jwalk_model.Job.{Processing, KeepsDepthsOf}
 use Rattle.jwalk.specs.jwalk_job.Given.{Given}
-use Rattle.jwalk_ignore.specs.Rules.ChainViews.{chain_value}
+use Rattle.jwalk_ignore.specs.Rules.Chain.{Chain}
 use Rattle.jwalk_ignore.specs.Rules.ChainWorth.{chain_worth, rules_of, with_chain}
 use Rattle.jwalk_ignore.specs.Callback.IgnoreFiles.{by_rules}
 use Rattle.jwalk_ignore.specs.Rules.Texts.{Texts}
-use Rattle.jwalk_ignore_rules.specs.declared.rules.chain.Chain.{Chain}
 use Rattle.jwalk_ignore.specs.declared.callback.ignore_files.IgnoreFiles.{IgnoreFiles}
 use Rattle.jwalk_ignore.specs.Callback.Settings.{Settings, settings_value}
 
@@ -39,13 +38,15 @@ with_processed given next keeps = record {
   new_entry = given.new_entry;
 }
 
--- States of directories count as the rules in force, beside what another state counts as.
-abbrev pub CountsRules : {A B E : Type 0} → Given (Chain A × B) E → (B → Worth) → Type 0
-CountsRules given own = (chain : Chain _) (state : _) → given.read_dir_state (chain, state) ≡ both (chain_worth (chain_value chain)) (own state)
+-- States of directories count as the rules that they hold, beside what the others in them count as.
+abbrev pub CountsRules : {R E : Type 0} → (R → Chain) → (R → R → Type 0) → Given R E → (R → Worth) → Type 0
+CountsRules rules_in others given own =
+    ((state : _) → given.read_dir_state state ≡ both (chain_worth (rules_in state)) (own state))
+    × ((old new : _) → others old new → own new ≡ own old)
 
 -- The callback makes of lists what is given: its texts are fixed, the other callback makes what is given with a function of its own, and what is given ignores and then goes by that.
-abbrev pub Ignores : {A B E : Type 0} → Type 0 → Texts → Settings → (Given (Chain A × B) E → Type 0) → Given (Chain A × B) E → Type 0
-Ignores {A} {B} {E} fixed texts settings makes given =
-    fixed × (own : B → Worth) × CountsRules given own
+abbrev pub Ignores : {R E : Type 0} → (R → Chain) → (R → R → Type 0) → Type 0 → Texts → Settings → (Given R E → Type 0) → Given R E → Type 0
+Ignores {R} {E} rules_in others fixed texts settings makes given =
+    fixed × (own : R → Worth) × CountsRules rules_in others given own
     × (next : Processing Worth Worth) × (keeps : KeepsDepthsOf next) × makes (with_processed given next keeps)
     × ((depth : Option ℕ) (path : List ℕ) (state : Worth) (list : List (Item Worth Worth)) → given.processed depth path state list ≡ ignoring settings texts next depth path state list)

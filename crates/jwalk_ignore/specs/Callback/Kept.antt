@@ -10,8 +10,8 @@ use Rattle.jwalk.specs.jwalk_job.Given.{Given}
 use Rattle.jwalk_ignore.specs.Callback.Excluding.{Excluded, excluding, excluding-KeepsDepthsOf}
 use Rattle.jwalk_ignore.specs.Callback.Given.{ignoring-KeepsDepthsOf, no_rules_yet, rules_alone}
 use Rattle.jwalk_ignore.specs.Callback.IgnoreViews.{ignoring}
+use Rattle.jwalk_ignore.specs.Rules.Chain.{Chain}
 use Rattle.jwalk_ignore.specs.Rules.Texts.{Texts}
-use Rattle.jwalk_ignore_rules.specs.declared.rules.chain.Chain.{Chain}
 use Rattle.jwalk_ignore.specs.Callback.Settings.{Settings}
 
 -- readings that make this of lists
@@ -28,10 +28,10 @@ given_excluding excluded = record {
   new_entry = blank;
 }
 
--- and of walks that honour them: states of directories count as the rules in force
-abbrev pub given_kept : {A B E : Type 0} → Settings → Texts → Excluded → Given (Chain A × B) E
-given_kept settings texts excluded = record {
-  read_dir_state = rules_alone;
+-- and of walks that honour them: states of directories count as the rules that they hold
+abbrev pub given_kept : {R E : Type 0} → (R → Chain) → Settings → Texts → Excluded → Given R E
+given_kept rules_in settings texts excluded = record {
+  read_dir_state = rules_alone rules_in;
   dir_entry_state = λ _. blank;
   processed = ignoring settings texts (excluding excluded);
   keeps_depths = ignoring-KeepsDepthsOf settings texts (excluding excluded) (excluding-KeepsDepthsOf excluded);

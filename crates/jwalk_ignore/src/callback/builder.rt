@@ -4,13 +4,11 @@ ghost use Rattle.jwalk.specs.jwalk_model.Options.{with_skip_hidden};
 ghost use Rattle.jwalk.specs.WalkDir.{options_of, described, with_callback, Sets};
 
 use crate::callback::ignore_files::IgnoreFiles;
-use crate::rules::chain::Chain;
 use crate::rules::texts::Texts;
 use jwalk::file_system::FileSystem;
 use jwalk::read_dir::ProcessReadDir;
 use jwalk::{ClientState, WalkDirGeneric};
 use std::alloc::Allocator;
-use std::fmt::Debug;
 
 /// Returns the same walk with this callback, which is also shown hidden names.
 pub fn with_hidden_shown<
@@ -29,21 +27,21 @@ pub fn with_hidden_shown<
 }
 
 /// Returns the same walk with these rules as its callback, which are also shown hidden names: those that the callback
-/// isn't told to keep it drops itself. `WalkDir::at(&rt, root)?.states::<(Chain, ()), ()>()` is a walk with states that
-/// fit.
+/// isn't told to keep it drops itself. `WalkDir::at(&rt, root)?.states::<RulesState, ()>()` is a walk with states that fit.
 pub fn with_ignore_files<
-    B: Clone + Default + Debug + Drop,
-    E: Default + Debug + Drop,
+    C: ClientState,
     S: FileSystem,
-    O: ProcessReadDir<((Chain<A>, B), E), A>,
+    O: ProcessReadDir<C, A>,
     A: Allocator + Copy,
     W: Drop,
     X: Texts,
-    P: ProcessReadDir<((Chain<A>, B), E), A>,
+    P: Drop,
 >(
-    walk: WalkDirGeneric<((Chain<A>, B), E), S, O, A, W>,
+    walk: WalkDirGeneric<C, S, O, A, W>,
     rules: IgnoreFiles<X, P>,
-) -> WalkDirGeneric<((Chain<A>, B), E), S, IgnoreFiles<X, P>, A, W>
+) -> WalkDirGeneric<C, S, IgnoreFiles<X, P>, A, W>
+where
+    IgnoreFiles<X, P>: ProcessReadDir<C, A>,
     ensures { Sets (record (with_callback rules (described walk)) {
       options = with_skip_hidden false (options_of walk);
     }) result }

@@ -3,29 +3,28 @@ ghost use Rattle.std.specs.Prelude.{◌≡◌};
 
 use crate::callback::rules_reader::RulesReader;
 use crate::callback::settings::Settings;
-use crate::callback::source::Made;
+use crate::callback::states::RulesState;
 use crate::rules::Rules;
 use crate::rules::chain::Chain;
 use crate::rules::texts::Texts;
 use jwalk::read_dir::{NoProcess, ProcessReadDir};
 use jwalk::{DirEntry, Error};
-use std::alloc::{AllocError, Allocator};
+use std::alloc::{AllocError, Allocator, Global};
 use std::fmt::Debug;
-use std::mem;
 
 /// A callback that drops what ignore files say, so that nothing below an ignored directory is read, and hands the rest of
 /// each list to another callback.
 ///
 /// ```text
 /// let rules = IgnoreFiles::new(RealTexts::new(&rt)).then(WithSizes::new(fs_again));
-/// let walk = WalkDirGeneric::<((Chain, ()), Size), _, _, _>::new(fs, root);
+/// let walk = WalkDirGeneric::<(RulesState, Size), _, _, _>::new(fs, root);
 /// for answer in with_ignore_files(walk, rules).into_iter() { .. }
 /// ```
 ///
-/// The states of the walk are `((Chain, B), E)`: the rules in force beside the other callback's own state of a
-/// directory, and its state of an entry. The walk has to show hidden names, as
-/// [`with_ignore_files`](crate::builder::with_ignore_files) sets it, since files of rules are hidden. The callback drops
-/// hidden names itself, once the rules are read.
+/// The state of a directory is a [`RulesState`]: the rules in force. Where the other callback has a state `B` of
+/// directories too, or where the walk has another allocator, it is `(Chain, B)`: the rules beside that state. The walk
+/// has to show hidden names, as [`with_ignore_files`](crate::builder::with_ignore_files) sets it, since files of rules are
+/// hidden. The callback drops hidden names itself, once the rules are read.
 ///
 /// - All `.ignore` files decide before all `.gitignore` files, and these before `.git/info/exclude`. Of one kind the
 ///   nearer decides first, and in one file the last pattern that matches.
@@ -164,11 +163,12 @@ impl<
     P: ProcessReadDir<((Chain<A>, B), E), A>,
 > ProcessReadDir<((Chain<A>, B), E), A> for IgnoreFiles<T, P> {
     ghost use Rattle.jwalk_ignore.specs.Callback.IgnoreViews.{next_of, settings_of, texts_of, Ignores};
+    ghost use Rattle.jwalk_ignore.specs.Callback.States.{first_rules, same_beside};
 
     ghost IsLawful = { λ s. P.IsLawful (next_of s) };
 
-    ghost Makes = { λ s g. Ignores (T.IsFixed (texts_of s)) (T.functions (texts_of s)) (settings_of s)
-        (P.Makes (next_of s)) g };
+    ghost Makes = { λ s g. Ignores first_rules same_beside (T.IsFixed (texts_of s)) (T.functions (texts_of s))
+        (settings_of s) (P.Makes (next_of s)) g };
 
     fn process(
         &self,
@@ -177,12 +177,33 @@ impl<
         state: &mut (Chain<A>, B),
         list: &mut Vec<Result<DirEntry<((Chain<A>, B), E), A>, Error<A>>, A>,
     ) -> Result<(), AllocError> {
-        let alloc = *list.allocator();
-        let chain = mem::take(&mut state.0);
-        let items = mem::replace(list, Vec::new(alloc));
-        let Made { chain, list: left } = self.reader.by_rules(depth, path, chain, items)?;
-        state.0 = chain;
-        *list = left;
+        self.reader.drop_ignored(depth, path, &mut state.0, list)?;
+        self.next.process(depth, path, state, list)
+    }
+}
+
+impl<
+    E: Default + Debug + Drop,
+    T: Texts,
+    P: ProcessReadDir<(RulesState, E), Global>,
+> ProcessReadDir<(RulesState, E), Global> for IgnoreFiles<T, P> {
+    ghost use Rattle.jwalk_ignore.specs.Callback.IgnoreViews.{next_of, settings_of, texts_of, Ignores};
+    ghost use Rattle.jwalk_ignore.specs.Callback.States.{nothing_beside, rules_held};
+
+    ghost IsLawful = { λ s. P.IsLawful (next_of s) };
+
+    ghost Makes = { λ s g. Ignores rules_held nothing_beside (T.IsFixed (texts_of s)) (T.functions (texts_of s))
+        (settings_of s) (P.Makes (next_of s)) g };
+
+    fn process(
+        &self,
+        depth: Option<usize>,
+        path: &str,
+        state: &mut RulesState,
+        list: &mut Vec<Result<DirEntry<(RulesState, E)>, Error>>,
+    ) -> Result<(), AllocError> {
+        self.reader
+            .drop_ignored(depth, path, &mut state.chain, list)?;
         self.next.process(depth, path, state, list)
     }
 }

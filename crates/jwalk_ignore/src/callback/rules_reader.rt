@@ -7,7 +7,7 @@ ghost use Rattle.jwalk_ignore.specs.Rules.ChainViews.{chain_value};
 ghost use Rattle.jwalk_ignore.specs.Rules.Folder.{folder_value};
 ghost use Rattle.jwalk_ignore.specs.Callback.IgnoreFiles.{at_root, by_rules, if_read, in_directory, is_kept, is_read, is_read_above, kind_of, own_rules, with_above, with_absolute, with_folder, with_folders, with_listed, with_root_item};
 ghost use Rattle.jwalk_ignore.specs.Callback.Settings.{patterns_in, settings_value};
-ghost use Rattle.jwalk_ignore.specs.Callback.Sources.{made_value};
+ghost use Rattle.jwalk_ignore.specs.Callback.Sources.{made_from, made_value};
 
 use crate::callback::entry_rules::EntryRules;
 use crate::callback::kept::kept;
@@ -23,6 +23,7 @@ use crate::rules::texts::Texts;
 use jwalk::file_system::{Fault, FileType};
 use jwalk::{ClientState, DirEntry, Error};
 use std::alloc::{AllocError, Allocator};
+use std::mem;
 use std::sync::Arc;
 
 /// Texts, and how the rules in them are used.
@@ -320,7 +321,7 @@ impl<T: Texts> RulesReader<T> {
         Ok(made)
     }
 
-    pub(crate) fn by_rules<C: ClientState, A: Allocator + Copy>(
+    fn by_rules<C: ClientState, A: Allocator + Copy>(
         &self,
         depth: Option<usize>,
         path: &str,
@@ -336,5 +337,24 @@ impl<T: Texts> RulesReader<T> {
             None => self.at_root(chain, list),
             Some(_) => self.in_directory(path, chain, list),
         }
+    }
+
+    /// Reads the rules of a directory, and drops what is ignored from its list. A root has those of the folders above it.
+    pub(crate) fn drop_ignored<C: ClientState, A: Allocator + Copy>(
+        &self,
+        depth: Option<usize>,
+        path: &str,
+        chain: &mut Chain<A>,
+        list: &mut Vec<Result<DirEntry<C, A>, Error<A>>, A>,
+    ) -> Result<(), AllocError>
+        ensures value { T.IsFixed self.now.texts → OnOk result (made_from chain.new list.new.items
+            ≡ by_rules (settings_value self.now.settings) (T.functions self.now.texts) depth path.now (chain_value chain.old) (map item list.old.items)) }
+        ensures depth { (depth : _) → AtDepth depth (map item list.old.items) → OnOk result (AtDepth depth (map item list.new.items)) }
+    {
+        let items = mem::replace(list, Vec::new(*list.allocator()));
+        let made = self.by_rules(depth, path, mem::take(chain), items)?;
+        *chain = made.chain;
+        *list = made.list;
+        Ok(())
     }
 }

@@ -1,11 +1,11 @@
 //! Trees with files of rules, from texts.
 use jwalk::file_system::{BuildError, MemoryFs};
-use jwalk_ignore::chain::Chain;
 use jwalk_ignore::memory_texts::MemoryTexts;
+use jwalk_ignore::states::RulesState;
 use std::alloc::{AllocError, Global};
 
 /// The states of a walk without states of its own.
-pub(crate) type Rules = ((Chain, ()), ());
+pub(crate) type Rules = (RulesState, ());
 
 /// A tree, and the files of rules in it.
 #[derive(Drop)]

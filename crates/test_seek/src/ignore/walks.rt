@@ -7,9 +7,9 @@ use crate::ignore::settings::Settings;
 use jwalk::file_system::{FileSystem, MemoryFs};
 use jwalk::read_dir::ProcessReadDir;
 use jwalk::{ClientState, Crew, Parallelism, WalkDirGeneric};
-use jwalk_ignore::chain::Chain;
 use jwalk_ignore::ignore_files::IgnoreFiles;
 use jwalk_ignore::memory_texts::MemoryTexts;
+use jwalk_ignore::states::RulesState;
 use std::alloc::{AllocError, Global};
 use std::sync::Arc;
 use std::thread::Threads;
@@ -57,7 +57,7 @@ impl ProcessReadDir<Rules, Global> for SharedRules {
         &self,
         depth: Option<usize>,
         path: &str,
-        state: &mut (Chain, ()),
+        state: &mut RulesState,
         list: &mut Vec<Answer<Rules>>,
     ) -> Result<(), AllocError> {
         self.rules.process(depth, path, state, list)

@@ -14,7 +14,7 @@ returns g c = IfOk-weaker c.walk_ignoring_given.result _ _
     told (ignoring_sized (settings_of c.args.rules) (g.X.Texts.functions (texts_of c.args.rules)) fs)
     (record {
       file_system = fixed;
-      callback = (texts_fixed, (λ state. blank), (λ chain state. refl), sizes fs, asking-KeepsDepthsOf counted_size fs, (asks_fixed, (λ size. refl), (λ depth path state list. refl)), (λ depth path state list. refl));
+      callback = (texts_fixed, (λ state. blank), ((λ state. refl), (λ old new same. refl)), sizes fs, asking-KeepsDepthsOf counted_size fs, (asks_fixed, (λ size. refl), (λ depth path state list. refl)), (λ depth path state list. refl));
       clones = λ x y is. ap (λ chain. both (chain_worth chain) blank) is.0;
       default = λ x is. ap size_worth is;
     })

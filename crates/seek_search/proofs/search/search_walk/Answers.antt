@@ -5,10 +5,10 @@ use Rattle.jwalk.specs.jwalk_model.Counted.{blank, both}
 use Rattle.jwalk.specs.jwalk_job.Job.{IsSteady}
 use Rattle.jwalk.specs.WalkDir.{file_system_of, callback_of, Sets}
 use Rattle.jwalk_ignore.specs.Rules.ChainWorth.{chain_worth}
-use Rattle.jwalk_ignore.specs.Callback.Given.{rules_alone}
 use Rattle.jwalk_ignore.specs.Callback.IgnoreViews.{ignoring, next_of, settings_of, texts_of}
 use Rattle.jwalk_ignore.specs.Callback.Excluding.{excluded_of, excluding}
 use Rattle.jwalk_ignore.specs.Callback.Kept.{given_kept}
+use Rattle.jwalk_ignore.specs.Callback.States.{nothing_beside, rules_held}
 use Rattle.seek_words.specs.Filter.{sought_of}
 use Rattle.seek_found.specs.Prune.{unpruned}
 use Rattle.seek_found.specs.SoughtTest.{takes_of}
@@ -24,7 +24,7 @@ returns-clause-whole g c =
     let set = c.with_hidden_shown.ensures in
     let walk = c.with_hidden_shown.result in
     let texts = g.X.Texts.functions (arc_value (texts_of rules.rules)) in
-    let given = given_kept (settings_of rules.rules) texts (excluded_of (next_of rules.rules)) in
+    let given = given_kept rules_held (settings_of rules.rules) texts (excluded_of (next_of rules.rules)) in
     let made = ignoring (settings_of rules.rules) texts (excluding (excluded_of (next_of rules.rules))) in
     let over : arc_value (file_system_of walk) ≡ arc_value (file_system_of c.args.walk) = ap arc_value set.file_system in
     let from : arc_value (texts_of (callback_of walk).rules) ≡ arc_value (texts_of rules.rules) = ap (λ x. arc_value (texts_of x.rules)) set.callback in
@@ -33,11 +33,11 @@ returns-clause-whole g c =
     let steady : IsSteady _ _ _ _ (file_system_of walk) (callback_of walk) given
     = record {
       file_system = subst g.S.FileSystem.IsFixed (sym over) fixed;
-      callback = ignores_kept _ _ (Unit {0}) (subst g.X.Texts.IsFixed (sym from) told) (ap g.X.Texts.functions from) (ap (λ x. settings_of x.rules) set.callback) (ap (λ x. excluded_of (next_of x.rules)) set.callback);
-      clones = λ x y h. ap (λ chain. both (chain_worth chain) blank) h.0;
+      callback = ignores_kept _ (Unit {0}) rules_held nothing_beside (subst g.X.Texts.IsFixed (sym from) told) (ap g.X.Texts.functions from) (ap (λ x. settings_of x.rules) set.callback) (ap (λ x. excluded_of (next_of x.rules)) set.callback);
+      clones = λ x y h. ap (λ chain. both (chain_worth chain) blank) h;
       default = λ x h. refl;
     } in
-    printed_as (ap (unpruned (sought_of takes_of (g.S.FileSystem.functions (arc_value c.args.disk.now)) c.args.printer.now.filter)) (whole_of made (ap g.S.FileSystem.functions over) set.options set.root (ap rules_alone set.state ∙ state))) (whole still given steady none is))
+    printed_as (ap (unpruned (sought_of takes_of (g.S.FileSystem.functions (arc_value c.args.disk.now)) c.args.printer.now.filter)) (whole_of made (ap g.S.FileSystem.functions over) set.options set.root (ap (λ chain. both (chain_worth chain) blank) (ap rules_held set.state ∙ state)))) (whole still given steady none is))
     c.print_begun.ensures.whole
 
 pub returns-clause-yielded : goal.returns-clause-yielded

@@ -4,9 +4,9 @@ use Rattle.std.proofs.lemmas.Result.{IfOk-weaker}
 use Rattle.jwalk.specs.jwalk_model.Counted.{blank, both}
 use Rattle.jwalk.specs.WalkDir.{callback_of, file_system_of}
 use Rattle.jwalk_ignore.specs.Callback.Excluding.{excluded_of, excluding}
-use Rattle.jwalk_ignore.specs.Callback.Given.{rules_alone}
 use Rattle.jwalk_ignore.specs.Callback.IgnoreViews.{ignoring, next_of, settings_of, texts_of}
 use Rattle.jwalk_ignore.specs.Callback.Kept.{given_kept}
+use Rattle.jwalk_ignore.specs.Callback.States.{nothing_beside, rules_held}
 use Rattle.jwalk_ignore.specs.Rules.ChainWorth.{chain_worth}
 use Rattle.jwalk_ignore.proofs.KeptFacts.{ignores_kept, whole_of}
 use Rattle.tally_run.proofs.WalkFacts.{below_counted}
@@ -18,7 +18,7 @@ returns g c =
     let set = c.with_hidden_shown-walk.ensures in
     let walk = c.with_hidden_shown-walk.result in
     let texts = g.X.Texts.functions (arc_value (texts_of rules)) in
-    let given = given_kept (settings_of rules) texts (excluded_of (next_of rules)) in
+    let given = given_kept rules_held (settings_of rules) texts (excluded_of (next_of rules)) in
     let made = ignoring (settings_of rules) texts (excluding (excluded_of (next_of rules))) in
     let over : arc_value (file_system_of walk) ≡ arc_value (file_system_of c.args.walk) = ap arc_value set.file_system in
     let from : arc_value (texts_of (callback_of walk).rules) ≡ arc_value (texts_of rules) = ap (λ x. arc_value (texts_of x.rules)) set.callback in
@@ -27,10 +27,10 @@ returns g c =
     below_counted _ _ _ _ _ walk given _ _ _ _ _ _ _ _ counted
     (λ always. record {
       file_system = subst g.S.FileSystem.IsFixed (sym over) always.0;
-      callback = ignores_kept _ _ (Unit {0}) (subst g.X.Texts.IsFixed (sym from) always.1) (ap g.X.Texts.functions from) (ap (λ x. settings_of x.rules) set.callback) (ap (λ x. excluded_of (next_of x.rules)) set.callback);
-      clones = λ x y h. ap (λ chain. both (chain_worth chain) blank) h.0;
+      callback = ignores_kept _ (Unit {0}) rules_held nothing_beside (subst g.X.Texts.IsFixed (sym from) always.1) (ap g.X.Texts.functions from) (ap (λ x. settings_of x.rules) set.callback) (ap (λ x. excluded_of (next_of x.rules)) set.callback);
+      clones = λ x y h. ap (λ chain. both (chain_worth chain) blank) h;
       default = λ x h. refl;
     })
-    (λ always. whole_of made (ap g.S.FileSystem.functions over) set.options set.root (ap rules_alone set.state ∙ always.2))
+    (λ always. whole_of made (ap g.S.FileSystem.functions over) set.options set.root (ap (λ chain. both (chain_worth chain) blank) (ap rules_held set.state ∙ always.2)))
     counts)
     c.count_walk.ensures

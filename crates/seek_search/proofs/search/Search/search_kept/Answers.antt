@@ -2,11 +2,10 @@ use Rattle.std.proofs.Common.{◌≡◌, ◌∙◌, false, ap, subst, sym}
 use Rattle.std.specs.Prelude.{flat_map, is_some}
 use Rattle.std.specs.Arc.{arc_value}
 use Rattle.std.proofs.lemmas.Result.{IfOk-weaker}
-use Rattle.jwalk.specs.jwalk_model.Counted.{blank, both}
 use Rattle.jwalk.specs.jwalk_model.Options.{with_skip_hidden}
-use Rattle.jwalk.specs.WalkDir.{file_system_of, options_of, state_of}
-use Rattle.jwalk_ignore.specs.Rules.ChainWorth.{chain_worth}
-use Rattle.jwalk_ignore.specs.Callback.Given.{no_rules_yet, rules_alone}
+use Rattle.jwalk.specs.WalkDir.{file_system_of, options_of}
+use Rattle.jwalk_ignore.specs.Callback.Given.{no_rules_yet}
+use Rattle.jwalk_ignore.specs.Callback.States.{rules_held}
 use Rattle.jwalk_ignore.specs.Callback.IgnoreViews.{ignoring, next_of, settings_of, texts_of as texts_in}
 use Rattle.program_walks.specs.Crew.{with_crew}
 use Rattle.program_walks.proofs.CrewFacts.{hidden_by_crew}
@@ -40,13 +39,12 @@ returns-clause-whole g c =
     = ap excluded_of c.then-rules.ensures.next ∙ c.in_ok-excluding.ensures ∙ ap (λ l. excluded_by (flat_map lines_of (texts_of l)) c.args.root.now) c.as_slice.ensures.value in
     let options : options_of walk ≡ with_crew (is_some self.crew) (options_asked asked)
     = built.options ∙ ap (with_crew (is_some self.crew)) c.options.ensures in
-    let state : rules_alone (state_of walk) ≡ no_rules_yet = ap (λ chain. both (chain_worth chain) blank) built.state.0 in
     IfOk-weaker c.search_walk.result _ _
     (λ clean whole. λ fixed told none is.
     printed_as (ap (unpruned (sought_of takes_of (g.S.FileSystem.functions (arc_value self.disk)) c.args.printer.now.filter))
     (ignoring_same (ap g.S.FileSystem.functions over) (ap g.X.Texts.functions from) settings lines options (built.root ∙ c.in_ok-root.ensures.ok)
     ∙ hidden_by_crew (ignoring (settings_asked self.lines.now asked) texts (excluding excluded)) (is_some self.crew) (g.S.FileSystem.functions (arc_value self.disk)) (options_asked asked) c.args.root.now no_rules_yet))
-    (whole fixed (subst g.S.FileSystem.IsFixed (sym over) fixed) (subst g.X.Texts.IsFixed (sym from) told) state none is))
+    (whole fixed (subst g.S.FileSystem.IsFixed (sym over) fixed) (subst g.X.Texts.IsFixed (sym from) told) built.state none is))
     c.search_walk.ensures.whole
 
 pub returns-clause-yielded : goal.returns-clause-yielded
@@ -64,6 +62,6 @@ returns-clause-yielded g c =
       texts_read = ap (λ x. arc_value (texts_in x.rules)) is.callback ∙ ap arc_value (set.texts ∙ c.in_ok-rules_of.ensures.texts) ∙ c.in_ok-texts.ensures.cases;
       settings = ap (λ x. settings_of x.rules) is.callback ∙ set.settings ∙ c.in_ok-rules_of.ensures.settings;
       excluded = ap (λ x. excluded_of (next_of x.rules)) is.callback ∙ ap excluded_of set.next ∙ c.in_ok-excluding.ensures ∙ ap (λ l. excluded_by (flat_map lines_of (texts_of l)) c.args.root.now) c.as_slice.ensures.value;
-      begins = ap rules_alone is.state ∙ ap (λ chain. both (chain_worth chain) blank) built.state.0;
+      begins = ap rules_held is.state ∙ built.state;
     })) (prints known))
     c.search_walk.ensures.yielded

@@ -2,12 +2,10 @@ use Rattle.std.proofs.Common.{◌≡◌, ◌∙◌, ap, subst, sym}
 use Rattle.std.specs.Prelude.{is_some}
 use Rattle.std.specs.Arc.{arc_value}
 use Rattle.std.proofs.lemmas.Result.{IfOk-weaker}
-use Rattle.jwalk.specs.jwalk_model.Counted.{blank, both}
-use Rattle.jwalk.specs.WalkDir.{file_system_of, options_of, state_of}
+use Rattle.jwalk.specs.WalkDir.{file_system_of, options_of}
 use Rattle.jwalk_ignore.specs.Callback.Excluding.{excluded_by, excluded_of, excluding}
-use Rattle.jwalk_ignore.specs.Callback.Given.{no_rules_yet, rules_alone}
+use Rattle.jwalk_ignore.specs.Callback.Given.{no_rules_yet}
 use Rattle.jwalk_ignore.specs.Callback.IgnoreViews.{ignoring, next_of, settings_of, texts_of as texts_in}
-use Rattle.jwalk_ignore.specs.Rules.ChainWorth.{chain_worth}
 use Rattle.jwalk_ignore.specs.Callback.Settings.{Settings}
 use Rattle.jwalk_ignore.proofs.KeptFacts.{ignoring_same}
 use Rattle.program_parts.specs.Values.{texts_of}
@@ -35,11 +33,10 @@ returns g c =
     = ap excluded_of c.then-rules.ensures.next ∙ c.in_ok-excluding.ensures ∙ ap (λ l. excluded_by (texts_of l) c.args.root.now) c.as_slice.ensures.value in
     let options : options_of walk ≡ with_crew (is_some self.crew) (options_asked asked)
     = built.options ∙ ap (with_crew (is_some self.crew)) c.options.ensures in
-    let state : rules_alone (state_of walk) ≡ no_rules_yet = ap (λ chain. both (chain_worth chain) blank) built.state.0 in
     IfOk-weaker c.count_ruled.result _ _
     (λ counted counts.
     below_as
-    (λ always. (subst g.S.FileSystem.IsFixed (sym over) always.0, subst g.X.Texts.IsFixed (sym from) always.1, state))
+    (λ always. (subst g.S.FileSystem.IsFixed (sym over) always.0, subst g.X.Texts.IsFixed (sym from) always.1, built.state))
     (ignoring_same (ap g.S.FileSystem.functions over) (ap g.X.Texts.functions from) settings lines options (built.root ∙ c.in_ok-root.ensures.ok)
     ∙ hidden_by_crew (ignoring (settings_asked asked) texts (excluding excluded)) (is_some self.crew) (g.S.FileSystem.functions (arc_value self.disk)) (options_asked asked) c.args.root.now no_rules_yet)
     counts)
