@@ -31,12 +31,20 @@ use std::mem;
 /// line with a `!` brings nothing back that they drop.
 ///
 /// If memory runs out, the callback fails with that.
-#[derive(Drop)]
 pub struct Excluding {
     /// None if there are no lines.
     rules: Option<Rules>,
     /// How long the root's path is.
     root_len: usize,
+}
+
+impl Drop for Excluding {
+    fn drop(self) {
+        let Excluding {
+            rules: _,
+            root_len: _,
+        } = self;
+    }
 }
 
 /// Returns lines as the text of a file.
