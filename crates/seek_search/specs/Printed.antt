@@ -1,5 +1,5 @@
 -- What a search prints, if there is no error.
-use Rattle.std.specs.Prelude.{◌≡◌, ℕ, Bool, true, List, Option, None, Some}
+use Rattle.std.specs.Prelude.{◌≡◌, ℕ, Bool, true, List, [], Option, None, Some}
 use Rattle.std.specs.Io.KnownBytes.{append_known}
 use Rattle.std.specs.declared.clone.Clone as Clone
 use Rattle.std.specs.declared.default.Default as Default
@@ -50,3 +50,14 @@ abbrev pub PrintsThose : Type 0 → Functions → (Sought → Type 0 → List (I
 PrintsThose fixed fs are old new before after clean =
     IfAsked fixed (sought_of takes_of fs old.filter) (form_of fs old.lines) → PrintsSuch (are (sought_of takes_of fs old.filter) (new.left ≡ Some 0)) (sought_of takes_of fs old.filter) (form_of fs old.lines) old.left new.left
     (append_known before (gathered_of old.lines)) (append_known after (gathered_of new.lines)) clean
+
+-- The same two where a printer that had gathered nothing leaves nothing gathered: all its lines are written.
+abbrev pub WritesAll : {R E : Type 0} → Functions → (Sought → List (Item R E)) → Printer SoughtTest → Option (List ℕ) → Option (List ℕ) → Bool → Type 0
+WritesAll fs answers old before after clean =
+    gathered_of old.lines ≡ [] → old.left ≡ None → clean ≡ true
+    → PrintsClean (answers (sought_of takes_of fs old.filter)) (sought_of takes_of fs old.filter) (form_of fs old.lines) before after
+
+abbrev pub WritesThose : Type 0 → Functions → (Sought → Type 0 → List (Item Worth Worth) → Type 0) → Printer SoughtTest → Printer SoughtTest → Option (List ℕ) → Option (List ℕ) → Bool → Type 0
+WritesThose fixed fs are old new before after clean =
+    gathered_of old.lines ≡ [] → IfAsked fixed (sought_of takes_of fs old.filter) (form_of fs old.lines)
+    → PrintsSuch (are (sought_of takes_of fs old.filter) (new.left ≡ Some 0)) (sought_of takes_of fs old.filter) (form_of fs old.lines) old.left new.left before after clean

@@ -22,11 +22,9 @@ use jwalk_ignore::with_excludes::WithExcludes;
 use program_parts::halt::Halt;
 use program_walks::crew::crew_of;
 use seek_found::call::{Ended, read_call, status_of};
-use seek_found::report::report_hidden;
 use seek_found::sought::Sought;
 use seek_found::times::times_of;
 use seek_words::asked::Asked;
-use seek_words::hidden::finds_none_shown;
 use seek_words::joined::joined_words;
 use seek_words::screen::Screen;
 use std::alloc::{AllocError, Global};
@@ -112,7 +110,6 @@ impl<
             screen,
             home: _,
         } = self;
-        let mut printer = printer_of(alloc, screen, asked, sought, &texts)?;
         let kept = KeptLinks {
             disk,
             follow: asked.follow,
@@ -125,15 +122,8 @@ impl<
             texts: shared(alloc, texts)?,
             crew: crew_of(rt, alloc, asked.threads)?,
         };
-        let clean = search.below_roots(alloc, &mut printer, out, err)?;
-        printer.lines.finish(out)?;
-        if clean && !printer.lines.has_printed() && finds_none_shown(asked) {
-            report_hidden(asked.pattern, err);
-        }
-        Ok(Ended {
-            clean,
-            full: printer.is_full(),
-        })
+        let mut printer = printer_of(alloc, screen, asked, sought, &search.texts)?;
+        search.print(alloc, &mut printer, out, err)
     }
 
     /// Reads the ignore files first that are named, or are the user's.

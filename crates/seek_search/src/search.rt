@@ -1,5 +1,5 @@
 //! A search below roots.
-ghost use Rattle.std.specs.Prelude.{◌≡◌, [], false, flat_map, IfOk};
+ghost use Rattle.std.specs.Prelude.{◌≡◌, [], Some, false, flat_map, true, IfOk};
 ghost use Rattle.std.specs.Arc.{arc_value};
 ghost use Rattle.program_parts.specs.Values.{texts_of as texts_now};
 ghost use Rattle.jwalk.specs.jwalk_model.Options.{with_skip_hidden};
@@ -11,7 +11,7 @@ ghost use Rattle.jwalk_ignore.specs.Callback.IgnoreViews.{next_of, settings_of, 
 ghost use Rattle.jwalk_ignore.specs.Callback.Excluding.{excluded_of};
 ghost use Rattle.jwalk_ignore.specs.Callback.Kept.{ignoring_walk};
 ghost use Rattle.seek_search.specs.Goes.{IsHonouring, IsPlain, Yielded, YieldedBelow};
-ghost use Rattle.seek_search.specs.Printed.{PrintsAll, PrintsThose, PrintsWalk, StaysAs};
+ghost use Rattle.seek_search.specs.Printed.{PrintsAll, PrintsThose, PrintsWalk, StaysAs, WritesAll, WritesThose};
 ghost use Rattle.seek_search.specs.Search.{all_below, excluded_asked, kept_below, options_asked, roots_asked, settings_asked, unpruned_below, yielded_by};
 ghost use Rattle.seek_found.specs.Prune.{unpruned};
 ghost use Rattle.seek_found.specs.Roots.{AreBelow};
@@ -28,10 +28,13 @@ use jwalk_ignore::rules::Rules;
 use jwalk_ignore::texts::Texts;
 use program_parts::halt::Halt;
 use program_walks::crew::{CrewWalk, Plain, walk_below};
+use seek_found::call::Ended;
 use seek_found::found::print_found;
 use seek_found::printer::Printer;
+use seek_found::report::report_hidden;
 use seek_found::sought_test::SoughtTest;
 use seek_words::asked::Asked;
+use seek_words::hidden::finds_none_shown;
 use std::alloc::{AllocError, Global};
 use std::io::Write;
 use std::sync::{Arc, Wait};
@@ -302,7 +305,7 @@ impl<
 
     /// Searches the roots that are asked for, or the folder that the program runs in, if none is named. Returns whether
     /// there was no error.
-    pub(crate) fn below_roots<W: Write, E: Write>(
+    fn below_roots<W: Write, E: Write>(
         &self,
         alloc: Global,
         printer: &mut Printer<'_, SoughtTest<'_>>,
@@ -323,5 +326,35 @@ impl<
             return self.below(alloc, ".", printer, out, err);
         }
         self.below_each(alloc, roots, printer, out, err)
+    }
+
+    /// The same, and writes the lines that are gathered at last. If nothing is found, and all that is asked for is hidden,
+    /// reports that.
+    pub(crate) fn print<W: Write, E: Write>(
+        &self,
+        alloc: Global,
+        printer: &mut Printer<'_, SoughtTest<'_>>,
+        out: &mut W,
+        err: &mut E,
+    ) -> Result<Ended, Halt>
+        ensures yielded { IfOk result (λ ended. WritesThose (S.IsFixed (arc_value self.now.disk)) (S.functions (arc_value self.now.disk)) (λ sought may_stop. AreBelow (YieldedBelow ⟦<PlainWalk<T, S> as Iterator>⟧.next_gives
+            ⟦<HonouringWalk<T, S, X> as Iterator>⟧.next_gives (arc_value self.now.disk) (arc_value self.now.texts)
+            self.now.lines.now self.now.asked.now sought) may_stop (roots_asked self.now.asked.now)) printer.old printer.new
+            (W.contents out.old) (W.contents out.new) ended.clean) }
+        ensures whole { IfOk result (λ ended. S.IsFixed (arc_value self.now.disk) → X.IsFixed (arc_value self.now.texts)
+            → WritesAll (S.functions (arc_value self.now.disk))
+            (yielded_by (S.functions (arc_value self.now.disk)) (X.functions (arc_value self.now.texts)) self.now.lines.now self.now.asked.now)
+            printer.old (W.contents out.old) (W.contents out.new) ended.clean) }
+        ensures full { IfOk result (λ ended. ended.full ≡ true → printer.new.left ≡ Some 0) }
+    {
+        let clean = self.below_roots(alloc, printer, out, err)?;
+        printer.lines.finish(out)?;
+        if clean && !printer.lines.has_printed() && finds_none_shown(self.asked) {
+            report_hidden(self.asked.pattern, err);
+        }
+        Ok(Ended {
+            clean,
+            full: printer.is_full(),
+        })
     }
 }
