@@ -1,5 +1,5 @@
 //! The subtotals of a walk, taken one after another.
-ghost use Rattle.std.specs.Prelude.{◌≡◌, false, IfOk, OnOk};
+ghost use Rattle.std.specs.Prelude.{◌≡◌, Ok, false, IfOk, OnOk};
 ghost use Rattle.std.specs.Iterator.{IsFinite};
 ghost use Rattle.std.specs.List.{list_all};
 ghost use Rattle.jwalk.specs.WalkDir.{callback_of};
@@ -61,6 +61,29 @@ fn take_error<A: Allocator + Copy, E: Write>(
     }
 }
 
+/// Takes the subtotal of an entry. Returns whether its directory could be read, if it is one.
+fn take_found<C: ClientState, A: Allocator + Copy, W: Write, E: Report>(
+    alloc: Global,
+    screen: Screen,
+    found: &WithSubtotal<C, A>,
+    shown: Shown,
+    results: &mut Results,
+    out: &mut W,
+    err: &mut E,
+) -> Result<bool, Failure>
+    ensures taken { OnOk result (Takes (rows_of shown (value (Ok found.now))) results.old (W.contents out.old)
+        results.new (W.contents out.new)) }
+    ensures clean { IfOk result (λ clean. clean ≡ list_all is_clean (value (Ok found.now))) }
+{
+    if found.entry.depth() == 0 {
+        err.finish(&found.subtotal);
+    }
+    if shown.has(&found.entry) {
+        results.take(alloc, found, out)?;
+    }
+    Ok(report_entry(alloc, screen.shows_errors, &found.entry, err)?)
+}
+
 /// Returns whether it is no error.
 fn take_one<C: ClientState, A: Allocator + Copy, W: Write, E: Report>(
     alloc: Global,
@@ -77,15 +100,7 @@ fn take_one<C: ClientState, A: Allocator + Copy, W: Write, E: Report>(
     ensures clean { IfOk result (λ clean. clean ≡ list_all is_clean (value yielded)) }
 {
     match yielded {
-        Ok(found) => {
-            if found.entry.depth() == 0 {
-                err.finish(&found.subtotal);
-            }
-            if shown.has(&found.entry) {
-                results.take(alloc, &found, out)?;
-            }
-            Ok(report_entry(alloc, screen.shows_errors, &found.entry, err)?)
-        }
+        Ok(found) => take_found(alloc, screen, &found, shown, results, out, err),
         Err(error) => {
             take_error(alloc, screen, error, err)?;
             Ok(false)
