@@ -6,7 +6,6 @@ mod entry_rules;
 pub mod excluding;
 pub mod ignore_files;
 mod kept;
-pub mod kept_rules;
 mod listed;
 mod places;
 mod rules_reader;

@@ -3,7 +3,7 @@
 
 mod callback;
 
-pub use callback::{builder, excluding, ignore_files, kept_rules, states};
+pub use callback::{builder, excluding, ignore_files, states};
 pub use jwalk_ignore_rules::{
     chain, decision, memory_texts, pattern, real_texts, rules, texts, with_excludes,
 };

@@ -10,7 +10,7 @@ use jwalk::crew::Session;
 use jwalk::file_system::FileSystem;
 use jwalk::read_dir::NoProcess;
 use jwalk::{ClientState, Crew, DirEntryIter, Options, Parallelism, WalkDirGeneric};
-use jwalk_ignore::kept_rules::KeptStates;
+use jwalk_ignore::states::OnlyRules;
 use std::alloc::{AllocError, Allocator, Global};
 use std::sync::{Arc, Wait};
 use std::thread::{Threads, available_parallelism};
@@ -19,8 +19,8 @@ use std::time::Clock;
 /// How many directories are read ahead at most: enough for all threads but one, while that one lists a large directory.
 const READ_AHEAD: usize = 8192;
 
-/// A walk that has not begun, with the states of ignore files.
-pub type Plain<T, S> = WalkDirGeneric<KeptStates, Arc<S>, NoProcess, Global, Crew<T>>;
+/// A walk that has not begun, with the states of walks with ignore files.
+pub type Plain<T, S> = WalkDirGeneric<OnlyRules, Arc<S>, NoProcess, Global, Crew<T>>;
 
 /// A walk under way that a crew may read for.
 pub type CrewWalk<T, C, S, P> = DirEntryIter<C, S, P, Global, Session<T, C, S, P, Global>>;

@@ -87,6 +87,15 @@ module _ {R E : Type 0} (sought : Sought) where
         | false ↦ one_found_among xs
       ] none
 
+  -- and if one is found, nothing of such a limit is left
+  pub none_left_behind : (xs : List (Item R E)) → list_any (is_hit sought) xs ≡ true → left_of sought 1 xs ≡ 0
+  none_left_behind [] found = absurd (cc)
+  none_left_behind (x ∷ xs) found =
+      elim (is_hit sought x) as (λ b. (b || list_any (is_hit sought) xs) ≡ true → left_of sought (if b then 0 else 1) xs ≡ 0) [
+        | true ↦ λ _. refl
+        | false ↦ none_left_behind xs
+      ] found
+
 -- without a limit, none is reached
 pub never_full : {R E : Type 0} (sought : Sought) (xs : List (Item R E)) {left left' : Option ℕ} → left ≡ None → left' ≡ left_after sought left xs → left' ≡ Some 0 → ⊥
 never_full sought xs {left} {left'} none limit full =
@@ -98,3 +107,12 @@ one_of_one sought xs {left} {left'} one limit full =
     let after : Some (left_of sought 1 xs) ≡ Some 0 = sym (limit ∙ ap (λ l. left_after sought l xs) one) ∙ full in
     let none : left_of sought 1 xs ≡ 0 = cc in
     one_found_among sought xs none
+
+-- if one may still be found after these answers, none of them is found
+pub none_of_one : {R E : Type 0} (sought : Sought) (xs : List (Item R E)) {left left' : Option ℕ} → left ≡ Some 1 → left' ≡ left_after sought left xs → left' ≢ Some 0 → list_any (is_hit sought) xs ≡ false
+none_of_one sought xs {left} {left'} one limit room =
+    let after : left' ≡ Some (left_of sought 1 xs) = limit ∙ ap (λ l. left_after sought l xs) one in
+    elim (list_any (is_hit sought) xs) as (λ b. list_any (is_hit sought) xs ≡ b → b ≡ false) [
+      | true ↦ λ found. absurd (room (after ∙ ap Some (none_left_behind sought xs found)))
+      | false ↦ λ _. refl
+    ] refl

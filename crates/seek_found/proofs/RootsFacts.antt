@@ -1,5 +1,5 @@
 -- The text that is printed for the answers below roots, one root after another.
-use Rattle.std.proofs.Common.{◌≡◌, ◌⊎◌, ◌∙◌, ℕ, Bool, true, ◌&&◌, List, [], ◌∷◌, ◌++◌, map, Option, None, Some, Result, append_assoc, append-nil, inl, inr, ap, ap₂, refl, subst, sym}
+use Rattle.std.proofs.Common.{◌≡◌, ◌⊎◌, ◌∙◌, ℕ, Bool, true, false, ◌≢◌, ◌&&◌, List, [], ◌∷◌, ◌++◌, map, Option, None, Some, Result, append_assoc, append-nil, inl, inr, ap, ap₂, refl, subst, sym}
 use Rattle.std.specs.List.{list_all, list_any}
 use Rattle.std.specs.Io.KnownBytes.{Appends, append_known}
 use Rattle.std.proofs.lemmas.Grind.{flat_map-append}
@@ -17,7 +17,7 @@ use Rattle.seek_found.specs.Prune.{unpruned}
 use Rattle.seek_found.specs.Roots.{AreBelow, Below, PrintsSuch}
 use Rattle.program_parts.proofs.GatheredFacts.{gathered_written}
 use Rattle.seek_found.proofs.FoundFacts.{all_seam, appends_none, appends_then}
-use Rattle.seek_found.proofs.LimitFacts.{left_as_before, left_then, never_full, one_of_one, up_to_more, up_to_none}
+use Rattle.seek_found.proofs.LimitFacts.{left_as_before, left_then, never_full, none_of_one, one_of_one, up_to_more, up_to_none}
 use Rattle.seek_found.proofs.WholeFacts.{all_clean, same_after, same_lines, same_unpruned, same_up_to}
 
 module _ {sought : Sought} {form : Form} {left left' : Option ℕ} {old new : Option (List ℕ)} {clean : Bool} where
@@ -47,9 +47,10 @@ module _ {are : List (Item Worth Worth) → Type 0} {sought : Sought} {form : Fo
   pub none_after : PrintsSuch are sought form left left' old new clean → left ≡ None → left' ≡ None
   none_after printed none = printed.limit ∙ ap (λ l. left_after sought l printed.answers) none
 
-  -- if a limit of one is reached, one was found
-  pub one_printed_of : (printed : PrintsSuch are sought form left left' old new clean) → left ≡ Some 1 → left' ≡ Some 0 → list_any (is_hit sought) printed.answers ≡ true
-  one_printed_of printed one full = one_of_one sought printed.answers one printed.limit full
+  -- one was found if and only if a limit of one is reached
+  pub found_if_full : (printed : PrintsSuch are sought form left left' old new clean) → left ≡ Some 1 → (full : Bool) → (full ≡ true → left' ≡ Some 0) → (full ≡ false → left' ≢ Some 0) → list_any (is_hit sought) printed.answers ≡ full
+  found_if_full printed one true reached room = one_of_one sought printed.answers one printed.limit (reached refl)
+  found_if_full printed one false reached room = none_of_one sought printed.answers one printed.limit (room refl)
 
 -- the text that is printed for answers is printed for what they count as
 pub counted_printed : {C A R E : Type 0} (given : Given R E) (are : List (Item Worth Worth) → Type 0) (sought : Sought) (form : Form) (left left' : Option ℕ) (old new : Option (List ℕ)) (clean : Bool) (xs : List (Result (DirEntry C A R E) (Error A)))

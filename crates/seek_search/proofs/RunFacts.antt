@@ -26,7 +26,6 @@ use Rattle.seek_words.specs.declared.asked.Asked.{Asked}
 use Rattle.jwalk.specs.jwalk_model.FileSystem.{Functions}
 use Rattle.jwalk_ignore.specs.Rules.Texts.{Texts}
 use Rattle.std.specs.declared.sync.Arc.{Arc}
-use Rattle.jwalk_ignore.specs.declared.callback.kept_rules.KeptRules.{KeptRules}
 use Rattle.jwalk_ignore.specs.declared.callback.states.RulesState.{RulesState}
 use Rattle.seek_found.specs.SoughtTest.{takes_of}
 use Rattle.seek_found.specs.declared.sought_test.SoughtTest.{SoughtTest}
@@ -35,7 +34,7 @@ use Rattle.seek_words.specs.AsksFor.{AskForText}
 use Rattle.seek_words.specs.declared.screen.Screen.{Screen}
 use Rattle.user_excludes.specs.declared.home.Home.{Home}
 use Rattle.jwalk_ignore.specs.jwalk_ignore_rules.declared.rules.with_excludes.WithExcludes.{WithExcludes}
-use Rattle.seek_search.specs.Goes.{ByRead, LeavesOut, PrintsYielded}
+use Rattle.seek_search.specs.Goes.{ByRead, Honours, LeavesOut, PrintsYielded}
 use Rattle.program_walks.specs.Crew.{CrewCallsOf}
 use Rattle.seek_search.specs.Run.{Searches, SearchesFor}
 use Rattle.seek_search.specs.Search.{form_before, sought_before, yielded_by}
@@ -64,7 +63,7 @@ pub quiet_asks_nothing : (fs : Functions) (front : Option (List ℕ)) (screen : 
 quiet_asks_nothing fs front screen asked quiet = ap (λ (b : Bool). asks (form_before fs front screen (record asked { quiet = b })).painting) quiet
 
 -- what is known of a search by some texts, and so more
-by_read : {X : Type 0} {texts : X} {is be : WithExcludes X → List ℕ → Type 0} → ((reads : WithExcludes X) (lines : List ℕ) → is reads lines → be reads lines) → ByRead texts is → ByRead texts be
+pub by_read : {X : Type 0} {texts : X} {is be : WithExcludes X → List ℕ → Type 0} → ((reads : WithExcludes X) (lines : List ℕ) → is reads lines → be reads lines) → ByRead texts is → ByRead texts be
 by_read more (reads, behind, (lines, known)) = (reads, behind, (lines, more reads lines known))
 
 -- the text is printed by the same, with other facts of it
@@ -154,7 +153,7 @@ one_more f before after paths i path below was is =
     ∙ ap (flat_map f) (map-append (λ it. it.now) (take i paths) (last ∷ []))
     ∙ flat_map-append f first (last.now ∷ []) ∙ ap (λ (l : List ℕ). flat_map f first ++ l) (append-nil (f last.now)))
 
-module _ {T C Z B X A E G H F : Type 0} (plain : CrewCallsOf T G (Arc (KeptLinks Z) B) LeavesOut A H F) (honouring : CrewCallsOf T C (Arc (KeptLinks Z) B) (KeptRules (WithExcludes X)) A RulesState E) {disk : Z} {still still' : Type 0} {fs : Functions} {screen : Screen} {asked : Asked} {takes : List ℕ → Bool → Bool} {old new : Option (List ℕ)} where
+module _ {T C Z B X A E G H F : Type 0} (plain : CrewCallsOf T G (Arc (KeptLinks Z) B) LeavesOut A H F) (honouring : CrewCallsOf T C (Arc (KeptLinks Z) B) (Honours (WithExcludes X) B) A RulesState E) {disk : Z} {still still' : Type 0} {fs : Functions} {screen : Screen} {asked : Asked} {takes : List ℕ → Bool → Bool} {old new : Option (List ℕ)} where
   -- the lines are printed if the file system is fixed
   printed_if : (still' → still) → (from : WithExcludes X) (lines : List ℕ) → PrintsYielded plain honouring disk still fs from lines screen asked takes old new true → PrintsYielded plain honouring disk still' fs from lines screen asked takes old new true
   printed_if fixes from lines prints = record {
@@ -166,7 +165,7 @@ module _ {T C Z B X A E G H F : Type 0} (plain : CrewCallsOf T G (Arc (KeptLinks
     printed = λ known. prints.printed (λ empty. fixes (known.0 empty), λ links. fixes (known.1 links));
   }
 
-module _ {T C Z B X A E G H F : Type 0} (plain : CrewCallsOf T G (Arc (KeptLinks Z) B) LeavesOut A H F) (honouring : CrewCallsOf T C (Arc (KeptLinks Z) B) (KeptRules (WithExcludes X)) A RulesState E) {disk : Z} {reads : X} {still still' fixed fixed' : Type 0} {fs fs' : Functions} {texts texts' : Texts} {home : Home} {screen : Screen} {asked : Asked} {sought : Looked} {old old' new : Option (List ℕ)} where
+module _ {T C Z B X A E G H F : Type 0} (plain : CrewCallsOf T G (Arc (KeptLinks Z) B) LeavesOut A H F) (honouring : CrewCallsOf T C (Arc (KeptLinks Z) B) (Honours (WithExcludes X) B) A RulesState E) {disk : Z} {reads : X} {still still' fixed fixed' : Type 0} {fs fs' : Functions} {texts texts' : Texts} {home : Home} {screen : Screen} {asked : Asked} {sought : Looked} {old old' new : Option (List ℕ)} where
   -- the same search, by other names of the file system, the texts and what was written before
   pub searches_as : (still' → still) → (fixed' → fixed) → fs ≡ fs' → texts ≡ texts' → old ≡ old' → SearchesFor plain honouring disk reads still fixed fs texts home screen asked sought old new → SearchesFor plain honouring disk reads still' fixed' fs' texts' home screen asked sought old' new
   searches_as stays fixes over from before s =
@@ -181,7 +180,7 @@ module _ {T C Z B X A E G H F : Type 0} (plain : CrewCallsOf T G (Arc (KeptLinks
         prints = λ both. s.prints (fixes both);
       })))
 
-module _ {T C Z B X A E G H F : Type 0} (plain : CrewCallsOf T G (Arc (KeptLinks (Based Z)) B) LeavesOut A H F) (honouring : CrewCallsOf T C (Arc (KeptLinks (Based Z)) B) (KeptRules (WithExcludes (Based X))) A RulesState E) {disk : Z} {reads : X} {still fixed : Type 0} {fs : Functions} {texts : Texts} {home : Home} {screen : Screen} {old new : Option (List ℕ)} where
+module _ {T C Z B X A E G H F : Type 0} (plain : CrewCallsOf T G (Arc (KeptLinks (Based Z)) B) LeavesOut A H F) (honouring : CrewCallsOf T C (Arc (KeptLinks (Based Z)) B) (Honours (WithExcludes (Based X)) B) A RulesState E) {disk : Z} {reads : X} {still fixed : Type 0} {fs : Functions} {texts : Texts} {home : Home} {screen : Screen} {old new : Option (List ℕ)} where
   -- the same call, by other names of its words
   pub searches_with : {words words' : List (List ℕ)} → words ≡ words' → AskForText words ⊎ Searches plain honouring disk reads still fixed fs texts home screen words old new → AskForText words' ⊎ Searches plain honouring disk reads still fixed fs texts home screen words' old new
   searches_with is = subst (λ (w : List (List ℕ)). AskForText w ⊎ Searches plain honouring disk reads still fixed fs texts home screen w old new) is

@@ -19,10 +19,9 @@ use Rattle.seek_words.specs.Sought.{Sought}
 use Rattle.seek_found.specs.Roots.{AreBelow}
 use Rattle.seek_found.proofs.RootsFacts.{may_stop_sooner, one_root}
 use Rattle.seek_found.proofs.WholeFacts.{AreDeep}
-use Rattle.seek_search.specs.Goes.{IsHonouring, IsPlain, LeavesOut, Yielded, YieldedBelow}
+use Rattle.seek_search.specs.Goes.{Honours, IsHonouring, IsPlain, LeavesOut, Yielded, YieldedBelow}
 use Rattle.program_walks.specs.Crew.{CrewCallsOf}
 use Rattle.seek_search.specs.Search.{roots_asked}
-use Rattle.jwalk_ignore.specs.declared.callback.kept_rules.KeptRules.{KeptRules}
 use Rattle.jwalk_ignore.specs.declared.callback.states.RulesState.{RulesState}
 
 module _ {T C S P A R E : Type 0} (calls : CrewCallsOf T C S P A R E) {is : WalkDirGeneric C S P A (Crew T) R E → Type 0} {sought : Sought} where
@@ -53,19 +52,19 @@ module _ {T C S P A R E : Type 0} (calls : CrewCallsOf T C S P A R E) {is : Walk
     | inr stopped ↦ inr (stopped.0, y)
   ]
 
-  -- the same, if a search may stop
-  yielded_may : {may_stop : Type 0} (answers : List (Item Worth Worth)) → Yielded calls is sought may_stop answers → Yielded calls is sought (Unit {0}) answers
-  yielded_may answers y = record {
+  -- the same, if a search may stop for a weaker cause
+  yielded_may : {may_stop other : Type 0} → (may_stop → other) → (answers : List (Item Worth Worth)) → Yielded calls is sought may_stop answers → Yielded calls is sought other answers
+  yielded_may more answers y = record {
     walk = y.walk;
     is_so = y.is_so;
     it = y.it;
     starts = y.starts;
     yielded = y.yielded;
-    called = elim y.called [ inl drains ↦ inl drains | inr stopped ↦ inr (tt, stopped.1) ];
+    called = elim y.called [ inl drains ↦ inl drains | inr stopped ↦ inr (more stopped.0, stopped.1) ];
     counted = y.counted;
   }
 
-module _ {T C S B X A E G H F : Type 0} (plain : CrewCallsOf T G (Arc S B) LeavesOut A H F) (honouring : CrewCallsOf T C (Arc S B) (KeptRules X) A RulesState E) (disk : S) (texts : X) (lines : List ℕ) (asked : Asked) (sought : Sought) (may_stop : Type 0) (root : List ℕ) (answers : List (Item Worth Worth)) where
+module _ {T C S B X A E G H F : Type 0} (plain : CrewCallsOf T G (Arc S B) LeavesOut A H F) (honouring : CrewCallsOf T C (Arc S B) (Honours X B) A RulesState E) (disk : S) (texts : X) (lines : List ℕ) (asked : Asked) (sought : Sought) (may_stop : Type 0) (root : List ℕ) (answers : List (Item Worth Worth)) where
   abbrev Two : Type 0 → Bool → Type 0
   Two stop b = MatchBool b (Yielded plain (IsPlain disk lines asked root) sought stop answers) (Yielded honouring (IsHonouring disk texts lines asked root) sought stop answers)
 
@@ -80,25 +79,25 @@ module _ {T C S B X A E G H F : Type 0} (plain : CrewCallsOf T G (Arc S B) Leave
   pub below_or : YieldedBelow plain honouring disk texts lines asked sought may_stop root answers → YieldedBelow plain honouring disk texts lines asked sought ⊥ root answers ⊎ (may_stop × YieldedBelow plain honouring disk texts lines asked sought may_stop root answers)
   below_or = elim asked.no_ignore as (λ b. Two may_stop b → Two ⊥ b ⊎ (may_stop × Two may_stop b)) [ true ↦ yielded_or plain answers | false ↦ yielded_or honouring answers ]
 
-  -- the same, if a search may stop
-  pub below_may : YieldedBelow plain honouring disk texts lines asked sought may_stop root answers → YieldedBelow plain honouring disk texts lines asked sought (Unit {0}) root answers
-  below_may = elim asked.no_ignore as (λ b. Two may_stop b → Two (Unit {0}) b) [ true ↦ yielded_may plain answers | false ↦ yielded_may honouring answers ]
+  -- the same, if a search may stop for a weaker cause
+  pub below_may : {other : Type 0} → (may_stop → other) → YieldedBelow plain honouring disk texts lines asked sought may_stop root answers → YieldedBelow plain honouring disk texts lines asked sought other root answers
+  below_may {other} more = elim asked.no_ignore as (λ b. Two may_stop b → Two other b) [ true ↦ yielded_may plain more answers | false ↦ yielded_may honouring more answers ]
 
 -- the answers below roots depend on the disk, the texts and what is looked for
-pub same_below : {T C S B X A E G H F : Type 0} (plain : CrewCallsOf T G (Arc S B) LeavesOut A H F) (honouring : CrewCallsOf T C (Arc S B) (KeptRules X) A RulesState E) (lines : List ℕ) (asked : Asked) (may_stop : Type 0) (roots : List (List ℕ)) {disk disk' : S} {texts texts' : X} {sought sought' : Sought} → disk ≡ disk' → texts ≡ texts' → sought ≡ sought'
+pub same_below : {T C S B X A E G H F : Type 0} (plain : CrewCallsOf T G (Arc S B) LeavesOut A H F) (honouring : CrewCallsOf T C (Arc S B) (Honours X B) A RulesState E) (lines : List ℕ) (asked : Asked) (may_stop : Type 0) (roots : List (List ℕ)) {disk disk' : S} {texts texts' : X} {sought sought' : Sought} → disk ≡ disk' → texts ≡ texts' → sought ≡ sought'
     → (answers : List (Item Worth Worth)) → AreBelow (YieldedBelow plain honouring disk texts lines asked sought) may_stop roots answers → AreBelow (YieldedBelow plain honouring disk' texts' lines asked sought') may_stop roots answers
 same_below {S} {X} plain honouring lines asked may_stop roots {disk} {disk'} {texts} {texts'} {sought} {sought'} over from same answers are =
     subst (λ (s : Sought). AreBelow (YieldedBelow plain honouring disk' texts' lines asked s) may_stop roots answers) same
     (subst (λ (t : X). AreBelow (YieldedBelow plain honouring disk' t lines asked sought) may_stop roots answers) from
     (subst (λ (d : S). AreBelow (YieldedBelow plain honouring d texts lines asked sought) may_stop roots answers) over are))
 
--- a search that stops may stop
-pub stops_somewhere : {T C S B X A E G H F : Type 0} (plain : CrewCallsOf T G (Arc S B) LeavesOut A H F) (honouring : CrewCallsOf T C (Arc S B) (KeptRules X) A RulesState E) (disk : S) (texts : X) (lines : List ℕ) (asked : Asked) (sought : Sought) (may_stop : Type 0) (roots : List (List ℕ)) (answers : List (Item Worth Worth))
-    → AreBelow (YieldedBelow plain honouring disk texts lines asked sought) may_stop roots answers → AreBelow (YieldedBelow plain honouring disk texts lines asked sought) (Unit {0}) roots answers
-stops_somewhere plain honouring disk texts lines asked sought may_stop =
-    may_stop_sooner (YieldedBelow plain honouring disk texts lines asked sought) may_stop (Unit {0}) (λ stops. tt) (λ root answers. below_may plain honouring disk texts lines asked sought may_stop root answers)
+-- a search that stops may stop for a weaker cause
+pub stops_sooner : {T C S B X A E G H F : Type 0} (plain : CrewCallsOf T G (Arc S B) LeavesOut A H F) (honouring : CrewCallsOf T C (Arc S B) (Honours X B) A RulesState E) (disk : S) (texts : X) (lines : List ℕ) (asked : Asked) (sought : Sought) (may_stop other : Type 0) → (may_stop → other) → (roots : List (List ℕ)) (answers : List (Item Worth Worth))
+    → AreBelow (YieldedBelow plain honouring disk texts lines asked sought) may_stop roots answers → AreBelow (YieldedBelow plain honouring disk texts lines asked sought) other roots answers
+stops_sooner plain honouring disk texts lines asked sought may_stop other more =
+    may_stop_sooner (YieldedBelow plain honouring disk texts lines asked sought) may_stop other more (λ root answers. below_may plain honouring disk texts lines asked sought may_stop root answers more)
 
-module _ {T C S B X A E G H F : Type 0} (plain : CrewCallsOf T G (Arc S B) LeavesOut A H F) (honouring : CrewCallsOf T C (Arc S B) (KeptRules X) A RulesState E) (disk : S) (texts : X) (lines : List ℕ) (asked : Asked) (sought : Sought) (may_stop : Type 0) where
+module _ {T C S B X A E G H F : Type 0} (plain : CrewCallsOf T G (Arc S B) LeavesOut A H F) (honouring : CrewCallsOf T C (Arc S B) (Honours X B) A RulesState E) (disk : S) (texts : X) (lines : List ℕ) (asked : Asked) (sought : Sought) (may_stop : Type 0) where
   -- the answers below the folder that the program runs in, if no root is named
   pub below_here : (length asked.roots.items == 0) ≡ true → (answers : List (Item Worth Worth)) → YieldedBelow plain honouring disk texts lines asked sought may_stop dot answers → AreBelow (YieldedBelow plain honouring disk texts lines asked sought) may_stop (roots_asked asked) answers
   below_here none answers y =

@@ -36,7 +36,7 @@ use Rattle.seek_search.specs.Search.{excluded_asked, form_before, limit_asked, n
 use Rattle.jwalk_ignore.specs.declared.callback.excluding.Excluding.{Excluding}
 use Rattle.seek_search.specs.KeptLinks.{functions_kept}
 use Rattle.seek_search.specs.declared.kept_links.KeptLinks.{KeptLinks}
-use Rattle.jwalk_ignore.specs.declared.callback.kept_rules.KeptRules.{KeptRules}
+use Rattle.jwalk_ignore.specs.declared.callback.ignore_files.IgnoreFiles.{IgnoreFiles}
 use Rattle.jwalk_ignore.specs.declared.callback.states.RulesState.{RulesState}
 
 -- A walk with these facts was begun and called until it ended, or some calls were made if the search may stop. These
@@ -54,6 +54,10 @@ pub record Yielded {T C S P A R E : Type 0} (calls : CrewCallsOf T C S P A R E) 
 abbrev pub LeavesOut : Type 0
 LeavesOut = Both Excluding Excluding
 
+-- the callback of walks that honour the ignore files of these texts
+abbrev pub Honours : Type 0 → Type 0 → Type 0
+Honours X B = IgnoreFiles (Arc X B) Excluding
+
 -- The walk over this disk below this root, without ignore files. It leaves out what these lines name, and then what `-E`
 -- does. A crew may read for it.
 pub record IsPlain {T C S B A R E : Type 0} (disk : S) (lines : List ℕ) (asked : Asked) (root : List ℕ) (walk : WalkDirGeneric C (Arc S B) LeavesOut A (Crew T) R E) : Type 0 where
@@ -66,23 +70,23 @@ pub record IsPlain {T C S B A R E : Type 0} (disk : S) (lines : List ℕ) (asked
 
 -- The walk over this disk below this root that honours the ignore files of these texts, and at last these lines. It begins without rules, and is
 -- shown hidden names. It drops these itself, unless they are asked for.
-pub record IsHonouring {T C S B X A E : Type 0} (disk : S) (texts : X) (lines : List ℕ) (asked : Asked) (root : List ℕ) (walk : WalkDirGeneric C (Arc S B) (KeptRules X) A (Crew T) RulesState E) : Type 0 where
+pub record IsHonouring {T C S B X A E : Type 0} (disk : S) (texts : X) (lines : List ℕ) (asked : Asked) (root : List ℕ) (walk : WalkDirGeneric C (Arc S B) (Honours X B) A (Crew T) RulesState E) : Type 0 where
   pub over : arc_value (file_system_of walk) ≡ disk
   pub below : root_of walk ≡ root
   pub by_crew : Bool
   pub options : options_of walk ≡ with_skip_hidden false (with_crew by_crew (options_asked asked))
-  pub texts_read : arc_value (texts_of (callback_of walk).rules) ≡ texts
-  pub settings : settings_of (callback_of walk).rules ≡ settings_asked lines asked
-  pub excluded : excluded_of (next_of (callback_of walk).rules) ≡ excluded_asked asked root
+  pub texts_read : arc_value (texts_of (callback_of walk)) ≡ texts
+  pub settings : settings_of (callback_of walk) ≡ settings_asked lines asked
+  pub excluded : excluded_of (next_of (callback_of walk)) ≡ excluded_asked asked root
   pub begins : rules_held (state_of walk) ≡ no_rules
 
-module _ {T C S B X A E G H F : Type 0} (plain : CrewCallsOf T G (Arc S B) LeavesOut A H F) (honouring : CrewCallsOf T C (Arc S B) (KeptRules X) A RulesState E) where
+module _ {T C S B X A E G H F : Type 0} (plain : CrewCallsOf T G (Arc S B) LeavesOut A H F) (honouring : CrewCallsOf T C (Arc S B) (Honours X B) A RulesState E) where
   -- The answers are those of the walk that is asked for below this root: all of them, unless the search may stop.
   abbrev pub YieldedBelow : S → X → List ℕ → Asked → Sought → Below
   YieldedBelow disk texts lines asked sought may_stop root answers =
       MatchBool asked.no_ignore (Yielded plain (IsPlain disk lines asked root) sought may_stop answers) (Yielded honouring (IsHonouring disk texts lines asked root) sought may_stop answers)
 
-module _ {T C Z B X A E G H F : Type 0} (plain : CrewCallsOf T G (Arc (KeptLinks Z) B) LeavesOut A H F) (honouring : CrewCallsOf T C (Arc (KeptLinks Z) B) (KeptRules X) A RulesState E) where
+module _ {T C Z B X A E G H F : Type 0} (plain : CrewCallsOf T G (Arc (KeptLinks Z) B) LeavesOut A H F) (honouring : CrewCallsOf T C (Arc (KeptLinks Z) B) (Honours X B) A RulesState E) where
   -- The answers are those of the walks below the roots that are asked for, one root after another. Links that lead
   -- nowhere stay links.
   abbrev pub AreYielded : Z → X → List ℕ → Asked → Sought → Type 0 → List (Item Worth Worth) → Type 0
@@ -99,13 +103,13 @@ module _ {T C Z B X A E G H F : Type 0} (plain : CrewCallsOf T G (Arc (KeptLinks
     pub left : Option ℕ
     pub printed : IfAsked fixed (sought_before fs front asked takes) (form_before (functions_kept asked.follow fs) shown screen asked) → PrintsSuch (AreYielded disk texts lines asked (sought_before fs front asked takes) (left ≡ Some 0)) (sought_before fs front asked takes) (form_before (functions_kept asked.follow fs) shown screen asked) (limit_asked asked) left old new clean
 
-  -- One of the answers is looked for. The search may stop there.
-  pub record FindsOne (disk : Z) (fs : Functions) (texts : X) (lines : List ℕ) (asked : Asked) (takes : List ℕ → Bool → Bool) : Type 0 where
+  -- `found` says whether one of the answers is looked for. If so, the search may stop there.
+  pub record Finds (disk : Z) (fs : Functions) (texts : X) (lines : List ℕ) (asked : Asked) (takes : List ℕ → Bool → Bool) (found : Bool) : Type 0 where
     pub front : Option (List ℕ)
     pub in_front : is_some front ≡ asked.full_path
     pub answers : List (Item Worth Worth)
-    pub yielded : AreYielded disk texts lines asked (sought_before fs front asked takes) (Unit {0}) answers
-    pub found : list_any (is_hit (sought_before fs front asked takes)) answers ≡ true
+    pub yielded : AreYielded disk texts lines asked (sought_before fs front asked takes) (found ≡ true) answers
+    pub one : list_any (is_hit (sought_before fs front asked takes)) answers ≡ found
 
 -- What is known of a search by these texts, whatever the user's excludes are, and by some lines of ignore files.
 abbrev pub ByRead : {X : Type 0} → X → (WithExcludes X → List ℕ → Type 0) → Type 0

@@ -14,7 +14,7 @@ use Rattle.seek_found.specs.Sought.{IsFor, takes_by}
 use Rattle.seek_found.specs.declared.sought.Sought.{Sought}
 use Rattle.seek_found.specs.Times.{AreTimes}
 use Rattle.seek_search.specs.Based.{base_asked, functions_based, has_folder, texts_based, IsBased}
-use Rattle.seek_search.specs.Goes.{ByRead, FindsOne, LeavesOut, PrintsYielded}
+use Rattle.seek_search.specs.Goes.{ByRead, Finds, Honours, LeavesOut, PrintsYielded}
 use Rattle.program_walks.specs.Crew.{CrewCallsOf}
 use Rattle.seek_search.specs.KeptLinks.{functions_kept}
 use Rattle.seek_search.specs.RulesRead.{excludes_asked, lines_asked}
@@ -22,7 +22,6 @@ use Rattle.user_excludes.specs.declared.home.Home.{Home}
 use Rattle.seek_search.specs.Search.{form_asked, limit_asked, sought_asked, yielded_by}
 use Rattle.seek_search.specs.declared.based.Based.{Based}
 use Rattle.seek_search.specs.declared.kept_links.KeptLinks.{KeptLinks}
-use Rattle.jwalk_ignore.specs.declared.callback.kept_rules.KeptRules.{KeptRules}
 use Rattle.jwalk_ignore.specs.declared.callback.states.RulesState.{RulesState}
 
 -- Over a file system and texts that always answer the same, the line of each entry that is looked for is printed, of
@@ -37,7 +36,7 @@ abbrev pub PrintsAsked : Functions → Texts → Home → Screen → Asked → S
 PrintsAsked fs texts home screen asked sought =
     PrintsRead fs (with_excludes (excludes_asked texts home asked) texts) (lines_asked texts asked) screen asked sought
 
-module _ {T C Z B X A E G H F : Type 0} (plain : CrewCallsOf T G (Arc (KeptLinks Z) B) LeavesOut A H F) (honouring : CrewCallsOf T C (Arc (KeptLinks Z) B) (KeptRules (WithExcludes X)) A RulesState E) where
+module _ {T C Z B X A E G H F : Type 0} (plain : CrewCallsOf T G (Arc (KeptLinks Z) B) LeavesOut A H F) (honouring : CrewCallsOf T C (Arc (KeptLinks Z) B) (Honours (WithExcludes X) B) A RulesState E) where
   -- This is searched over this disk. The times that are asked for are known. Paths are in colors if the words or the
   -- screen ask for it. A quiet search writes nothing, and finds one of the answers of its walks. Any other search prints
   -- their lines in the way that is asked for, and all answers are clean. If there is no limit, and the file system and
@@ -47,11 +46,11 @@ module _ {T C Z B X A E G H F : Type 0} (plain : CrewCallsOf T G (Arc (KeptLinks
   pub record SearchesFor (disk : Z) (reads : X) (still fixed : Type 0) (fs : Functions) (texts : Texts) (home : Home) (screen : Screen) (asked : Asked) (sought : Sought) (old new : Option (List ℕ)) : Type 0 where
     pub colored : asked.colored ≡ is_colored screen asked.color
     pub times : fixed → AreTimes fs asked asked.times
-    pub quiet : asked.quiet ≡ true → (new ≡ old) × ((asked.kinds.empty ≡ true → still) → ByRead reads (λ texts lines. FindsOne plain honouring disk fs texts lines asked (takes_by sought)))
+    pub quiet : asked.quiet ≡ true → (new ≡ old) × ((asked.kinds.empty ≡ true → still) → ByRead reads (λ texts lines. Finds plain honouring disk fs texts lines asked (takes_by sought) true))
     pub yielded : asked.quiet ≡ false → ByRead reads (λ texts lines. PrintsYielded plain honouring disk still fs texts lines screen asked (takes_by sought) old new true)
     pub prints : fixed → limit_asked asked ≡ None → PrintsAsked fs texts home screen asked sought old new
 
-module _ {T C Z B X A E G H F : Type 0} (plain : CrewCallsOf T G (Arc (KeptLinks (Based Z)) B) LeavesOut A H F) (honouring : CrewCallsOf T C (Arc (KeptLinks (Based Z)) B) (KeptRules (WithExcludes (Based X))) A RulesState E) where
+module _ {T C Z B X A E G H F : Type 0} (plain : CrewCallsOf T G (Arc (KeptLinks (Based Z)) B) LeavesOut A H F) (honouring : CrewCallsOf T C (Arc (KeptLinks (Based Z)) B) (Honours (WithExcludes (Based X)) B) A RulesState E) where
   -- The words ask for a search, and the names that are looked for are those of the patterns. This is searched, over the
   -- disk and the texts as they are seen from the folder that is asked for, which is one.
   pub record Searches (disk : Z) (reads : X) (still fixed : Type 0) (fs : Functions) (texts : Texts) (home : Home) (screen : Screen) (words : List (List ℕ)) (old new : Option (List ℕ)) : Type 0 where

@@ -7,7 +7,7 @@ ghost use Rattle.seek_words.specs.declared.times.Times.{Times};
 ghost use Rattle.seek_found.specs.Call.{AskForSearch, Ends};
 ghost use Rattle.seek_found.specs.Sought.{takes_by};
 ghost use Rattle.seek_search.specs.Based.{has_folder};
-ghost use Rattle.seek_search.specs.Goes.{ByRead, FindsOne, PrintsYielded};
+ghost use Rattle.seek_search.specs.Goes.{ByRead, Finds, PrintsYielded};
 ghost use Rattle.seek_search.specs.Run.{PrintsAsked, PrintsRead, Searches, SearchesFor};
 ghost use Rattle.seek_search.specs.Search.{limit_asked};
 
@@ -39,6 +39,14 @@ fn shared<V: Drop>(alloc: Global, value: V) -> Result<Arc<V>, AllocError>
     ensures { IfOk result (λ it. arc_value it ≡ value) }
 {
     Ok(Arc::new(alloc, value)?)
+}
+
+/// Returns how many threads are asked for: one, if the lists of roots alone are read.
+fn threads_for(asked: &Asked<'_>) -> Option<usize> {
+    match asked.depths.greatest {
+        Some(0 | 1) => Some(1),
+        _ => asked.threads,
+    }
 }
 
 /// Returns whether the folder that is asked for is a directory or a link to one, if one is named. Reports it if not.
@@ -94,9 +102,9 @@ impl<
         ensures yielded { IfOk result (λ ended. PrintsYielded ⟦<PlainWalk<T, KeptLinks<S>> as Iterator>⟧.next_gives
             ⟦<HonouringWalk<T, KeptLinks<S>, X> as Iterator>⟧.next_gives self.entry.disk (S.IsFixed self.entry.disk) (S.functions self.entry.disk) self.entry.texts given.now self.entry.screen
             asked.now (takes_by sought.now) (W.contents out.old) (W.contents out.new) ended.clean) }
-        ensures found { IfOk result (λ ended. asked.now.quiet ≡ true → ended.full ≡ true → (asked.now.kinds.empty ≡ true → S.IsFixed self.entry.disk)
-            → FindsOne ⟦<PlainWalk<T, KeptLinks<S>> as Iterator>⟧.next_gives
-            ⟦<HonouringWalk<T, KeptLinks<S>, X> as Iterator>⟧.next_gives self.entry.disk (S.functions self.entry.disk) self.entry.texts given.now asked.now (takes_by sought.now)) }
+        ensures found { IfOk result (λ ended. asked.now.quiet ≡ true → (asked.now.kinds.empty ≡ true → S.IsFixed self.entry.disk)
+            → Finds ⟦<PlainWalk<T, KeptLinks<S>> as Iterator>⟧.next_gives
+            ⟦<HonouringWalk<T, KeptLinks<S>, X> as Iterator>⟧.next_gives self.entry.disk (S.functions self.entry.disk) self.entry.texts given.now asked.now (takes_by sought.now) ended.full) }
         ensures whole { IfOk result (λ ended. limit_asked asked.now ≡ None → ended.clean ≡ true → S.IsFixed self.entry.disk → X.IsFixed self.entry.texts
             → PrintsRead (S.functions self.entry.disk) (X.functions self.entry.texts) given.now self.entry.screen asked.now sought.now
             (W.contents out.old) (W.contents out.new)) }
@@ -120,7 +128,7 @@ impl<
             lines: given,
             disk: shared(alloc, kept)?,
             texts: shared(alloc, texts)?,
-            crew: crew_of(rt, alloc, asked.threads)?,
+            crew: crew_of(rt, alloc, threads_for(asked))?,
         };
         let mut printer = printer_of(alloc, screen, asked, sought, &search.texts)?;
         search.print(alloc, &mut printer, out, err)
@@ -138,10 +146,10 @@ impl<
             ⟦<PlainWalk<T, KeptLinks<S>> as Iterator>⟧.next_gives
             ⟦<HonouringWalk<T, KeptLinks<S>, WithExcludes<X>> as Iterator>⟧.next_gives self.entry.disk (S.IsFixed self.entry.disk) (S.functions self.entry.disk) reads lines self.entry.screen
             asked.now (takes_by sought.now) (W.contents out.old) (W.contents out.new) true)) }
-        ensures found { IfOk result (λ ended. asked.now.quiet ≡ true → ended.full ≡ true
-            → (asked.now.kinds.empty ≡ true → S.IsFixed self.entry.disk) → ByRead self.entry.texts (λ reads lines. FindsOne
+        ensures found { IfOk result (λ ended. asked.now.quiet ≡ true
+            → (asked.now.kinds.empty ≡ true → S.IsFixed self.entry.disk) → ByRead self.entry.texts (λ reads lines. Finds
             ⟦<PlainWalk<T, KeptLinks<S>> as Iterator>⟧.next_gives
-            ⟦<HonouringWalk<T, KeptLinks<S>, WithExcludes<X>> as Iterator>⟧.next_gives self.entry.disk (S.functions self.entry.disk) reads lines asked.now (takes_by sought.now))) }
+            ⟦<HonouringWalk<T, KeptLinks<S>, WithExcludes<X>> as Iterator>⟧.next_gives self.entry.disk (S.functions self.entry.disk) reads lines asked.now (takes_by sought.now) ended.full)) }
         ensures whole { IfOk result (λ ended. limit_asked asked.now ≡ None → ended.clean ≡ true → S.IsFixed self.entry.disk → X.IsFixed self.entry.texts
             → PrintsAsked (S.functions self.entry.disk) (X.functions self.entry.texts) self.entry.home self.entry.screen asked.now sought.now
             (W.contents out.old) (W.contents out.new)) }

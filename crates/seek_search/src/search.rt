@@ -1,5 +1,5 @@
 //! A search below roots.
-ghost use Rattle.std.specs.Prelude.{◌≡◌, [], Some, false, flat_map, true, IfOk};
+ghost use Rattle.std.specs.Prelude.{◌≡◌, ◌≢◌, [], Some, false, flat_map, true, IfOk};
 ghost use Rattle.std.specs.Arc.{arc_value};
 ghost use Rattle.program_parts.specs.Values.{texts_of as texts_now};
 ghost use Rattle.jwalk.specs.jwalk_model.Options.{with_skip_hidden};
@@ -20,11 +20,11 @@ use crate::excluded::{excluding_of, naming_of};
 use jwalk::file_system::FileSystem;
 use jwalk::read_dir::{Both, ProcessReadDir};
 use jwalk::{ClientState, Crew, Options, WalkDirGeneric};
-use jwalk_ignore::builder::with_hidden_shown;
+use jwalk_ignore::builder::with_ignore_files;
 use jwalk_ignore::excluding::Excluding;
 use jwalk_ignore::ignore_files::IgnoreFiles;
-use jwalk_ignore::kept_rules::{KeptRules, KeptStates};
 use jwalk_ignore::rules::Rules;
+use jwalk_ignore::states::OnlyRules;
 use jwalk_ignore::texts::Texts;
 use program_parts::halt::Halt;
 use program_walks::crew::{CrewWalk, Plain, walk_below};
@@ -44,11 +44,14 @@ use std::time::Clock;
 /// A callback without ignore files: it drops what lines of named files leave out, and then what `-E` does.
 type LeavesOut = Both<Excluding, Excluding>;
 
+/// A callback that honours ignore files, and then drops what `-E` leaves out.
+type Honours<X> = IgnoreFiles<Arc<X>, Excluding>;
+
 /// A walk without ignore files.
 pub(crate) type PlainWalk<T, S> = CrewWalk<T, ((), ()), Arc<S>, LeavesOut>;
 
 /// A walk with ignore files.
-pub(crate) type HonouringWalk<T, S, X> = CrewWalk<T, KeptStates, Arc<S>, KeptRules<X>>;
+pub(crate) type HonouringWalk<T, S, X> = CrewWalk<T, OnlyRules, Arc<S>, Honours<X>>;
 
 /// A crew may read for the walk. The disk is asked about directories if only empty entries are looked for, and where links
 /// lead if their colors tell.
@@ -122,16 +125,16 @@ fn search_walk<
 >(
     walk: Plain<T, S>,
     disk: &Arc<S>,
-    rules: KeptRules<X>,
+    rules: Honours<X>,
     printer: &mut Printer<'_, SoughtTest<'_>>,
     clock: &K,
     out: &mut W,
     err: &mut E,
 ) -> Result<bool, Halt>
-    ensures whole { IfOk result (λ clean. S.IsFixed (arc_value disk.now) → S.IsFixed (arc_value (file_system_of walk)) → X.IsFixed (arc_value (texts_of rules.rules))
+    ensures whole { IfOk result (λ clean. S.IsFixed (arc_value disk.now) → S.IsFixed (arc_value (file_system_of walk)) → X.IsFixed (arc_value (texts_of rules))
         → rules_held (state_of walk) ≡ no_rules → PrintsAll (S.functions (arc_value disk.now)) (λ sought. unpruned sought
-        (ignoring_walk (S.functions (arc_value (file_system_of walk))) (X.functions (arc_value (texts_of rules.rules)))
-        (settings_of rules.rules) (excluded_of (next_of rules.rules)) (options_of walk) (root_of walk)))
+        (ignoring_walk (S.functions (arc_value (file_system_of walk))) (X.functions (arc_value (texts_of rules)))
+        (settings_of rules) (excluded_of (next_of rules)) (options_of walk) (root_of walk)))
         printer.old printer.new (W.contents out.old) (W.contents out.new) clean) }
     ensures yielded { IfOk result (PrintsThose (S.IsFixed (arc_value disk.now)) (S.functions (arc_value disk.now)) (Yielded ⟦<HonouringWalk<T, S, X> as Iterator>⟧.next_gives
         (Sets (record (with_callback rules (described walk)) { options = with_skip_hidden false (options_of walk) })))
@@ -139,7 +142,7 @@ fn search_walk<
     ensures stays { StaysAs (S.functions (arc_value disk.now)) printer.old printer.new }
 {
     print_begun(
-        with_hidden_shown(walk, rules),
+        with_ignore_files(walk, rules),
         disk,
         printer,
         clock,
@@ -236,16 +239,8 @@ impl<
         let rules = rules_of(alloc, self.asked, self.lines, texts)?.then(excluding);
         let root = String::from_str(alloc, root)?;
         let disk = self.disk.clone()?;
-        let walk = walk_below::<KeptStates, _, _, _>(disk, root, self.options(), &self.crew)?;
-        search_walk(
-            walk,
-            &self.disk,
-            KeptRules { rules },
-            printer,
-            self.clock,
-            out,
-            err,
-        )
+        let walk = walk_below::<OnlyRules, _, _, _>(disk, root, self.options(), &self.crew)?;
+        search_walk(walk, &self.disk, rules, printer, self.clock, out, err)
     }
 
     /// Prints what is found, and reports errors. Returns whether there was none.
@@ -346,6 +341,7 @@ impl<
             (yielded_by (S.functions (arc_value self.now.disk)) (X.functions (arc_value self.now.texts)) self.now.lines.now self.now.asked.now)
             printer.old (W.contents out.old) (W.contents out.new) ended.clean) }
         ensures full { IfOk result (λ ended. ended.full ≡ true → printer.new.left ≡ Some 0) }
+        ensures room { IfOk result (λ ended. ended.full ≡ false → printer.new.left ≢ Some 0) }
     {
         let clean = self.below_roots(alloc, printer, out, err)?;
         printer.lines.finish(out)?;

@@ -38,7 +38,8 @@ with_processed given next keeps = record {
   new_entry = given.new_entry;
 }
 
--- States of directories count as the rules that they hold, beside what the others in them count as.
+-- States of directories count as the rules that they hold, beside a worth of their own, which two states share that are the
+-- same beside their rules.
 abbrev pub CountsRules : {R E : Type 0} → (R → Chain) → (R → R → Type 0) → Given R E → (R → Worth) → Type 0
 CountsRules rules_in others given own =
     ((state : _) → given.read_dir_state state ≡ both (chain_worth (rules_in state)) (own state))

@@ -15,6 +15,9 @@ pub struct RulesState {
     pub chain: Chain,
 }
 
+/// The states of a walk whose callback keeps nothing beside the rules.
+pub type OnlyRules = (RulesState, ());
+
 /// No rules.
 impl Default for RulesState {
     ghost is_default = { λ state. rules_held state ≡ no_rules };

@@ -2,7 +2,6 @@
 use Rattle.std.specs.Prelude.{◌≡◌, ℕ, true, false, List, [], ◌∷◌, codes, refl}
 use Rattle.jwalk_ignore_rules.specs.Rules.Chain.{Chain, Link, chain_says, entered, no_rules}
 use Rattle.jwalk_ignore_rules.specs.Rules.Line.{patterns_of}
-use Rattle.jwalk_ignore_rules.specs.declared.rules.decision.Decision.{Decision}
 use Rattle.jwalk_ignore_rules.specs.declared.rules.decision.Decision.TheVariants.{Ignored, Kept, Unsaid}
 
 -- the rules of one file

@@ -21,19 +21,19 @@ use Rattle.seek_search.proofs.search.search_walk.Goals as goal
 pub returns-clause-whole : goal.returns-clause-whole
 returns-clause-whole g c =
     let rules = c.args.rules in
-    let set = c.with_hidden_shown.ensures in
-    let walk = c.with_hidden_shown.result in
-    let texts = g.X.Texts.functions (arc_value (texts_of rules.rules)) in
-    let given = given_kept rules_held (settings_of rules.rules) texts (excluded_of (next_of rules.rules)) in
-    let made = ignoring (settings_of rules.rules) texts (excluding (excluded_of (next_of rules.rules))) in
+    let set = c.with_ignore_files.ensures in
+    let walk = c.with_ignore_files.result in
+    let texts = g.X.Texts.functions (arc_value (texts_of rules)) in
+    let given = given_kept rules_held (settings_of rules) texts (excluded_of (next_of rules)) in
+    let made = ignoring (settings_of rules) texts (excluding (excluded_of (next_of rules))) in
     let over : arc_value (file_system_of walk) ≡ arc_value (file_system_of c.args.walk) = ap arc_value set.file_system in
-    let from : arc_value (texts_of (callback_of walk).rules) ≡ arc_value (texts_of rules.rules) = ap (λ x. arc_value (texts_of x.rules)) set.callback in
+    let from : arc_value (texts_of (callback_of walk)) ≡ arc_value (texts_of rules) = ap (λ x. arc_value (texts_of x)) set.callback in
     IfOk-weaker c.print_begun.result _ _
     (λ clean whole. λ still fixed told state none is.
     let steady : IsSteady _ _ _ _ (file_system_of walk) (callback_of walk) given
     = record {
       file_system = subst g.S.FileSystem.IsFixed (sym over) fixed;
-      callback = ignores_kept _ (Unit {0}) rules_held nothing_beside (subst g.X.Texts.IsFixed (sym from) told) (ap g.X.Texts.functions from) (ap (λ x. settings_of x.rules) set.callback) (ap (λ x. excluded_of (next_of x.rules)) set.callback);
+      callback = ignores_kept _ (Unit {0}) rules_held nothing_beside (subst g.X.Texts.IsFixed (sym from) told) (ap g.X.Texts.functions from) (ap settings_of set.callback) (ap (λ x. excluded_of (next_of x)) set.callback);
       clones = λ x y h. ap (λ chain. both (chain_worth chain) blank) h;
       default = λ x h. refl;
     } in
@@ -42,5 +42,5 @@ returns-clause-whole g c =
 
 pub returns-clause-yielded : goal.returns-clause-yielded
 returns-clause-yielded g c =
-    let set = c.with_hidden_shown.ensures in
+    let set = c.with_ignore_files.ensures in
     IfOk-weaker c.print_begun.result _ _ (λ clean prints. λ known. printed_such (yielded_so _ (λ it is. subst (Sets _) (sym is) set)) (prints known)) c.print_begun.ensures.yielded

@@ -1,4 +1,4 @@
-use Rattle.std.proofs.Common.{subst, sym}
+use Rattle.std.proofs.Common.{subst}
 use Rattle.std.specs.Option.{ForSome}
 use Rattle.jwalk_ignore_rules.specs.Pattern.NamePattern.{globs_value, LastByteIs}
 use Rattle.jwalk_ignore_rules.proofs.pattern.Pattern.of_text.Goals as goal

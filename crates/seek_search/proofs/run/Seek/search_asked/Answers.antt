@@ -1,24 +1,29 @@
-use Rattle.std.proofs.Common.{◌≡◌, ◌∙◌, true, Some, Result, Ok, Err, ap, subst, sym}
+use Rattle.std.proofs.Common.{◌≡◌, ◌∙◌, Bool, true, false, Some, Result, Ok, Err, ap, refl, subst, sym}
 use Rattle.std.specs.Prelude.{if◌then◌else◌, IfOk}
 use Rattle.std.specs.List.{list_any}
 use Rattle.std.proofs.lemmas.Bool.{true≢false}
 use Rattle.std.proofs.lemmas.Result.{IfOk-weaker}
 use Rattle.seek_words.specs.Sought.{Sought}
 use Rattle.seek_found.specs.Limit.{is_hit}
-use Rattle.seek_found.proofs.RootsFacts.{one_printed_of, printed_such, such_printed_by}
+use Rattle.seek_found.proofs.RootsFacts.{found_if_full, printed_such, such_printed_by}
 use Rattle.seek_search.specs.KeptLinks.{functions_kept}
 use Rattle.seek_search.specs.Search.{form_before, front_if, positive, roots_asked, sought_before}
 use Rattle.seek_search.specs.declared.kept_links.KeptLinks.{KeptLinks}
 use Rattle.seek_found.proofs.FoundFacts.{asked_if}
 use Rattle.seek_search.proofs.RunFacts.{form_over, printed_over, quiet_asks_nothing, sought_over}
-use Rattle.seek_search.proofs.SearchFacts.{same_below, stops_somewhere}
+use Rattle.seek_search.proofs.SearchFacts.{same_below, stops_sooner}
 use Rattle.seek_found.specs.Sought.{takes_by}
 use Rattle.seek_search.proofs.run.Seek.search_asked.Goals as goal
 
--- what holds of a result follows from two facts of it
-both_ok : {T E : Type 0} (r : Result T E) (P Q R : T → Type 0) → ((x : T) → P x → Q x → R x) → IfOk r P → IfOk r Q → IfOk r R
-both_ok (Ok x) P Q R is p q = is x p q
-both_ok (Err y) P Q R is p q = tt
+-- what holds of a result follows from three facts of it
+from_three : {T E : Type 0} (r : Result T E) (P Q R S : T → Type 0) → ((x : T) → P x → Q x → R x → S x) → IfOk r P → IfOk r Q → IfOk r R → IfOk r S
+from_three (Ok x) P Q R S is p q r = is x p q r
+from_three (Err y) P Q R S is p q r = tt
+
+-- a limit that is reached unless there is room
+reached : (full : Bool) {X : Type 0} → (full ≡ false → X → ⊥) → X → full ≡ true
+reached true room stops = refl
+reached false room stops = absurd (room refl stops)
 
 pub returns-clause-whole : goal.returns-clause-whole
 returns-clause-whole g c =
@@ -63,16 +68,16 @@ returns-clause-found g c =
     let looked = sought_over (λ (d : KeptLinks _). functions_kept d.follow (g.S.FileSystem.functions d.disk)) c.in_ok-printer.printer.filter asked c.in_ok-shared.ensures made.filter.sought in
     let formed = form_over (λ (d : KeptLinks _). functions_kept d.follow (g.S.FileSystem.functions d.disk)) c.in_ok-printer.printer.lines c.args.self.screen asked c.in_ok-shared.ensures made.form in
     let stays = subst (λ (d : KeptLinks _). g.S.FileSystem.IsFixed d.disk) (sym c.in_ok-shared.ensures) in
-    both_ok c.print.result _ _ _
-    (λ ended prints filled. λ quiet full empties.
+    from_three c.print.result _ _ _ _
+    (λ ended prints filled room. λ quiet empties.
     let none = quiet_asks_nothing (functions_kept asked.follow (g.S.FileSystem.functions c.args.self.disk)) made.shown c.args.self.screen asked quiet in
     let yielded = prints made.empty (asked_if looked formed stays (empties, λ links. absurd (true≢false (sym links ∙ none)))) in
-    let one = made.limit ∙ ap (λ b. if b then Some 1 else positive asked.max_results) quiet in
+    let limited = made.limit ∙ ap (λ b. if b then Some 1 else positive asked.max_results) quiet in
     record {
       front = made.filter.front;
       in_front = made.filter.is_front.wanted_so;
       answers = yielded.answers;
-      yielded = stops_somewhere _ _ _ _ _ asked _ _ (roots_asked asked) yielded.answers (same_below _ _ _ asked _ (roots_asked asked) c.in_ok-shared.ensures c.in_ok-shared-2.ensures looked yielded.answers yielded.such);
-      found = subst (λ (s : Sought). list_any (is_hit s) yielded.answers ≡ true) looked (one_printed_of yielded one (filled full));
+      yielded = stops_sooner _ _ _ _ _ asked _ _ _ (reached ended.full room) (roots_asked asked) yielded.answers (same_below _ _ _ asked _ (roots_asked asked) c.in_ok-shared.ensures c.in_ok-shared-2.ensures looked yielded.answers yielded.such);
+      one = subst (λ (s : Sought). list_any (is_hit s) yielded.answers ≡ ended.full) looked (found_if_full yielded limited ended.full filled room);
     })
-    c.print.ensures.yielded c.print.ensures.full
+    c.print.ensures.yielded c.print.ensures.full c.print.ensures.room

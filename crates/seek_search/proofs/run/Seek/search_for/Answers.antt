@@ -1,6 +1,7 @@
-use Rattle.std.proofs.Common.{refl, sym, ◌∙◌}
+use Rattle.std.proofs.Common.{refl, subst, sym, ◌∙◌}
 use Rattle.std.proofs.lemmas.Bool.{true≢false}
-use Rattle.seek_search.proofs.RunFacts.{ok_twice, one_not_none}
+use Rattle.seek_search.specs.Goes.{Finds}
+use Rattle.seek_search.proofs.RunFacts.{by_read, ok_twice, one_not_none}
 use Rattle.seek_search.proofs.run.Seek.search_for.Goals as goal
 
 pub returns-then-asked-clause-done : goal.returns-then-asked-clause-done
@@ -12,7 +13,7 @@ returns-then-asked-clause-done g c = λ zero.
         colored = c.is_colored.ensures;
         times = λ both.
             let known = c.in-Ok.ensures both.0 in record { now = known.now; after = known.after; before = known.before; after_file = known.after_file };
-        quiet = λ quiet. (refl, λ empties. found.2 quiet found.1 empties);
+        quiet = λ quiet. (refl, λ empties. by_read (λ _ _. subst (Finds _ _ _ _ _ _ _ _) found.1) (found.2 quiet empties));
         yielded = λ loud. absurd (true≢false (sym c.if-asked.true ∙ loud));
         prints = λ both none. absurd (one_not_none refl (rw c.if-asked.true at none));
       },

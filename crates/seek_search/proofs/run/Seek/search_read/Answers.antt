@@ -12,7 +12,7 @@ returns-clause-yielded g c = λ clean.
     (c.new-texts.result, c.new-texts.ensures.texts, (_, all))
 
 pub returns-clause-found : goal.returns-clause-found
-returns-clause-found g c = λ quiet full empties. (c.new-texts.result, c.new-texts.ensures.texts, (_, c.in_ok-ended.ensures.found quiet full empties))
+returns-clause-found g c = λ quiet empties. (c.new-texts.result, c.new-texts.ensures.texts, (_, c.in_ok-ended.ensures.found quiet empties))
 
 pub returns-clause-whole : goal.returns-clause-whole
 returns-clause-whole g c = λ none clean fixed told.

@@ -59,9 +59,9 @@ returns-clause-yielded g c =
       below = is.root ∙ built.root ∙ c.in_ok-root.ensures.ok;
       by_crew = is_some self.crew;
       options = is.options ∙ ap (with_skip_hidden false) (built.options ∙ ap (with_crew (is_some self.crew)) c.options.ensures);
-      texts_read = ap (λ x. arc_value (texts_in x.rules)) is.callback ∙ ap arc_value (set.texts ∙ c.in_ok-rules_of.ensures.texts) ∙ c.in_ok-texts.ensures.cases;
-      settings = ap (λ x. settings_of x.rules) is.callback ∙ set.settings ∙ c.in_ok-rules_of.ensures.settings;
-      excluded = ap (λ x. excluded_of (next_of x.rules)) is.callback ∙ ap excluded_of set.next ∙ c.in_ok-excluding.ensures ∙ ap (λ l. excluded_by (flat_map lines_of (texts_of l)) c.args.root.now) c.as_slice.ensures.value;
+      texts_read = ap (λ x. arc_value (texts_in x)) is.callback ∙ ap arc_value (set.texts ∙ c.in_ok-rules_of.ensures.texts) ∙ c.in_ok-texts.ensures.cases;
+      settings = ap settings_of is.callback ∙ set.settings ∙ c.in_ok-rules_of.ensures.settings;
+      excluded = ap (λ x. excluded_of (next_of x)) is.callback ∙ ap excluded_of set.next ∙ c.in_ok-excluding.ensures ∙ ap (λ l. excluded_by (flat_map lines_of (texts_of l)) c.args.root.now) c.as_slice.ensures.value;
       begins = ap rules_held is.state ∙ built.state;
     })) (prints known))
     c.search_walk.ensures.yielded
