@@ -5,6 +5,7 @@
 pub mod gathered;
 pub mod halt;
 pub mod masked;
+pub mod masked_lines;
 pub mod options;
 pub mod paths;
 pub mod refusal;

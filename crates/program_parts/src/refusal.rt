@@ -2,9 +2,11 @@
 ghost use Rattle.std.specs.Prelude.{◌≡◌, ◌<◌, ◌≤◌};
 ghost use Rattle.program_parts.specs.Status.{status_of_kind};
 
+use crate::halt::Halt;
 use clap::Error;
 use clap::error::ErrorKind;
-use std::alloc::AllocError;
+use program_help::help_text;
+use std::alloc::{AllocError, Global};
 use std::fmt;
 use std::fmt::Display;
 use std::io::Write;
@@ -91,9 +93,27 @@ impl<'a> Display for RefusalBy<'a> {
     }
 }
 
-/// Prints a text that is asked for, which has the status 0, or reports why words are refused. Returns the status, or 1
-/// if the text can't be printed.
+/// Prints help or the version. If a width is known, lines of help have at most this width.
+fn print_text<R: Display, W: Write>(
+    alloc: Global,
+    columns: Option<usize>,
+    text: &R,
+    out: &mut W,
+) -> Result<(), Halt> {
+    let text = format!(in alloc; "{text}")?;
+    let text = help_text(alloc, columns, text.as_str())?;
+    if out.write_all(text.as_slice()).is_err() || out.flush().is_err() {
+        return Err(Halt::Output);
+    }
+    Ok(())
+}
+
+/// Prints the text that is asked for, which has the status 0, or reports why words are refused. Returns the status, or 1
+/// if memory runs out or the text can't be printed. If `columns` is known, it is the greatest width of lines of help.
 pub fn refuse<R: Display, W: Write, E: Write>(
+    alloc: Global,
+    columns: Option<usize>,
+    program: &str,
     refusal: &R,
     status: u8,
     out: &mut W,
@@ -107,5 +127,9 @@ pub fn refuse<R: Display, W: Write, E: Write>(
         let _ = write!(err, "{refusal}");
         return status;
     }
-    u8::from(write!(out, "{refusal}").is_err() || out.flush().is_err())
+    let Err(halt) = print_text(alloc, columns, refusal, out) else {
+        return 0;
+    };
+    halt.report(program, err);
+    1
 }

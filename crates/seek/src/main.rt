@@ -3,6 +3,7 @@
 
 use jwalk::file_system::{Patient, RealFs};
 use jwalk_ignore::real_texts::RealTexts;
+use program_parts::masked_lines::MaskedLines;
 use seek_search::run::Seek;
 use seek_words::screen::Screen;
 use std::io::{IsTerminal, Write};
@@ -29,7 +30,10 @@ fn call_of(rt: &HostRuntime) -> io::Result<(Vec<String>, Disk)> {
 }
 
 fn main(rt: HostRuntime) -> ExitCode {
-    let mut err = rt.stderr();
+    let mut err = MaskedLines {
+        err: rt.stderr(),
+        masks: rt.stderr().is_terminal(),
+    };
     let (no_color, ls_colors) = (variable(&rt, "NO_COLOR"), variable(&rt, "LS_COLORS"));
     let columns = variable(&rt, "COLUMNS");
     let screen = Screen {

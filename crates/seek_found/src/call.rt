@@ -4,7 +4,6 @@ ghost use Rattle.seek_words.specs.Refusal.{status_of as status_for};
 ghost use Rattle.seek_found.specs.Call.{succeeds, AskToSearch, EndsUnsearched};
 
 use crate::sought::Sought;
-use program_help::help_text;
 use program_parts::halt::Halt;
 use program_parts::refusal::{CommonRefusal, refuse};
 use seek_words::asked::Asked;
@@ -31,21 +30,6 @@ fn asks_to_start(refusal: &Refusal<'_>, words: &[String]) -> bool {
     }
 }
 
-/// Prints help or the version. If a width is known, lines of help have at most this width.
-fn print_text<W: Write>(
-    alloc: Global,
-    columns: Option<usize>,
-    refusal: &Refusal<'_>,
-    out: &mut W,
-) -> Result<(), Halt> {
-    let text = format!(in alloc; "{refusal}")?;
-    let text = help_text(alloc, columns, text.as_str())?;
-    if out.write_all(text.as_slice()).is_err() || out.flush().is_err() {
-        return Err(Halt::Output);
-    }
-    Ok(())
-}
-
 /// Prints help or the version, or reports why words are refused. For words that ask to start a program it says how that
 /// is done.
 fn refuse_words<W: Write, E: Write>(
@@ -61,17 +45,10 @@ fn refuse_words<W: Write, E: Write>(
     ensures untouched { result ≡ 2 → W.contents out.new ≡ W.contents out.old }
 {
     let status = refusal.status();
-    if status == 0 {
-        let Err(halt) = print_text(alloc, columns, refusal, out) else {
-            return 0;
-        };
-        halt.report("seek", err);
-        return 1;
+    if status > 0 && asks_to_start(refusal, words) {
+        return refuse(alloc, columns, "seek", &NOT_STARTED, status, out, err);
     }
-    if asks_to_start(refusal, words) {
-        return refuse(&NOT_STARTED, status, out, err);
-    }
-    refuse(refusal, status, out, err)
+    refuse(alloc, columns, "seek", refusal, status, out, err)
 }
 
 /// The end of a search.

@@ -94,11 +94,15 @@ quiet_rule = with_name (codes "has-results") (flag_rule (codes "quiet") 113)
 abbrev pub one_rule : Rule
 one_rule = record (new_rule (codes "one-result")) { short = Some 49; action = Some Count }
 
+-- when paths are in colors
+abbrev pub color_rule : Rule
+color_rule = record (valued_rule (codes "color")) { short = Some 99 }
+
 -- the part of the finds that is printed, and how
 abbrev pub print_rules : List Rule
 print_rules =
     number_rule (codes "max-results") ∷ one_rule ∷ quiet_rule ∷ flag_rule (codes "absolute-path") 97 ∷ flag_rule (codes "list-details") 108
-    ∷ valued_rule (codes "color") ∷ valued_rule (codes "path-separator") ∷ long_flag_rule (codes "strip-cwd-prefix") ∷ flag_rule (codes "print0") 48 ∷ []
+    ∷ color_rule ∷ valued_rule (codes "path-separator") ∷ long_flag_rule (codes "strip-cwd-prefix") ∷ flag_rule (codes "print0") 48 ∷ []
 
 -- the options that undo others
 abbrev pub undo_rules : List Rule

@@ -102,7 +102,7 @@ impl<'w> Asked<'w> {
     fn shows_metadata(&self) -> bool
         ensures { result ≡ shows_metadata self.now }
     {
-        self.details || self.colored
+        !self.quiet && (self.details || self.colored)
     }
 
     /// Returns whether the call asks for metadata of entries.

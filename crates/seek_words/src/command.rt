@@ -2,7 +2,7 @@
 ghost use Rattle.std.specs.Prelude.{◌≡◌, ◌∷◌, [], false, map, IfOk};
 ghost use Rattle.clap.specs.Words.{app_of, rule_of};
 ghost use Rattle.program_parts.specs.Rules.{root_rule, with_rules, HaveRules};
-ghost use Rattle.seek_words.specs.Command.{kind_rule, kind_names, and_rule, ignore_file_rule, search_rule, before_rule, quiet_rule, within_rule, max_depth_rule, one_rule, owner_rule, file_system_rule, with_name, pattern_rule, named_app, pattern_rules, case_rules, walk_rules, ignore_rules, reach_rules, time_rules, print_rules, undo_rules, HasRule, AreFilters, IsSeek};
+ghost use Rattle.seek_words.specs.Command.{color_rule, kind_rule, kind_names, and_rule, ignore_file_rule, search_rule, before_rule, quiet_rule, within_rule, max_depth_rule, one_rule, owner_rule, file_system_rule, with_name, pattern_rule, named_app, pattern_rules, case_rules, walk_rules, ignore_rules, reach_rules, time_rules, print_rules, undo_rules, HasRule, AreFilters, IsSeek};
 
 use clap::{Arg, ArgAction, Command};
 use program_parts::options::{
@@ -313,6 +313,19 @@ fn one_option<'a>(alloc: Global) -> Arg<'a>
         .help("The same as --max-results 1")
 }
 
+fn color_option<'a>(alloc: Global) -> Arg<'a>
+    ensures rule { rule_of result ≡ color_rule }
+    ensures local { result.global ≡ false }
+{
+    valued(
+        alloc,
+        "color",
+        "WHEN",
+        "When to print colors: auto, always or never",
+    )
+    .short('c')
+}
+
 fn print_options<'a>(alloc: Global) -> Result<Vec<Arg<'a>>, AllocError>
     ensures { IfOk result (λ options. HaveRules options.items print_rules) }
 {
@@ -328,12 +341,7 @@ fn print_options<'a>(alloc: Global) -> Result<Vec<Arg<'a>>, AllocError>
             'l',
             "Print mode, names, owner, group, size and time of an entry in front of its path",
         ),
-        valued(
-            alloc,
-            "color",
-            "WHEN",
-            "When to print colors: auto, always or never",
-        ),
+        color_option(alloc),
         valued(
             alloc,
             "path-separator",
