@@ -1,5 +1,5 @@
 -- Roots that are counted one after another.
-use Rattle.std.proofs.Common.{◌≡◌, ◌∙◌, ◌+◌, ◌<◌, ℕ, Bool, true, false, ◌&&◌, List, [], ◌∷◌, ◌++◌, append-nil, append_assoc, map, take, length, Option, inl, inr, refl, sym, ap, ap₂, subst}
+use Rattle.std.proofs.Common.{◌≡◌, ◌∙◌, ◌+◌, ◌<◌, ℕ, zero, suc, Bool, true, false, ◌&&◌, List, [], ◌∷◌, ◌++◌, append-nil, append_assoc, map, take, length, Option, inl, inr, refl, sym, ap, ap₂, arith, subst}
 use Rattle.std.specs.Prelude.{get_or}
 use Rattle.std.specs.Borrow.{Bor}
 use Rattle.std.specs.List.{list_all}
@@ -17,7 +17,7 @@ use Rattle.program_parts.specs.Values.{texts_of}
 use Rattle.tally_words.specs.declared.asked.Asked.{Asked}
 use Rattle.tally_run.specs.Counting.{is_clean}
 use Rattle.tally_run.specs.Results.{Row, Takes, row_of, rows_of}
-use Rattle.tally_run.specs.Roots.{CountsRoot, CountsRoots, IsLeftOut, LeavesOut, all_subtotals, files_behind}
+use Rattle.tally_run.specs.Roots.{CountsRoot, CountsRoots, IsLeftOut, KeepsFirst, LeavesOut, all_subtotals, files_behind}
 use Rattle.tally_run.specs.Shown.{shown_asked}
 use Rattle.tally_run.specs.Walks.{CountsBelow, subtotals_asked}
 use Rattle.tally_run.specs.declared.counting.Counted.{Counted}
@@ -27,16 +27,26 @@ use Rattle.tally_run.proofs.ResultFacts.{takes_none, takes_then}
 
 module _ {X : Type 0} where
   -- one more is left out
-  pub one_out : (xs left : List X) (x : X) → LeavesOut xs left → LeavesOut (xs ++ x ∷ []) left
+  one_out : (xs left : List X) (x : X) → LeavesOut xs left → LeavesOut (xs ++ x ∷ []) left
   one_out [] left x is = inr is
   one_out (y ∷ xs) left x (inl (rest, is, more)) = inl (rest, is, one_out xs rest x more)
   one_out (y ∷ xs) left x (inr more) = inr (one_out xs left x more)
 
   -- one more isn't
-  pub one_in : (xs left : List X) (x : X) → LeavesOut xs left → LeavesOut (xs ++ x ∷ []) (left ++ x ∷ [])
+  one_in : (xs left : List X) (x : X) → LeavesOut xs left → LeavesOut (xs ++ x ∷ []) (left ++ x ∷ [])
   one_in [] left x is = inl ([], ap (λ (l : List X). l ++ x ∷ []) is, refl)
   one_in (y ∷ xs) left x (inl (rest, is, more)) = inl (rest ++ x ∷ [], ap (λ (l : List X). l ++ x ∷ []) is, one_in xs rest x more)
   one_in (y ∷ xs) left x (inr more) = inr (one_in xs left x more)
+
+  -- one more behind the first is left out
+  later_out : (xs left : List X) (x : X) → 0 < length xs → KeepsFirst xs left → KeepsFirst (xs ++ x ∷ []) left
+  later_out [] left x some is = absurd (omega (arith, some))
+  later_out (y ∷ xs) left x some (rest, is, more) = (rest, is, one_out xs rest x more)
+
+  -- one more isn't
+  later_in : (xs left : List X) (x : X) → KeepsFirst xs left → KeepsFirst (xs ++ x ∷ []) (left ++ x ∷ [])
+  later_in [] left x is = ([], ap (λ (l : List X). l ++ x ∷ []) is, refl)
+  later_in (y ∷ xs) left x (rest, is, more) = (rest ++ x ∷ [], ap (λ (l : List X). l ++ x ∷ []) is, one_in xs rest x more)
 
 -- two lists are as long with one more
 one_longer : {X Y : Type 0} (xs : List X) (ys : List Y) (x : X) (y : Y) → length xs ≡ length ys → length (xs ++ x ∷ []) ≡ length (ys ++ y ∷ [])
@@ -45,6 +55,12 @@ one_longer xs ys x y same = length-append xs (x ∷ []) ∙ ap (λ (n : ℕ). n 
 -- one root more
 roots_more : (roots : List (Bor (List ℕ))) (i : ℕ) (d : Bor (List ℕ)) → i < length roots → texts_of (take (i + 1) roots) ≡ texts_of (take i roots) ++ (get_or roots i d).now ∷ []
 roots_more roots i d below = ap texts_of (take_more roots i d below) ∙ map-append (λ it. it.now) (take i roots) (get_or roots i d ∷ [])
+
+-- some of the roots
+some_roots : (roots : List (Bor (List ℕ))) (i : ℕ) → i < length roots → 0 < i → 0 < length (texts_of (take i roots))
+some_roots [] i below some = absurd (omega (arith, below))
+some_roots (root ∷ roots) zero below some = absurd (omega (arith, some))
+some_roots (root ∷ roots) (suc i) below some = omega arith
 
 module _ {R E : Type 0} (o : SubtotalOptions) where
   -- one list of answers more
@@ -74,7 +90,7 @@ module _ (fixed : Type 0) (below : List ℕ → List (Item Worth Worth)) (asked 
   -- The roots so far are counted, with these files.
   pub record RootsSoFar (roots : List (List ℕ)) (files : List Identity) (new : Results) (after : Option (List ℕ)) (clean : Bool) : Type 0 where
     pub counted : List (List ℕ)
-    pub among : LeavesOut roots counted
+    pub among : KeepsFirst roots counted
     pub answered : List (List (Item Worth Worth))
     pub each : length answered ≡ length counted
     pub whole : fixed → clean ≡ true → answered ≡ map below counted
@@ -97,11 +113,11 @@ module _ (fixed : Type 0) (below : List ℕ → List (Item Worth Worth)) (asked 
 
   module _ (roots : List (Bor (List ℕ))) (i : ℕ) (d : Bor (List ℕ)) (is_one : i < length roots) (files : List Identity) (mid : Results) (during : Option (List ℕ)) (clean : Bool) (so_far : RootsSoFar (texts_of (take i roots)) files mid during clean) where
     -- a root that is left out
-    root_out : (new : Results) (after : Option (List ℕ)) (counted : Counted) → IsLeftOut files mid during new after counted
+    root_out : 0 < i → (new : Results) (after : Option (List ℕ)) (counted : Counted) → IsLeftOut files mid during new after counted
         → RootsSoFar (texts_of (take (i + 1) roots)) (files_of counted.files) new after (clean && counted.clean)
-    root_out new after counted out = record {
+    root_out some new after counted out = record {
       counted = so_far.counted;
-      among = subst (λ (l : List (List ℕ)). LeavesOut l so_far.counted) (sym (roots_more roots i d is_one)) (one_out (texts_of (take i roots)) so_far.counted (get_or roots i d).now so_far.among);
+      among = subst (λ (l : List (List ℕ)). KeepsFirst l so_far.counted) (sym (roots_more roots i d is_one)) (later_out (texts_of (take i roots)) so_far.counted (get_or roots i d).now (some_roots roots i is_one some) so_far.among);
       answered = so_far.answered;
       each = so_far.each;
       whole = λ always is. so_far.whole always (both_first clean counted.clean is);
@@ -123,7 +139,7 @@ module _ (fixed : Type 0) (below : List ℕ → List (Item Worth Worth)) (asked 
         let known = files_behind o [] ls in
         record {
           counted = so_far.counted ++ root ∷ [];
-          among = subst (λ (r : List (List ℕ)). LeavesOut r (so_far.counted ++ root ∷ [])) (sym (roots_more roots i d is_one)) (one_in (texts_of (take i roots)) so_far.counted root so_far.among);
+          among = subst (λ (r : List (List ℕ)). KeepsFirst r (so_far.counted ++ root ∷ [])) (sym (roots_more roots i d is_one)) (later_in (texts_of (take i roots)) so_far.counted root so_far.among);
           answered = ls ++ l ∷ [];
           each = one_longer ls so_far.counted l root so_far.each;
           whole = λ always is.
@@ -139,11 +155,17 @@ module _ (fixed : Type 0) (below : List ℕ → List (Item Worth Worth)) (asked 
           remembered = λ j. counts.takes.remembered j ∙ after_same o files known so_far.remembered l j ∙ ap (λ (fs : List Identity). is_among fs j) (sym (files_more o [] ls l));
         }
 
-    -- one root more
-    pub one_root : (new : Results) (after : Option (List ℕ)) (counted : Counted) → CountsRoot fixed (below (get_or roots i d).now) asked files mid during new after counted
+    -- a root that is left out unless it is the first
+    later_root : (n : ℕ) → i ≡ n → (new : Results) (after : Option (List ℕ)) (counted : Counted) → (i ≡ 0 → CountsBelow fixed (below (get_or roots i d).now) asked files mid during new after counted) → IsLeftOut files mid during new after counted
         → RootsSoFar (texts_of (take (i + 1) roots)) (files_of counted.files) new after (clean && counted.clean)
-    one_root new after counted (inl out) = root_out new after counted out
-    one_root new after counted (inr counts) = root_in new after counted counts
+    later_root zero is new after counted first out = root_in new after counted (first is)
+    later_root (suc n) is new after counted first out = root_out (omega (arith, is)) new after counted out
+
+    -- one root more
+    pub one_root : (new : Results) (after : Option (List ℕ)) (counted : Counted) → (i ≡ 0 → CountsBelow fixed (below (get_or roots i d).now) asked files mid during new after counted) → CountsRoot fixed (below (get_or roots i d).now) asked files mid during new after counted
+        → RootsSoFar (texts_of (take (i + 1) roots)) (files_of counted.files) new after (clean && counted.clean)
+    one_root new after counted first (inl out) = later_root i refl new after counted first out
+    one_root new after counted first (inr counts) = root_in new after counted counts
 
   -- all roots
   pub all_roots : (roots : List (List ℕ)) (files : List Identity) (new : Results) (after : Option (List ℕ)) (clean : Bool) → RootsSoFar roots files new after clean → CountsRoots fixed below asked roots old before new after clean
@@ -162,7 +184,7 @@ pub roots_as : {fixed : Type 0} {below : List ℕ → List (Item Worth Worth)} {
     → roots ≡ roots' → CountsRoots fixed below asked roots old before new after clean → CountsRoots fixed below asked roots' old before new after clean
 roots_as is counts = record {
   counted = counts.counted;
-  among = subst (λ (l : List (List ℕ)). LeavesOut l counts.counted) is counts.among;
+  among = subst (λ (l : List (List ℕ)). KeepsFirst l counts.counted) is counts.among;
   answered = counts.answered;
   each = counts.each;
   whole = counts.whole;

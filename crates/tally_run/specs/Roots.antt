@@ -32,6 +32,11 @@ abbrev pub LeavesOut : {X : Type 0} → List X → List X → Type 0
 LeavesOut [] left = left ≡ []
 LeavesOut {X} (x ∷ xs) left = ((rest : List X) × (left ≡ x ∷ rest) × LeavesOut xs rest) ⊎ LeavesOut xs left
 
+-- The second list is the first, but for some behind its first element that are left out.
+abbrev pub KeepsFirst : {X : Type 0} → List X → List X → Type 0
+KeepsFirst [] left = left ≡ []
+KeepsFirst {X} (x ∷ xs) left = (rest : List X) × (left ≡ x ∷ rest) × LeavesOut xs rest
+
 -- A root is left out, and nothing is taken.
 pub record IsLeftOut (known : List Identity) (old : Results) (before : Option (List ℕ)) (new : Results) (after : Option (List ℕ)) (counted : Counted) : Type 0 where
   pub untaken : new ≡ old
@@ -44,10 +49,10 @@ abbrev pub CountsRoot : Type 0 → List (Item Worth Worth) → Asked → List Id
 CountsRoot fixed below asked known old before new after counted =
     IsLeftOut known old before new after counted ⊎ CountsBelow fixed below asked known old before new after counted
 
--- The roots are counted, but for those that are left out. What is written of the subtotals of answers, a list for each root that is counted, is taken, of all in one. It is known whether one has an error. If none has, and what is gone over always answers the same, the lists are the whole walks below the roots.
+-- The roots are counted, but for those behind the first that are left out. What is written of the subtotals of answers, a list for each root that is counted, is taken, of all in one. It is known whether one has an error. If none has, and what is gone over always answers the same, the lists are the whole walks below the roots.
 pub record CountsRoots (fixed : Type 0) (below : List ℕ → List (Item Worth Worth)) (asked : Asked) (roots : List (List ℕ)) (old : Results) (before : Option (List ℕ)) (new : Results) (after : Option (List ℕ)) (clean : Bool) : Type 0 where
   pub counted : List (List ℕ)
-  pub among : LeavesOut roots counted
+  pub among : KeepsFirst roots counted
   pub answered : List (List (Item Worth Worth))
   pub each : length answered ≡ length counted
   pub whole : fixed → clean ≡ true → answered ≡ map below counted

@@ -14,7 +14,7 @@ use Rattle.tally_words.specs.Refusal.{IsRefusedFor}
 use Rattle.tally_words.specs.declared.asked.Asked.{Asked}
 use Rattle.tally_run.specs.Counting.{is_clean}
 use Rattle.tally_run.specs.Results.{rows_of}
-use Rattle.tally_run.specs.Roots.{LeavesOut, all_subtotals}
+use Rattle.tally_run.specs.Roots.{KeepsFirst, all_subtotals}
 use Rattle.tally_run.specs.Shown.{shown_asked}
 use Rattle.tally_run.specs.Walks.{counted_below, subtotals_asked}
 use Rattle.tally_run.specs.Written.{Writes}
@@ -35,10 +35,10 @@ Ends words status = ((asked : Asked) × AskFor words asked × (status ≤ 1)) �
 abbrev pub roots_asked : Asked → List (List ℕ)
 roots_asked asked = if length asked.roots.items == 0 then dot ∷ [] else texts_of asked.roots.items
 
--- What is asked for is written of the roots that are counted: the subtotals of answers, a list for each of these roots, where each file counts once in all. None has an error. If what is gone over always answers the same, the lists are the whole walks below the roots.
+-- What is asked for is written of the roots that are counted, the first and all that aren't left out: the subtotals of answers, a list for each of these roots, where each file counts once in all. None has an error. If what is gone over always answers the same, the lists are the whole walks below the roots.
 pub record WritesAsked (fixed : Type 0) (fs : Functions) (texts : Texts) (screen : Screen) (asked : Asked) (before after : Option (List ℕ)) : Type 0 where
   pub counted : List (List ℕ)
-  pub among : LeavesOut (roots_asked asked) counted
+  pub among : KeepsFirst (roots_asked asked) counted
   pub answered : List (List (Item Worth Worth))
   pub each : length answered ≡ length counted
   pub whole : fixed → answered ≡ map (counted_below fs texts asked) counted

@@ -1,10 +1,24 @@
 //! Which roots are counted.
+ghost use Rattle.std.specs.Prelude.{◌≡◌, ◌≢◌, false, length, IfOk};
+ghost use Rattle.tally_run.specs.declared.roots.RootKind.TheVariants.{LeftOut};
+
 use jwalk::file_system::{Fault, FileSystem, Identity};
 use jwalk::path_text::{join, parent};
 use std::alloc::{AllocError, Global};
 
 /// How many folders are looked at above a root. A path has at most 4,096 bytes, so no path of `..` leads further up.
 const ABOVE: usize = 2048;
+
+/// What is found at a root.
+#[derive(Clone, Copy, Debug, PartialEq, Eq)]
+pub(crate) enum RootKind {
+    /// The same directory as an earlier root, or something below one. It is left out.
+    LeftOut,
+    /// A directory.
+    Directory,
+    /// Anything else, or nothing that can be asked.
+    Other,
+}
 
 /// The directories that were counted as roots.
 #[derive(Drop)]
@@ -23,6 +37,15 @@ fn directory_at<S: FileSystem>(disk: &S, path: &str) -> Result<Option<Identity>,
     }
 }
 
+/// Returns whether there is anything at a path, be it a link that leads nowhere.
+fn is_there<S: FileSystem>(disk: &S, path: &str) -> Result<bool, AllocError> {
+    match disk.symlink_metadata(path) {
+        Ok(_) => Ok(true),
+        Err(Fault::Io(_)) => Ok(false),
+        Err(Fault::Memory) => Err(AllocError),
+    }
+}
+
 /// Returns the folder that a path without a directory at it lies in.
 fn folder_of(path: &str) -> &str {
     match parent(path) {
@@ -32,7 +55,9 @@ fn folder_of(path: &str) -> &str {
 }
 
 impl Roots {
-    pub(crate) fn new(alloc: Global, one_file_system: bool) -> Self {
+    pub(crate) fn new(alloc: Global, one_file_system: bool) -> Self
+        ensures { length result.counted.items ≡ 0 }
+    {
         Roots {
             counted: Vec::new(alloc),
             one_file_system,
@@ -67,8 +92,44 @@ impl Roots {
         Ok(false)
     }
 
-    /// Adds a root. Returns whether it is to be counted: it is not the same directory as an earlier root, and doesn't
-    /// lie below one. Where it isn't known which directory it is, it is counted.
+    /// Returns whether something that is no directory lies in a directory that is among the roots, or below one.
+    fn has_folder_of<S: FileSystem>(
+        &self,
+        alloc: Global,
+        disk: &S,
+        path: &str,
+    ) -> Result<bool, AllocError> {
+        if !is_there(disk, path)? {
+            return Ok(false);
+        }
+        let folder = folder_of(path);
+        match directory_at(disk, folder)? {
+            Some(at) => self.has_above(alloc, disk, folder, at),
+            None => Ok(false),
+        }
+    }
+
+    /// Returns whether a root is the same directory as an earlier root, or lies below one. `own` is the directory that it
+    /// is. If it isn't known which that is, it isn't.
+    fn is_below<S: FileSystem>(
+        &self,
+        alloc: Global,
+        disk: &S,
+        root: &str,
+        own: Option<Identity>,
+    ) -> Result<bool, AllocError>
+        ensures first { length self.now.counted.items ≡ 0 → IfOk result (λ below. below ≡ false) }
+    {
+        if self.counted.is_empty() {
+            return Ok(false);
+        }
+        match own {
+            Some(own) => self.has_above(alloc, disk, root, own),
+            None => self.has_folder_of(alloc, disk, root),
+        }
+    }
+
+    /// Adds a root, and returns what it is. The first is never left out, nor is one where nothing is found.
     ///
     /// # Errors
     ///
@@ -78,21 +139,19 @@ impl Roots {
         alloc: Global,
         disk: &S,
         root: &str,
-    ) -> Result<bool, AllocError> {
+    ) -> Result<RootKind, AllocError>
+        ensures first { length self.old.counted.items ≡ 0 → IfOk result (λ kind. kind ≢ LeftOut) }
+    {
         let own = directory_at(disk, root)?;
-        let folder = if own.is_some() { root } else { folder_of(root) };
-        let at = match own {
-            Some(own) => Some(own),
-            None => directory_at(disk, folder)?,
-        };
-        if let Some(at) = at {
-            if self.has_above(alloc, disk, folder, at)? {
-                return Ok(false);
+        if self.is_below(alloc, disk, root, own)? {
+            return Ok(RootKind::LeftOut);
+        }
+        match own {
+            Some(own) => {
+                self.counted.push(own)?;
+                Ok(RootKind::Directory)
             }
+            None => Ok(RootKind::Other),
         }
-        if let Some(own) = own {
-            self.counted.push(own)?;
-        }
-        Ok(true)
     }
 }

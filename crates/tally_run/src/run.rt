@@ -201,6 +201,7 @@ fn tally<
 fn status_of<E: Write>(ended: Result<bool, Failure>, err: &mut E) -> u8
     ensures status { result ≤ 1 }
     ensures clean { result ≡ 0 → ended ≡ Ok true }
+    ensures told { ended ≡ Ok true → result ≡ 0 }
 {
     match ended {
         Ok(clean) => u8::from(!clean),
@@ -251,7 +252,8 @@ pub fn run<
                 program: "tally",
                 refusal: &refusal,
             };
-            refuse(&named, refusal.status(), out, err)
+            let status = refusal.status();
+            refuse(alloc, Some(screen.width), "tally", &named, status, out, err)
         }
     }
 }

@@ -1,5 +1,5 @@
 //! The walks below roots.
-ghost use Rattle.std.specs.Prelude.{◌≡◌, IfOk};
+ghost use Rattle.std.specs.Prelude.{◌≡◌, length, IfOk};
 ghost use Rattle.std.specs.Arc.{arc_value};
 ghost use Rattle.jwalk.specs.jwalk_job.Options.{options_value};
 ghost use Rattle.jwalk.specs.WalkDir.{file_system_of, options_of, root_of, state_of};
@@ -19,14 +19,14 @@ use crate::failure::Failure;
 use crate::progress::Report;
 use crate::report::report_root;
 use crate::results::Results;
-use crate::roots::Roots;
+use crate::roots::{RootKind, Roots};
 use crate::screen::Screen;
 use jwalk::file_system::FileSystem;
 use jwalk::{Crew, Host, Options};
-use jwalk_ignore::builder::with_hidden_shown;
+use jwalk_ignore::builder::with_ignore_files;
 use jwalk_ignore::excluding::Excluding;
 use jwalk_ignore::ignore_files::IgnoreFiles;
-use jwalk_ignore::kept_rules::{KeptRules, KeptStates};
+use jwalk_ignore::states::OnlyRules;
 use jwalk_ignore::texts::Texts;
 use jwalk_subtotals::Files;
 use program_walks::crew::{Plain, crew_of, walk_below};
@@ -59,8 +59,16 @@ fn count_ruled<
         (settings_of rules) (excluded_of (next_of rules)) (options_of walk) (root_of walk))
         asked.now (files_of files) results.old (W.contents out.old) results.new (W.contents out.new)) }
 {
-    let walk = with_hidden_shown(walk, KeptRules { rules });
-    count_walk(alloc, screen, walk, files, asked, results, out, err)
+    count_walk(
+        alloc,
+        screen,
+        with_ignore_files(walk, rules),
+        files,
+        asked,
+        results,
+        out,
+        err,
+    )
 }
 
 /// What is asked for, what errors are written to, what walks go over, and how they are read.
@@ -121,6 +129,7 @@ impl<
     fn count_all<W: Write, E: Report>(
         &self,
         alloc: Global,
+        crew: &Option<Arc<Crew<T>>>,
         files: Files<Global>,
         root: &str,
         results: &mut Results,
@@ -135,7 +144,7 @@ impl<
         let excluding = Excluding::new(alloc, self.asked.excludes.as_slice(), root)?;
         let root = String::from_str(alloc, root)?;
         let disk = self.disk.clone()?;
-        let walk = walk_below::<((), ()), _, _, _>(disk, root, self.options(), &self.crew)?;
+        let walk = walk_below::<((), ()), _, _, _>(disk, root, self.options(), crew)?;
         let walk = walk.process_read_dir(excluding);
         count_walk(
             alloc,
@@ -152,6 +161,7 @@ impl<
     fn count_kept<W: Write, E: Report>(
         &self,
         alloc: Global,
+        crew: &Option<Arc<Crew<T>>>,
         files: Files<Global>,
         root: &str,
         results: &mut Results,
@@ -169,7 +179,7 @@ impl<
             .then(excluding);
         let root = String::from_str(alloc, root)?;
         let disk = self.disk.clone()?;
-        let walk = walk_below::<KeptStates, _, _, _>(disk, root, self.options(), &self.crew)?;
+        let walk = walk_below::<OnlyRules, _, _, _>(disk, root, self.options(), crew)?;
         count_ruled(
             alloc,
             self.screen,
@@ -186,6 +196,7 @@ impl<
     fn count_below<W: Write, E: Report>(
         &self,
         alloc: Global,
+        crew: &Option<Arc<Crew<T>>>,
         files: Files<Global>,
         root: &str,
         results: &mut Results,
@@ -198,12 +209,13 @@ impl<
             results.old (W.contents out.old) results.new (W.contents out.new)) }
     {
         if self.asked.ignore {
-            return self.count_kept(alloc, files, root, results, out, err);
+            return self.count_kept(alloc, crew, files, root, results, out, err);
         }
-        self.count_all(alloc, files, root, results, out, err)
+        self.count_all(alloc, crew, files, root, results, out, err)
     }
 
-    /// A root that lies below one of those that are known is left out, and that is reported.
+    /// A root that lies below one of those that are known is left out, and that is reported. A root that is no directory
+    /// needs no crew.
     fn count_root<W: Write, E: Report>(
         &self,
         alloc: Global,
@@ -214,16 +226,25 @@ impl<
         out: &mut W,
         err: &mut E,
     ) -> Result<Counted, Failure>
-        ensures { IfOk result (CountsRoot (S.IsFixed (arc_value self.now.disk) × X.IsFixed (arc_value self.now.texts))
+        ensures counts { IfOk result (CountsRoot (S.IsFixed (arc_value self.now.disk) × X.IsFixed (arc_value self.now.texts))
+            (counted_below (S.functions (arc_value self.now.disk)) (X.functions (arc_value self.now.texts))
+            self.now.asked.now root.now) self.now.asked.now (files_of files)
+            results.old (W.contents out.old) results.new (W.contents out.new)) }
+        ensures first { length known.old.counted.items ≡ 0 → IfOk result (CountsBelow (S.IsFixed (arc_value self.now.disk) × X.IsFixed (arc_value self.now.texts))
             (counted_below (S.functions (arc_value self.now.disk)) (X.functions (arc_value self.now.texts))
             self.now.asked.now root.now) self.now.asked.now (files_of files)
             results.old (W.contents out.old) results.new (W.contents out.new)) }
     {
-        if !known.add(alloc, &self.disk, root)? {
-            report_root(alloc, self.screen.shows_errors, root, err)?;
-            return Ok(Counted { files, clean: true });
-        }
-        self.count_below(alloc, files, root, results, out, err)
+        let no_crew = None;
+        let crew = match known.add(alloc, &self.disk, root)? {
+            RootKind::LeftOut => {
+                report_root(alloc, self.screen.shows_errors, root, err)?;
+                return Ok(Counted { files, clean: true });
+            }
+            RootKind::Directory => &self.crew,
+            RootKind::Other => &no_crew,
+        };
+        self.count_below(alloc, crew, files, root, results, out, err)
     }
 
     /// Returns whether there was no error.

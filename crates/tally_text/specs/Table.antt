@@ -17,10 +17,14 @@ abbrev pub own_row : Layout → Node → List ℕ
 own_row layout node =
     row_text layout ((out-Node node).depth - 1) (out-Node node).numbers.bytes (string_bytes (out-Node node).name)
 
--- the row of the entries of a directory beyond its largest ones, if there are any
+-- what is said of the entries of a directory beyond its largest ones
+abbrev pub rest_name : Rest → List ℕ
+rest_name rest = codes "(" ++ decimal rest.count ++ codes " more)"
+
+-- the row of these entries, if there are any
 abbrev pub rest_row : Layout → ℕ → Rest → List ℕ
 rest_row layout levels rest =
-    if rest.count == 0 then [] else row_text layout levels rest.bytes (codes "(" ++ decimal rest.count ++ codes " more)")
+    if rest.count == 0 then [] else row_text layout levels rest.bytes (rest_name rest)
 
 -- one node: its row, and the rows of its children, each with those below it
 abbrev pub rows_step : Layout → Node-F (List ℕ) → List ℕ
@@ -42,18 +46,22 @@ most_of [] = 0
 most_of (n ∷ ns) = max n (most_of ns)
 
 -- the columns of a name with the spaces before it: two for each level, and one for each character, as far as 64 bits go
-abbrev pub columns_at : ℕ → List ℕ → ℕ
-columns_at depth name = min (length (chars name) + min ((depth - 1) * 2) (2 ^ 64 - 1)) (2 ^ 64 - 1)
+abbrev pub columns_in : ℕ → List ℕ → ℕ
+columns_in levels name = min (length (chars name) + min (levels * 2) (2 ^ 64 - 1)) (2 ^ 64 - 1)
 
 -- the columns of the name of a node
 abbrev pub columns_of : Node → ℕ
-columns_of node = columns_at (out-Node node).depth (string_bytes (out-Node node).name)
+columns_of node = columns_in ((out-Node node).depth - 1) (string_bytes (out-Node node).name)
 
--- one node: the most columns of its name and of those below it
+-- the columns of what is said of the entries beyond the largest ones, if there are any
+abbrev pub rest_columns : ℕ → Rest → ℕ
+rest_columns levels rest = if rest.count == 0 then 0 else columns_in levels (rest_name rest)
+
+-- one node: the most columns of its rows and of those below it
 abbrev pub longest_step : Node-F ℕ → ℕ
-longest_step n = max (columns_at n.depth (string_bytes n.name)) (most_of n.children.items)
+longest_step n = max (max (columns_in (n.depth - 1) (string_bytes n.name)) (rest_columns n.depth n.rest)) (most_of n.children.items)
 
--- the most columns of a name in a tree
+-- the most columns of a row in a tree
 abbrev pub longest_of : Node → ℕ
 longest_of = fold-Node ℕ longest_step
 

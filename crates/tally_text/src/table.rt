@@ -1,13 +1,21 @@
 //! Tables: the rows of a tree, and its total.
-ghost use Rattle.std.specs.Prelude.{◌≡◌, ◌++◌, length, IfOk, OnOk};
+ghost use Rattle.std.specs.Prelude.{◌≡◌, ◌++◌, length, string_bytes, IfOk, OnOk};
 ghost use Rattle.std.specs.Str.{chars};
-ghost use Rattle.tally_text.specs.Table.{own_row, rest_row, below_text, columns_of, longest_of, column_for, bar_for, layout_for, table_text};
+ghost use Rattle.tally_text.specs.declared.node.Node.TheViews.{out-Node};
+ghost use Rattle.tally_text.specs.Table.{own_row, rest_name, rest_row, below_text, columns_in, columns_of, rest_columns, longest_of, column_for, bar_for, layout_for, table_text};
 
 use crate::layout::Layout;
 use crate::node::Node;
 use crate::rest::Rest;
 use crate::scale::Scale;
 use std::alloc::{AllocError, Global};
+
+/// Returns what a row says of the entries of a directory beyond its largest ones.
+fn rest_name(alloc: Global, rest: Rest) -> Result<String, AllocError>
+    ensures { IfOk result (λ name. string_bytes name ≡ rest_name rest) }
+{
+    format!(in alloc; "({} more)", rest.count)
+}
 
 fn push_rest(
     layout: &Layout,
@@ -20,7 +28,7 @@ fn push_rest(
     if rest.count == 0 {
         return Ok(());
     }
-    let name = format!(in *out.allocator(); "({} more)", rest.count)?;
+    let name = rest_name(*out.allocator(), rest)?;
     layout.push_row(levels, rest.bytes, name.as_str(), out)
 }
 
@@ -28,6 +36,13 @@ fn characters(text: &str) -> usize
     ensures { result ≡ length (chars text.now) }
 {
     text.chars().count()
+}
+
+/// Counts the spaces before a name, too.
+fn columns_in(levels: usize, name: &str) -> usize
+    ensures { result ≡ columns_in levels name.now }
+{
+    characters(name).saturating_add(levels.saturating_mul(2))
 }
 
 impl Node {
@@ -49,24 +64,32 @@ impl Node {
         push_rest(layout, self.depth, self.rest, out)
     }
 
-    /// Counts the spaces before the name, too.
     fn columns(&self) -> usize
         ensures { result ≡ columns_of self.now }
     {
-        let levels = self.depth.saturating_sub(1);
-        characters(self.name.as_str()).saturating_add(levels.saturating_mul(2))
+        columns_in(self.depth.saturating_sub(1), self.name.as_str())
     }
 
-    /// Looks at the names of the node and of everything below it.
-    #[tactic(auto, using(crate::proofs::TableFacts::longest_out))]
-    fn longest(&self) -> usize
-        ensures { result ≡ longest_of self.now }
+    fn rest_columns(&self, alloc: Global) -> Result<usize, AllocError>
+        ensures { IfOk result (λ columns. columns ≡ rest_columns (out-Node self.now).depth (out-Node self.now).rest) }
     {
-        let mut longest = self.columns();
-        for child in &self.children {
-            longest = longest.max(child.longest());
+        if self.rest.count == 0 {
+            return Ok(0);
         }
-        longest
+        let name = rest_name(alloc, self.rest)?;
+        Ok(columns_in(self.depth, name.as_str()))
+    }
+
+    /// Looks at the rows of the node and of everything below it.
+    #[tactic(auto, using(crate::proofs::TableFacts::longest_out))]
+    fn longest(&self, alloc: Global) -> Result<usize, AllocError>
+        ensures { IfOk result (λ longest. longest ≡ longest_of self.now) }
+    {
+        let mut longest = self.columns().max(self.rest_columns(alloc)?);
+        for child in &self.children {
+            longest = longest.max(child.longest(alloc)?);
+        }
+        Ok(longest)
     }
 }
 
@@ -86,7 +109,7 @@ fn layout_for(
     let column = size.len().max(8);
     let bar = match width {
         Some(width) => width
-            .saturating_sub(root.longest())
+            .saturating_sub(root.longest(alloc)?)
             .saturating_sub(column)
             .saturating_sub(4),
         None => 0,

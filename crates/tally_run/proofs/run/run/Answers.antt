@@ -14,9 +14,9 @@ pub returns-in-Err-clause-ends : goal.returns-in-Err-clause-ends
 returns-in-Err-clause-ends g c = inr (record {
   refusal = _;
   is_for = c.in-Err.ensures.refused;
-  refused = rw c.status.ensures at c.refuse.ensures.refused;
-  text = rw c.status.ensures at c.refuse.ensures.text;
+  refused = rw c.status-status.ensures at c.refuse.ensures.refused;
+  text = rw c.status-status.ensures at c.refuse.ensures.text;
 })
 
 pub returns-in-Err-clause-done : goal.returns-in-Err-clause-done
-returns-in-Err-clause-done g c = λ none. inl (text_asked tally_app has_conflict (map string_bytes c.args.words.now) _ _ c.in-Err.ensures.refused (rw c.status.ensures at c.refuse.ensures.refused) none)
+returns-in-Err-clause-done g c = λ none. inl (text_asked tally_app has_conflict (map string_bytes c.args.words.now) _ _ c.in-Err.ensures.refused (rw c.status-status.ensures at c.refuse.ensures.refused) none)

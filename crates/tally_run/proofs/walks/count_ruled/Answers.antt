@@ -15,19 +15,19 @@ use Rattle.tally_run.proofs.walks.count_ruled.Goals as goal
 pub returns : goal.returns
 returns g c =
     let rules = c.args.rules in
-    let set = c.with_hidden_shown-walk.ensures in
-    let walk = c.with_hidden_shown-walk.result in
+    let set = c.with_ignore_files.ensures in
+    let walk = c.with_ignore_files.result in
     let texts = g.X.Texts.functions (arc_value (texts_of rules)) in
     let given = given_kept rules_held (settings_of rules) texts (excluded_of (next_of rules)) in
     let made = ignoring (settings_of rules) texts (excluding (excluded_of (next_of rules))) in
     let over : arc_value (file_system_of walk) ≡ arc_value (file_system_of c.args.walk) = ap arc_value set.file_system in
-    let from : arc_value (texts_of (callback_of walk).rules) ≡ arc_value (texts_of rules) = ap (λ x. arc_value (texts_of x.rules)) set.callback in
+    let from : arc_value (texts_of (callback_of walk)) ≡ arc_value (texts_of rules) = ap (λ x. arc_value (texts_of x)) set.callback in
     IfOk-weaker c.count_walk.result _ _
     (λ counted counts.
     below_counted _ _ _ _ _ walk given _ _ _ _ _ _ _ _ counted
     (λ always. record {
       file_system = subst g.S.FileSystem.IsFixed (sym over) always.0;
-      callback = ignores_kept _ (Unit {0}) rules_held nothing_beside (subst g.X.Texts.IsFixed (sym from) always.1) (ap g.X.Texts.functions from) (ap (λ x. settings_of x.rules) set.callback) (ap (λ x. excluded_of (next_of x.rules)) set.callback);
+      callback = ignores_kept _ (Unit {0}) rules_held nothing_beside (subst g.X.Texts.IsFixed (sym from) always.1) (ap g.X.Texts.functions from) (ap settings_of set.callback) (ap (λ x. excluded_of (next_of x)) set.callback);
       clones = λ x y h. ap (λ chain. both (chain_worth chain) blank) h;
       default = λ x h. refl;
     })

@@ -25,8 +25,8 @@ returns g c =
     let over : arc_value (file_system_of walk) ≡ arc_value self.disk = ap arc_value (set.file_system ∙ built.file_system) ∙ c.in_ok-disk.ensures.cases in
     let lines : excluded_of (callback_of walk) ≡ excluded
     = ap excluded_of set.callback ∙ c.in_ok-excluding.ensures ∙ ap (λ l. excluded_by (texts_of l) c.args.root.now) c.as_slice.ensures.value in
-    let options : options_of walk ≡ with_crew (is_some self.crew) (options_asked asked)
-    = set.options ∙ built.options ∙ ap (with_crew (is_some self.crew)) c.options.ensures in
+    let options : options_of walk ≡ with_crew (is_some c.args.crew.now) (options_asked asked)
+    = set.options ∙ built.options ∙ ap (with_crew (is_some c.args.crew.now)) c.options.ensures in
     let root : root_of walk ≡ c.args.root.now = set.root ∙ built.root ∙ c.in_ok-root.ensures.ok in
     IfOk-weaker c.count_walk.result _ _
     (λ counted counts.
@@ -39,6 +39,6 @@ returns g c =
     })
     (λ fixed.
     whole_of (excluding excluded) (ap g.S.FileSystem.functions over) options root refl
-    ∙ same_by_crew (excluding excluded) (is_some self.crew) (g.S.FileSystem.functions (arc_value self.disk)) (options_asked asked) c.args.root.now blank)
+    ∙ same_by_crew (excluding excluded) (is_some c.args.crew.now) (g.S.FileSystem.functions (arc_value self.disk)) (options_asked asked) c.args.root.now blank)
     counts)
     c.count_walk.ensures

@@ -31,13 +31,13 @@ returns g c =
     = c.then-rules.ensures.settings ∙ c.keep_hidden.ensures.settings ∙ ap (λ (s : Settings). record s { keeps_hidden = (settings_asked asked).keeps_hidden }) c.new-2.ensures.settings in
     let lines : excluded_of (next_of rules) ≡ excluded
     = ap excluded_of c.then-rules.ensures.next ∙ c.in_ok-excluding.ensures ∙ ap (λ l. excluded_by (texts_of l) c.args.root.now) c.as_slice.ensures.value in
-    let options : options_of walk ≡ with_crew (is_some self.crew) (options_asked asked)
-    = built.options ∙ ap (with_crew (is_some self.crew)) c.options.ensures in
+    let options : options_of walk ≡ with_crew (is_some c.args.crew.now) (options_asked asked)
+    = built.options ∙ ap (with_crew (is_some c.args.crew.now)) c.options.ensures in
     IfOk-weaker c.count_ruled.result _ _
     (λ counted counts.
     below_as
     (λ always. (subst g.S.FileSystem.IsFixed (sym over) always.0, subst g.X.Texts.IsFixed (sym from) always.1, built.state))
     (ignoring_same (ap g.S.FileSystem.functions over) (ap g.X.Texts.functions from) settings lines options (built.root ∙ c.in_ok-root.ensures.ok)
-    ∙ hidden_by_crew (ignoring (settings_asked asked) texts (excluding excluded)) (is_some self.crew) (g.S.FileSystem.functions (arc_value self.disk)) (options_asked asked) c.args.root.now no_rules_yet)
+    ∙ hidden_by_crew (ignoring (settings_asked asked) texts (excluding excluded)) (is_some c.args.crew.now) (g.S.FileSystem.functions (arc_value self.disk)) (options_asked asked) c.args.root.now no_rules_yet)
     counts)
     c.count_ruled.ensures
