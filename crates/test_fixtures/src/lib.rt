@@ -1,6 +1,6 @@
 //! The shared parts of the tests: trees, folders on the disk, file systems that count, fail or wait, a plain walk to
-//! compare others with, the ways to read a walk, an allocator that refuses, the outcomes of walks over it, a family on
-//! a board, and answers as texts.
+//! compare others with, the ways to read a walk, all answers of a walk over a crew, an allocator that refuses, the
+//! outcomes of walks over it, a family on a board, and answers as texts.
 #![tactic(auto)]
 
 pub mod answers;

@@ -1,14 +1,16 @@
 //! Walks that are lent, and walks that a crew reads for, over a file system that the tests look at too.
+ghost use Rattle.jwalk.specs.DirEntryIter.{reads_of};
+ghost use Rattle.jwalk.specs.WalkDir.{callback_of};
+
 use jwalk::entries::Entries;
 use jwalk::file_system::FileSystem;
 use jwalk::read_dir::{NoProcess, ProcessReadDir};
 use jwalk::readings::Readings;
-use jwalk::{Crew, Error, Parallelism, WalkDirGeneric};
-use std::alloc::{AllocError, Global};
+use jwalk::{ClientState, Crew, Error, Parallelism, WalkDirGeneric};
+use std::alloc::{AllocError, Allocator, Global};
 use std::sync::Arc;
 use test_fixtures::answers::{Answer, are_lines};
 use test_fixtures::builders::Builder;
-use test_fixtures::by_crew::{Visit, lend};
 use test_fixtures::host::Host;
 use test_fixtures::ways::{Asked, Setting, WAYS, add_in_turn, with_all};
 
@@ -17,6 +19,33 @@ pub type CrewWalk<R, S> = WalkDirGeneric<((), ()), Arc<S>, NoProcess, Global, Cr
 
 /// A walk under way, whoever reads for it.
 pub type Walk<B> = Entries<((), ()), Global, B>;
+
+/// What a test does with a walk under way, whoever reads for it.
+pub trait Visit<C: ClientState, A: Allocator + Copy> {
+    /// Returns whether the walk went as it must.
+    fn visit<B: Readings<C, A>>(&mut self, walk: &mut Entries<C, A, B>) -> bool
+        requires { B.can_read (B.base (reads_of walk.old)) };
+}
+
+/// Begins a walk, lends it and drops it, or returns why it doesn't begin. A walk over a crew has a long type, so all
+/// others are lent one.
+pub fn lend<
+    R: Host,
+    C: ClientState + Send + 'static,
+    S: FileSystem + Send + Sync + 'static,
+    P: ProcessReadDir<C, A> + Send + Sync + 'static,
+    A: Allocator + Copy + Send + Sync + 'static,
+>(walk: WalkDirGeneric<C, S, P, A, Crew<R>>, visit: &mut impl Visit<C, A>) -> Result<bool, Error<A>>
+where
+    C::ReadDirState: Send + 'static,
+    C::DirEntryState: Send + 'static,
+    requires { P.IsLawful (callback_of walk) }
+{
+    match walk.try_into_iter() {
+        Ok(mut walk) => Ok(visit.visit(&mut walk)),
+        Err(error) => Err(error),
+    }
+}
 
 /// Begins a walk that no crew reads for, lends it and drops it.
 pub fn lend_alone<S: FileSystem>(

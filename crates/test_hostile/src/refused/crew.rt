@@ -1,4 +1,5 @@
 //! Walks that a crew reads for, where each request for memory is refused, or all from each on.
+use crate::by_crew::{Visit, lend};
 use crate::refused::rows::{GROUPS, HANDED_ON, MOVED, Row};
 use jwalk::entries::Entries;
 use jwalk::file_system::{FileSystem, MemoryFs};
@@ -9,7 +10,6 @@ use std::alloc::{Allocator, Global};
 use std::sync::Arc;
 use std::thread;
 use std::time::Duration;
-use test_fixtures::by_crew::{Visit, lend};
 use test_fixtures::host::Host;
 use test_fixtures::refused::callbacks::Texts;
 use test_fixtures::refused::lines::Shown;

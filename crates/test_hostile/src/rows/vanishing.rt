@@ -1,7 +1,7 @@
 //! A directory that is gone from some moment on.
 ghost use Rattle.jwalk.specs.DirEntryIter.{reads_of};
 
-use crate::by_crew::{ByCrew, Walk, lend_alone};
+use crate::by_crew::{ByCrew, Visit, Walk, lend_alone};
 use crate::gated::{Gate, Gated};
 use jwalk::file_system::{BuildError, Fault, FileSystem};
 use jwalk::readings::Readings;
@@ -12,7 +12,6 @@ use std::sync::Arc;
 use std::sync::atomic::{AtomicBool, Ordering};
 use test_fixtures::answers::{Answer, are_lines};
 use test_fixtures::builders::builder;
-use test_fixtures::by_crew::Visit;
 use test_fixtures::host::Host;
 use test_fixtures::trees::{GROUPED, tree};
 use test_fixtures::ways::{Setting, with_all};

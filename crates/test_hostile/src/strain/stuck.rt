@@ -1,5 +1,5 @@
 //! A call of a worker that doesn't return while its walk is dropped.
-use crate::by_crew::{ByCrew, Walk};
+use crate::by_crew::{ByCrew, Visit, Walk};
 use crate::gated::{Gate, Gated};
 use jwalk::Crew;
 use jwalk::file_system::Fault;
@@ -9,7 +9,6 @@ use std::sync::Arc;
 use std::sync::atomic::{AtomicBool, Ordering};
 use std::thread;
 use std::time::{Clock, Duration};
-use test_fixtures::by_crew::Visit;
 use test_fixtures::host::Host;
 use test_fixtures::trees::{FORKED, tree};
 

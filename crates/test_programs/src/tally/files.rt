@@ -120,6 +120,16 @@ fn a_root_below_an_earlier_one_is_left_out(rt: HostRuntime) {
 }
 
 #[test]
+fn a_root_that_is_not_there_is_an_error_below_an_earlier_one_too(rt: HostRuntime) {
+    const MISSING: &str = "tally: /r/b/none: entity not found\n";
+    const ROWS: &[Row] = &[(
+        &["--plain", "-s", "-b", "/r/b", "/r/b/none"],
+        ("16384\t/r/b\n", MISSING, 1),
+    )];
+    all_come(&rt, ROWS);
+}
+
+#[test]
 fn one_file_system(rt: HostRuntime) {
     const ROWS: &[Row] = &[
         (

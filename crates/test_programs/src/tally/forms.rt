@@ -1,5 +1,6 @@
 //! Tables.
-use crate::tally::runs::{Row, TREE_A, all_come};
+use crate::tally::runs::{FILE, Row, TREE_A, all_come, comes_on};
+use tally_run::screen::Screen;
 
 #[test]
 fn a_table_has_what_is_in_the_root_largest_first(rt: HostRuntime) {
@@ -38,4 +39,24 @@ fn a_table_has_what_is_in_the_root_largest_first(rt: HostRuntime) {
         ),
     ];
     all_come(&rt, ROWS);
+}
+
+#[test]
+fn no_row_with_a_bar_is_wider_than_the_screen(rt: HostRuntime) {
+    const NARROW: Screen = Screen {
+        is_terminal: true,
+        width: 40,
+        ..FILE
+    };
+    // The longest row is the one of what is beyond the largest entry, in a directory of a single level.
+    const REST: Row<'static> = (
+        &["--apparent", "-a", "-n", "1", "/t"],
+        "d /t\nf 5 /t/a\nf 3 /t/b\nf 2 /t/c\n",
+        (
+            "     5 B  ##########..........  a\n     5 B  ##########..........  (2 more)\n    10 B  ####################  /t\n",
+            "",
+            0,
+        ),
+    );
+    assert!(&rt; comes_on(&rt, NARROW, &[], "-j1", &REST));
 }

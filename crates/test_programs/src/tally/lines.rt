@@ -1,5 +1,6 @@
 //! Lines of a size and a path.
-use crate::tally::runs::{FILE, Row, TREE_A, all_come, comes_on};
+use crate::tally::runs::{FILE, Row, TREE_A, all_come, comes_on, printed};
+use std::alloc::AllocError;
 use tally_run::screen::Screen;
 
 #[test]
@@ -122,6 +123,18 @@ fn bad_words(rt: HostRuntime) {
     const CONFLICT: &str = "tally: the options --summarize and --all exclude each other\n";
     const ROWS: &[Row<'static>] = &[(&["-s", "-a", "/t"], TREE_A, ("", CONFLICT, 2))];
     all_come(&rt, ROWS);
+}
+
+fn contains(text: &[u8], part: &[u8]) -> bool {
+    text.windows(part.len().max(1)).any(|next| next == part)
+}
+
+#[test]
+fn help_has_no_dots_behind_options_without_a_value(rt: HostRuntime) -> Result<(), AllocError> {
+    let text = printed(&rt, &["-h"])?;
+    assert!(&rt; contains(text.as_slice(), b"--summarize"));
+    assert!(&rt; !contains(text.as_slice(), b"..."));
+    Ok(())
 }
 
 #[test]

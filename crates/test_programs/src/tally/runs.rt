@@ -1,5 +1,5 @@
 //! The outcome of a run.
-use jwalk::file_system::FileSystem;
+use jwalk::file_system::{FileSystem, MemoryFs};
 use jwalk_ignore::memory_texts::MemoryTexts;
 use std::alloc::{AllocError, Global};
 use std::process::Abort;
@@ -35,6 +35,26 @@ fn rules_of(alloc: Global, files: &[RulesFile]) -> Result<MemoryTexts, AllocErro
         rules.add(path, text.as_bytes())?;
     }
     Ok(rules)
+}
+
+/// Returns what a call over an empty tree prints.
+pub(crate) fn printed(rt: &impl Host, words: &[&str]) -> Result<Vec<u8>, AllocError> {
+    let alloc: Global = rt.alloc();
+    let words = texts(alloc, &["tally"], words)?;
+    let (mut out, mut err) = (Vec::new(alloc), Vec::new(alloc));
+    let disk = MemoryFs::new(alloc);
+    let rules = MemoryTexts::new(alloc);
+    run(
+        rt,
+        alloc,
+        disk,
+        rules,
+        words.as_slice(),
+        FILE,
+        &mut out,
+        &mut err,
+    );
+    Ok(out)
 }
 
 /// Returns whether a call over a disk has this outcome on a screen. The option `threads` precedes its words.

@@ -2,7 +2,10 @@
 use crate::seek::come::all_come;
 use crate::seek::output::Output;
 use crate::seek::runs::{Call, called};
+use program_parts::masked_lines::MaskedLines;
 use std::alloc::{AllocError, Global};
+use std::io;
+use std::io::Write;
 
 const ERRORS: &str = "\
 # a root that is missing
@@ -118,6 +121,20 @@ fn ring(alloc: Global, count: u64) -> Result<String, AllocError> {
         lines.push_str(format!(in alloc; "l {next}\t/r/{number}\n")?.as_str())?;
     }
     Ok(lines)
+}
+
+#[test]
+fn an_error_has_no_control_characters_on_a_terminal(rt: HostRuntime) -> io::Result<()> {
+    const PATH: &str = "/no\u{1b}[2J\u{9b}\t\u{e9}";
+    const SHOWN: &str = "seek: /no?[2J??\u{e9}: gone\n";
+    for (masks, is_shown) in [(false, false), (true, true)] {
+        let err = Output::new(rt.alloc());
+        let mut lines = MaskedLines { err, masks };
+        writeln!(lines, "seek: {PATH}: gone")?;
+        let MaskedLines { err, masks: _ } = lines;
+        assert_eq!(rt; err.written() == SHOWN.as_bytes(), is_shown);
+    }
+    Ok(())
 }
 
 fn line_count(text: &[u8]) -> usize {

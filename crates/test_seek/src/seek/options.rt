@@ -224,6 +224,8 @@ $ seek --color always ^a|rs$|link /t
   \u{1b}[34m/t/\u{1b}[0m\u{1b}[01;36mlink\u{1b}[0m
 $ seek --color=always ^sub /t
   \u{1b}[34m/t/\u{1b}[0m\u{1b}[34msub\u{1b}[0m
+$ seek -c always ^sub /t
+  \u{1b}[34m/t/\u{1b}[0m\u{1b}[34msub\u{1b}[0m
 $ seek --color=auto ^sub /t
   /t/sub
 $ seek --color=never ^sub /t
