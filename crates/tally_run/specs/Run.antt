@@ -35,7 +35,7 @@ Ends words status = ((asked : Asked) × AskFor words asked × (status ≤ 1)) �
 abbrev pub roots_asked : Asked → List (List ℕ)
 roots_asked asked = if length asked.roots.items == 0 then dot ∷ [] else texts_of asked.roots.items
 
--- What is asked for is written of the roots that are counted, the first and all that aren't left out: the subtotals of answers, a list for each of these roots, where each file counts once in all. None has an error. If what is gone over always answers the same, the lists are the whole walks below the roots.
+-- What is asked for is written of the roots that are counted, the first and all that aren't left out: the subtotals of answers, a list for each of these roots, where a file of several names counts once in all, unless each name is to count. None has an error. If what is gone over always answers the same, the lists are the whole walks below the roots.
 pub record WritesAsked (fixed : Type 0) (fs : Functions) (texts : Texts) (screen : Screen) (asked : Asked) (before after : Option (List ℕ)) : Type 0 where
   pub counted : List (List ℕ)
   pub among : KeepsFirst (roots_asked asked) counted

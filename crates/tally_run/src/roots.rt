@@ -28,13 +28,19 @@ pub(crate) struct Roots {
     one_file_system: bool,
 }
 
-/// Returns `None` for what is no directory, and where its identity isn't known.
-fn directory_at<S: FileSystem>(disk: &S, path: &str) -> Result<Option<Identity>, AllocError> {
+/// Returns whether there is a directory at a path, and which it is, if that is known.
+fn look_at<S: FileSystem>(disk: &S, path: &str) -> Result<(bool, Option<Identity>), AllocError> {
     match disk.metadata(path) {
-        Ok(found) if found.file_type().is_dir() => Ok(found.identity()),
-        Ok(_) | Err(Fault::Io(_)) => Ok(None),
+        Ok(found) if found.file_type().is_dir() => Ok((true, found.identity())),
+        Ok(_) | Err(Fault::Io(_)) => Ok((false, None)),
         Err(Fault::Memory) => Err(AllocError),
     }
+}
+
+/// Returns `None` for what is no directory, and where its identity isn't known.
+fn directory_at<S: FileSystem>(disk: &S, path: &str) -> Result<Option<Identity>, AllocError> {
+    let (_, own) = look_at(disk, path)?;
+    Ok(own)
 }
 
 /// Returns whether there is anything at a path, be it a link that leads nowhere.
@@ -110,7 +116,7 @@ impl Roots {
     }
 
     /// Returns whether a root is the same directory as an earlier root, or lies below one. `own` is the directory that it
-    /// is. If it isn't known which that is, it isn't.
+    /// is. Without it the folder that it lies in tells, if anything is there at all.
     fn is_below<S: FileSystem>(
         &self,
         alloc: Global,
@@ -142,16 +148,16 @@ impl Roots {
     ) -> Result<RootKind, AllocError>
         ensures first { length self.old.counted.items ≡ 0 → IfOk result (λ kind. kind ≢ LeftOut) }
     {
-        let own = directory_at(disk, root)?;
+        let (is_directory, own) = look_at(disk, root)?;
         if self.is_below(alloc, disk, root, own)? {
             return Ok(RootKind::LeftOut);
         }
-        match own {
-            Some(own) => {
-                self.counted.push(own)?;
-                Ok(RootKind::Directory)
-            }
-            None => Ok(RootKind::Other),
+        if let Some(own) = own {
+            self.counted.push(own)?;
         }
+        if is_directory {
+            return Ok(RootKind::Directory);
+        }
+        Ok(RootKind::Other)
     }
 }

@@ -7,6 +7,6 @@ pub struct Screen {
     pub is_terminal: bool,
     /// Standard error is a terminal.
     pub shows_errors: bool,
-    /// How many characters a line has.
+    /// How many characters a line has, of a table and of help.
     pub width: usize,
 }
