@@ -1,6 +1,6 @@
 //! A text of help whose lines are broken.
 ghost use Rattle.std.specs.Prelude.{◌≡◌, ◌<◌, ◌≤◌, ◌++◌, length, replicate, IfOk, OnOk};
-ghost use Rattle.program_help.specs.Help.{broken, broken_from, indent_of, is_break, is_of_word, word_len};
+ghost use Rattle.program_parts.specs.Help.{broken, broken_from, indent_of, is_break, is_of_word, word_len};
 
 use std::alloc::{AllocError, Global};
 

@@ -1,6 +1,6 @@
 //! A text of help without dots behind options.
 ghost use Rattle.std.specs.Prelude.{◌≡◌, ◌<◌, ◌++◌, length, IfOk};
-ghost use Rattle.program_help.specs.Help.{are_dots, undotted, undotted_behind};
+ghost use Rattle.program_parts.specs.Help.{are_dots, undotted, undotted_behind};
 
 use std::alloc::{AllocError, Global};
 

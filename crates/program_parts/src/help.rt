@@ -1,14 +1,12 @@
 //! The text of help, as it is printed.
-#![tactic(auto)]
-
 ghost use Rattle.std.specs.Prelude.{◌≡◌, IfOk};
-ghost use Rattle.program_help.specs.Help.{help_text};
+ghost use Rattle.program_parts.specs.Help.{help_text};
 
 mod broken;
 mod undotted;
 
-use crate::broken::broken;
-use crate::undotted::undotted;
+use crate::help::broken::broken;
+use crate::help::undotted::undotted;
 use std::alloc::{AllocError, Global};
 
 /// Returns the text of help as it is printed, of the text that the parser of words has. Options that take no value have

@@ -1,6 +1,6 @@
 use Rattle.std.proofs.Common.{length, ◌-◌, ◌≡◌, ◌≤◌, ◌+◌, drop}
-use Rattle.program_help.specs.Help.{word_len}
-use Rattle.program_help.proofs.broken.word_len.Given as goal
+use Rattle.program_parts.specs.Help.{word_len}
+use Rattle.program_parts.proofs.help.broken.word_len.Given as goal
 
 -- the bytes so far, and those of the word after them
 abbrev pub invariant-loop-count : goal.invariant-loop-count

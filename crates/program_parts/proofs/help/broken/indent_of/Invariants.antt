@@ -1,6 +1,6 @@
 use Rattle.std.proofs.Common.{length, ◌+◌, ◌≡◌}
-use Rattle.program_help.specs.Help.{indent_from, indent_of}
-use Rattle.program_help.proofs.broken.indent_of.Given as goal
+use Rattle.program_parts.specs.Help.{indent_from, indent_of}
+use Rattle.program_parts.proofs.help.broken.indent_of.Given as goal
 
 -- the column by the bytes so far, and by those after them
 abbrev pub invariant-loop-rest : goal.invariant-loop-rest

@@ -2,7 +2,7 @@
 use Rattle.std.proofs.Common.{◌≡◌, ◌≤◌, ◌<◌, ◌-◌, ◌∙◌, ℕ, Bool, true, false, List, [], ◌∷◌, ◌++◌, length, take, drop, slice_index_or, ap, sym, arith, refl}
 use Rattle.std.specs.Prelude.{if◌then◌else◌}
 use Rattle.std.proofs.lemmas.List.{append_assoc, take_all}
-use Rattle.program_help.specs.Help.{are_dots, indent_from, undotted_behind}
+use Rattle.program_parts.specs.Help.{are_dots, indent_from, undotted_behind}
 
 -- a line that ends at once has no other explanations
 pub none_further : (column found : ℕ) (rest : List ℕ) → length rest < 2 → indent_from column found rest ≡ found
