@@ -3,6 +3,5 @@
 
 pub mod bound;
 pub mod callbacks;
-pub mod first_answers;
 pub mod numbers;
 pub mod own_readers;

@@ -1,19 +1,16 @@
-//! A disk in a table, whose files have numbers. It counts how often it is asked what a path leads to.
+//! A disk in a table, whose files have numbers, or lie. It counts how often a directory is listed, and how often it is
+//! asked what a path leads to.
 ghost use Rattle.jwalk.specs.jwalk_model.Tree.{functions_of, only_root};
 
-use crate::by_crew::ByCrew;
 use jwalk::file_system::{
     Details, Fault, FileSystem, FileType, Identity, Listed, Metadata, Moment, Seen,
 };
 use jwalk::path_text::{file_name, parent};
-use jwalk::read_dir::NoProcess;
 use std::alloc::{AllocError, Allocator};
 use std::io;
 use std::io::ErrorKind;
-use std::sync::Arc;
 use std::sync::atomic::{AtomicUsize, Ordering};
-use test_fixtures::host::Host;
-use test_fixtures::ways::{Asked, Setting, WAYS, Way};
+use test_fixtures::resting::CountsLists;
 
 /// How much of a file's identity the disk returns.
 #[derive(Clone, Copy)]
@@ -35,34 +32,66 @@ pub enum At {
     Link(&'static str, &'static str, Told),
     /// A link to a file.
     FileLink(&'static str, &'static str, Told),
+    /// A file that is listed as a directory.
+    Lie(&'static str),
+    /// A file that is listed in a directory by a name that may be none.
+    Named(&'static str, &'static str),
+    /// A directory `d` in each directory.
+    Endless,
 }
 
 impl At {
-    fn path(self) -> &'static str {
+    /// Returns the path, or none if the place has no path of its own.
+    fn path(self) -> Option<&'static str> {
         match self {
-            At::File(path) | At::Dir(path, _) | At::Link(path, _, _) | At::FileLink(path, _, _) =>
-                path,
+            At::File(path)
+            | At::Dir(path, _)
+            | At::Link(path, _, _)
+            | At::FileLink(path, _, _)
+            | At::Lie(path) => Some(path),
+            At::Named(_, _) | At::Endless => None,
+        }
+    }
+
+    fn is_at(self, path: &str) -> bool {
+        match self.path() {
+            Some(own) => own == path,
+            None => matches!(self, At::Endless),
+        }
+    }
+
+    /// Returns the name by which it is listed in a directory, or none if it isn't.
+    fn name_in(self, directory: &str) -> Option<&'static str> {
+        match self {
+            At::Named(above, name) if above == directory => return Some(name),
+            At::Endless => return Some("d"),
+            _ => {}
+        }
+        let path = self.path()?;
+        match parent(path) {
+            Some(above) if above == directory => file_name(path),
+            _ => None,
         }
     }
 
     fn text(self) -> Option<&'static str> {
         match self {
-            At::File(_) | At::Dir(_, _) => None,
             At::Link(_, text, _) | At::FileLink(_, text, _) => Some(text),
+            _ => None,
         }
     }
 
     fn target_type(self) -> FileType {
         match self {
-            At::File(_) | At::FileLink(_, _, _) => FileType::File,
-            At::Dir(_, _) | At::Link(_, _, _) => FileType::Dir,
+            At::File(_) | At::FileLink(_, _, _) | At::Named(_, _) => FileType::File,
+            At::Dir(_, _) | At::Link(_, _, _) | At::Lie(_) | At::Endless => FileType::Dir,
         }
     }
 
     fn told(self) -> Told {
         match self {
-            At::File(_) => Told::Nothing,
             At::Dir(_, told) | At::Link(_, _, told) | At::FileLink(_, _, told) => told,
+            _ => Told::Nothing,
         }
     }
 
@@ -101,52 +130,43 @@ fn with_numbers(file_type: FileType, device: u64, inode: u64) -> Metadata {
     })
 }
 
-/// The disk, with a count of the questions.
+/// The disk, with its counts.
 #[derive(Drop)]
-pub struct Numbered {
+pub struct Disk {
     places: &'static [At],
+    lists: AtomicUsize,
     asked: AtomicUsize,
 }
 
-fn not_found() -> Fault {
-    Fault::Io(io::Error::from(ErrorKind::NotFound))
+fn fault(kind: ErrorKind) -> Fault {
+    Fault::Io(io::Error::from(kind))
 }
 
-impl Numbered {
-    fn new(places: &'static [At]) -> Self {
-        Numbered {
+impl Disk {
+    /// Returns the disk of these places.
+    pub fn new(places: &'static [At]) -> Self {
+        Disk {
             places,
+            lists: AtomicUsize::new(0),
             asked: AtomicUsize::new(0),
         }
     }
 
-    /// Counts the questions what a path leads to.
-    fn asked(&self) -> usize {
-        self.asked.load(Ordering::SeqCst)
+    /// Returns how often a directory was listed, and how often the disk was asked what a path leads to.
+    pub fn counts(&self) -> (usize, usize) {
+        (
+            self.lists.load(Ordering::SeqCst),
+            self.asked.load(Ordering::SeqCst),
+        )
     }
 
     fn at(&self, path: &str) -> Result<At, Fault> {
         for at in self.places {
-            if at.path() == path {
+            if at.is_at(path) {
                 return Ok(*at);
             }
         }
-        Err(not_found())
-    }
-}
-
-/// Returns `None` if the place isn't in this directory.
-fn item<A: Allocator + Copy>(
-    alloc: A,
-    at: At,
-    directory: &str,
-) -> Result<Option<Listed<A>>, AllocError> {
-    match (parent(at.path()), file_name(at.path())) {
-        (Some(above), Some(name)) if above == directory => Ok(Some(Listed {
-            name: String::from_str(alloc, name)?,
-            seen: Ok(at.seen()),
-        })),
-        _ => Ok(None),
+        Err(fault(ErrorKind::NotFound))
     }
 }
 
@@ -157,14 +177,23 @@ fn listing<A: Allocator + Copy>(
 ) -> Result<Vec<io::Result<Listed<A>>, A>, AllocError> {
     let mut items = Vec::new(alloc);
     for at in places {
-        if let Some(item) = item(alloc, *at, directory)? {
-            items.push(Ok(item))?;
+        if let Some(name) = at.name_in(directory) {
+            items.push(Ok(Listed {
+                name: String::from_str(alloc, name)?,
+                seen: Ok(at.seen()),
+            }))?;
         }
     }
     Ok(items)
 }
 
-impl FileSystem for Numbered {
+impl CountsLists for Disk {
+    fn lists_so_far(&self) -> usize {
+        self.counts().0
+    }
+}
+
+impl FileSystem for Disk {
     ghost IsFixed = { λ _. ⊥ };
 
     ghost functions = { λ _. functions_of only_root };
@@ -174,6 +203,10 @@ impl FileSystem for Numbered {
         alloc: A,
         path: &str,
     ) -> Result<Vec<io::Result<Listed<A>>, A>, Fault> {
+        self.lists.fetch_add(1, Ordering::SeqCst);
+        if matches!(self.at(path), Ok(At::Lie(_))) {
+            return Err(fault(ErrorKind::InvalidInput));
+        }
         Ok(listing(alloc, self.places, path)?)
     }
 
@@ -183,7 +216,7 @@ impl FileSystem for Numbered {
         match at.told() {
             Told::Numbers(device, inode) => Ok(with_numbers(at.target_type(), device, inode)),
             Told::Nothing => Ok(Metadata::new(at.target_type(), 0)),
-            Told::Gone => Err(not_found()),
+            Told::Gone => Err(fault(ErrorKind::NotFound)),
         }
     }
 
@@ -194,58 +227,7 @@ impl FileSystem for Numbered {
     fn read_link<A: Allocator + Copy>(&self, alloc: A, path: &str) -> Result<String<A>, Fault> {
         match self.at(path)?.text() {
             Some(text) => Ok(String::from_str(alloc, text)?),
-            None => Err(Fault::Io(io::Error::from(ErrorKind::InvalidInput))),
+            None => Err(fault(ErrorKind::InvalidInput)),
         }
     }
-}
-
-/// A walk over such a disk, with its answers.
-pub struct Row {
-    /// What the row shows.
-    pub name: &'static str,
-    pub places: &'static [At],
-    pub root: &'static str,
-    pub settings: &'static [Setting],
-    pub answers: &'static str,
-    /// How often the disk is asked what a path leads to.
-    pub asked: usize,
-}
-
-fn holds_by_crew<R: Host>(rt: &R, row: &Row) -> Result<bool, AllocError> {
-    let walk = ByCrew {
-        fs: Arc::new(rt.alloc(), Numbered::new(row.places))?,
-        root: row.root,
-        settings: row.settings,
-    };
-    Ok(walk.shows(rt, 2, row.answers) && walk.fs.asked() == row.asked)
-}
-
-fn holds_in<R: Host>(rt: &R, row: &Row, way: Way) -> bool {
-    let fs = Numbered::new(row.places);
-    let walk = Asked {
-        fs: &fs,
-        root: row.root,
-        settings: row.settings,
-    };
-    walk.shows(rt, NoProcess, way, row.answers) && fs.asked() == row.asked
-}
-
-/// Reads in each way and by a crew of two.
-fn holds<R: Host>(rt: &R, row: &Row) -> bool {
-    let mut is_so = holds_by_crew(rt, row) == Ok(true);
-    for way in WAYS {
-        is_so &= holds_in(rt, row, *way);
-    }
-    is_so
-}
-
-/// Returns the name of the first row whose walk has other answers or asks more or less often, read in each way and by a
-/// crew of two.
-pub fn first_wrong<R: Host>(rt: &R, rows: &[Row]) -> Option<&'static str> {
-    for row in rows {
-        if !holds(rt, row) {
-            return Some(row.name);
-        }
-    }
-    None
 }
