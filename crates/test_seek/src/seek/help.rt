@@ -1,6 +1,6 @@
 //! The text of help.
 use crate::seek::come::all_come;
-use program_help::help_text;
+use program_parts::help::help_text;
 
 /// A text of help, a width, and the text that is printed.
 type Row<'a> = (&'a str, Option<usize>, &'a str);

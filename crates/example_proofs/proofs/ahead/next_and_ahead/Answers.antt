@@ -1,7 +1,7 @@
 use Rattle.std.proofs.Common.{◌∙◌, IsSomeAnd, sym, ap, subst, arith}
 use Rattle.std.specs.Prelude.{false, option_map}
 use Rattle.jwalk.specs.jwalk_job.Entry.{item}
-use Rattle.jwalk.specs.ReadDirIter.{Tells}
+use Rattle.jwalk.specs.jwalk_readings.Sources.{Tells}
 use Rattle.jwalk.specs.DirEntryIter.{Stops}
 use Rattle.jwalk.specs.jwalk_readings.ReadingsBy.{readings_by}
 use Rattle.example_proofs.proofs.AheadFacts.{none_ahead, grows_each, fewer_ahead}
