@@ -1,22 +1,39 @@
-//! A tree on a disk that knows the identity of files and the room that they take.
+//! A tree on a disk that knows the identity of files and the room that they take, and that may fail.
 ghost use Rattle.jwalk.specs.jwalk_model.Tree.{functions_of, only_root};
 
-use jwalk::file_system::{
-    Details, Fault, FileSystem, Identity, Listed, MemoryFs, Metadata, Moment, Seen,
-};
+use jwalk::file_system::{Details, Fault, FileSystem, Identity, Listed, Metadata, Moment, Seen};
 use jwalk::path_text::join;
 use std::alloc::Allocator;
 use std::io;
+use test_fixtures::watched::Watched;
 
 /// A path, its device and inode, the number of names of the file, and its blocks.
-pub(crate) type Known = (&'static str, u64, u64, u64, u64);
+pub(super) type Known = (&'static str, u64, u64, u64, u64);
 
 /// A tree, with the known details of some paths.
 #[derive(Drop)]
-pub(crate) struct Numbered {
-    pub(crate) tree: MemoryFs,
-    pub(crate) known: &'static [Known],
+pub(super) struct Disk {
+    pub(super) tree: Watched,
+    pub(super) known: &'static [Known],
 }
+
+/// A file with a name in each of two directories, a file with a hole, and a directory on another device.
+pub(super) const TREE: &str =
+    "d /r\nd /r/b\nf 9 /r/b/x\nf 1 /r/b/own\nd /r/a\nf 9 /r/a/x\nf 100000 /r/hole\nd /r/c\nf 5 /r/c/y\n";
+
+/// What the disk knows of this tree.
+pub(super) const KNOWN: &[Known] = &[
+    ("/r", 1, 1, 2, 8),
+    ("/r/a", 1, 2, 2, 8),
+    ("/r/b", 1, 3, 2, 8),
+    ("/r/a/x", 1, 4, 2, 16),
+    ("/r/b/x", 1, 4, 2, 16),
+    ("/r/b/own", 1, 5, 1, 8),
+    ("/r/hole", 1, 6, 1, 0),
+    ("/r/c", 2, 1, 2, 8),
+    ("/r/c/y", 2, 2, 1, 8),
+    ("/r/c/..", 1, 1, 2, 8),
+];
 
 fn with_known(metadata: Metadata, (_, device, inode, links, blocks): &Known) -> Metadata {
     const NEVER: Moment = Moment {
@@ -40,7 +57,7 @@ fn with_known(metadata: Metadata, (_, device, inode, links, blocks): &Known) -> 
     })
 }
 
-impl Numbered {
+impl Disk {
     /// Leaves the metadata of an unknown path unchanged.
     fn told(&self, path: &str, metadata: Metadata) -> Metadata {
         for known in self.known {
@@ -69,7 +86,7 @@ impl Numbered {
     }
 }
 
-impl FileSystem for Numbered {
+impl FileSystem for Disk {
     ghost IsFixed = { λ _. ⊥ };
 
     ghost functions = { λ _. functions_of only_root };
