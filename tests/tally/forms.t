@@ -1,3 +1,5 @@
+-- Tables. The sizes of files are such that those of their folders, which the disk decides, make no difference.
+
 # a table has what is in the root largest first
 tree
   d /t
@@ -32,6 +34,7 @@ tree
   f 5222880 /t/a
   f 3125728 /t/b
   f 2077152 /t/c
+-- The longest row is the one of what is beyond the largest entry, in a directory of a single level.
 tty$ COLUMNS=40 tally --apparent -a -n 1 t
    5.0 MiB  ##########..........  a
    5.0 MiB  #########...........  (2 more)

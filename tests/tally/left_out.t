@@ -1,9 +1,11 @@
+-- What a call leaves out: by its words, and by files of rules.
+
 # lines leave out what they name
 tree
   d /r
   d /r/.git
   f 100 /r/.git/index
-  f 10 /r/.gitignore
+  f 11 /r/.gitignore
   f 1 /r/a.o
   f 2 /r/a.c
   d /r/build
@@ -14,31 +16,39 @@ tree
   f 5 /r/lib/b.o
 rules /r/.gitignore
   *.o
-  build
+  build/
 rules /r/lib/.gitignore
   !keep.o
 $ tally --plain -b --apparent -E build -E .git /r
   29+{folders /r/lib}	/r/lib
-  42+{folders /r}-TODO2	/r
+  43+{folders /r}-{folders /r/build}-{folders /r/.git}	/r
 $ tally --plain -b --apparent -E *.o -E !b.o -s /r
-  140+{folders /r}	/r
-$ tally --plain -b --apparent --exclude=/lib -s /r
-  116+{folders /r}-TODO1	/r
+  141+{folders /r}	/r
+$ tally --plain -b --apparent --exclude=/lib -s /r /r/lib
+  117+{folders /r}-{folders /r/lib}	/r
+! tally: /r/lib: left out, below an earlier root
+
+# a root counts whatever names it
+$ tally --plain -b --apparent --exclude=/lib -s /r/lib /r
+  29+{folders /r/lib}	/r/lib
+  117+{folders /r}-{folders /r/lib}	/r
+$ tally --plain -b --apparent --exclude=lib -s /r/lib
+  29+{folders /r/lib}	/r/lib
 
 # ignore files leave out what they name if that is asked for
 $ tally --plain -b --apparent -s /r
-  145+{folders /r}	/r
+  146+{folders /r}	/r
 $ tally --plain -b --apparent -a --ignore /r
-  10	/r/.gitignore
+  11	/r/.gitignore
   2	/r/a.c
   20	/r/lib/.gitignore
   4	/r/lib/keep.o
   24+{folders /r/lib}	/r/lib
-  36+{folders /r}-TODO2	/r
+  37+{folders /r}-{folders /r/build}-{folders /r/.git}	/r
 $ tally --plain -b --apparent --ignore --exclude-hidden /r
   4+{folders /r/lib}	/r/lib
-  6+{folders /r}-TODO2	/r
+  6+{folders /r}-{folders /r/build}-{folders /r/.git}	/r
 $ tally --plain -b --apparent --ignore -E lib /r
-  12+{folders /r}-TODO3	/r
+  13+{folders /r}-{folders /r/build}-{folders /r/.git}-{folders /r/lib}	/r
 $ tally --plain -b --apparent --ignore /r/lib
   24+{folders /r/lib}	/r/lib

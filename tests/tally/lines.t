@@ -1,3 +1,5 @@
+-- Lines of a size and a path.
+
 # a directory comes behind what is below it
 tree
   d /t
@@ -48,8 +50,16 @@ $ tally --plain -a -d 1 -b --apparent /t
 # a total alone
 $ tally --plain -s -b --apparent /t
   21+{folders /t}	/t
+$ tally --plain -s -b --apparent /t /t/b.txt
+  21+{folders /t}	/t
+! tally: /t/b.txt: left out, below an earlier root
 $ tally --plain -s --apparent /t/b.txt
   1	/t/b.txt
+
+# bad words
+$ tally -s -a /t
+! tally: the options --summarize and --all exclude each other
+= 2
 
 # errors are reported and the status is 1
 tree
@@ -61,7 +71,7 @@ tree
   f 3 /r/c
 nobody
 $ tally --plain -b --apparent /r
-  0+{folders /r/s}	/r/s
+  {folders /r/s}	/r/s
   4+{folders /r}	/r
 ! tally: /r/s: Permission denied (os error 13)
 = 1
@@ -83,20 +93,10 @@ $ tally --plain -a -b --apparent /r
   3	/r/k
   1	/r/l
   11+{folders /r}	/r
+-- The link counts itself and everything in the directory that it leads to.
 $ tally --plain -b --apparent /r/l
   8	/r/l
 
-# bad words
-tree
-  d /t
-  f 1 /t/c.txt
-  f 2 /t/a.txt
-  d /t/group 2
-  f 3 /t/group 2/.hidden_file.txt
-  f 4 /t/group 2/e.txt
-  d /t/group 1
-  f 5 /t/group 1/d.txt
-  f 6 /t/b.txt
-$ tally -s -a /t
-! tally: the options --summarize and --all exclude each other
-= 2
+# no dots behind options that take nothing
+$ tally -h
+~   -s, --summarize   \x20
