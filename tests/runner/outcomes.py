@@ -81,7 +81,7 @@ def ended(status):
 
 
 def unlike(wanted, found, names):
-    return list(difflib.unified_diff(wanted, found, *names, lineterm="", n=2))[:MOST]
+    return [] if wanted == found else list(difflib.unified_diff(wanted, found, *names, lineterm="", n=2))[:MOST]
 
 
 def difference(row, came, in_order, folder):

@@ -27,13 +27,13 @@ def spread(line):
     return lines
 
 
+def ended(line):
+    """Ends a line with a line feed, but for one that ends with a zero byte or a `\\c`."""
+    return line.removesuffix(b"\\c") if line.endswith((b"\0", b"\\c")) else line + b"\n"
+
+
 def text_of(lines):
-    """Returns the bytes of lines. Behind a zero byte, and in place of a `\\c`, there is no line feed."""
-    text = b""
-    for line in lines:
-        is_open = line.endswith((b"\0", b"\\c"))
-        text += line.removesuffix(b"\\c") + (b"" if is_open else b"\n")
-    return text
+    return b"".join(map(ended, lines))
 
 
 def lines_of(text):

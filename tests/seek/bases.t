@@ -47,9 +47,7 @@ $ seek --base-directory=/t a no
 # a base and rules
 tree
   d /t
-  f 1 /t/.ignore
   d /t/sub
-  f 1 /t/sub/.ignore
   f 1 /t/sub/c.rs
   f 1 /t/sub/d.rs
 rules /t/.ignore

@@ -3,15 +3,12 @@ tree
   d /k
   d /k/.git
   d /k/.git/info
-  f 0 /k/.git/info/exclude
-  f 0 /k/.gitignore
   f 0 /k/a.c
   f 0 /k/a.o
   f 0 /k/k.o
   d /k/d
   f 0 /k/d/x
   d /k/e
-  f 0 /k/e/.ignore
   f 0 /k/e/x
   f 0 /k/e/y
   l a.c	/k/l
@@ -64,7 +61,6 @@ tree
   d /k
   l nowhere	/k/.git
   d /k/.gitignore
-  f 0 /k/rules
   l rules	/k/.ignore
   d /k/s
   f 0 /k/s/a

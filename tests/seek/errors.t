@@ -80,7 +80,6 @@ $ seek -L a /r -d1
 # a link that leads nowhere
 tree
   d /r
-  f 1 /r/.ignore
   l no	/r/c
   l no	/r/.h
   d /r/b

@@ -98,7 +98,6 @@ $ seek -I --ignore-file none --ignore-file objects -d1 . t/p
 # named ignore files decide last
 tree
   d t
-  f 1 t/.ignore
   f 1 t/a
   f 1 t/b
   d t/.git

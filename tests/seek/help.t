@@ -12,9 +12,9 @@ tree
   l a.txt	/t/link
   l sub	/t/down
 $ seek -h
-~   -H, --hidden     
+~   -H, --hidden    \x20
 $ seek -h
-~   -1               
+~   -1              \x20
 $ seek -h
 ~   [ROOT]...  Where to look
 

@@ -1,9 +1,9 @@
+-- Rules that are the same wherever a walk starts.
+
 # ignore files above a repository are in force
 tree
   d /r
   d /r/.git
-  f 1 /r/.gitignore
-  f 1 /r/.ignore
   d /r/p
   d /r/p/.git
   f 1 /r/p/x
@@ -29,8 +29,6 @@ $ seek -H . /r/p
 tree
   d /r
   d /r/.git
-  f 1 /r/.gitignore
-  f 1 /r/.ignore
   d /r/p
   d /r/p/.git
   f 1 /r/p/x
@@ -52,8 +50,30 @@ tree
   d /r
   d /r/s
   f 1 /r/s/a
+  l ../rules	/r/.ignore
+  l ../rules	/r/.gitignore
+rules /r/.git
+rules /rules
+  a
+$ seek -H . /r/s
+  /r/s/a
+
+tree
+  d /r
+  d /r/s
+  f 1 /r/s/a
   d /r/.ignore
   d /r/.gitignore
+rules /r/.git
+$ seek -H . /r/s
+  /r/s/a
+
+tree
+  d /r
+  d /r/s
+  f 1 /r/s/a
+  s /r/.ignore
+  p /r/.gitignore
 rules /r/.git
 $ seek -H . /r/s
   /r/s/a
@@ -77,10 +97,26 @@ $ seek -H -L . /r
   /r/a
   /r/t
 
+# an exclude that is no file is not read
+tree
+  d /r
+  d /r/.git
+  f 1 /r/a
+  p /r/.git/info/exclude
+$ seek -H . /r
+  /r/a
+
+tree
+  d /r
+  d /r/.git
+  f 1 /r/a
+  s /r/.git/info/exclude
+$ seek -H . /r
+  /r/a
+
 # what git leads to makes a repository: a directory
 tree
   d /r
-  f 1 /r/.gitignore
   f 1 /r/a
   d /r/s
   f 1 /r/s/a
@@ -95,10 +131,68 @@ $ seek -H . /r
 $ seek -H . /r/s
   /r/s/b
 
+# what git leads to makes a repository: a file
+tree
+  d /r
+  f 1 /r/a
+  d /r/s
+  f 1 /r/s/a
+  f 1 /r/s/b
+  l ../file	/r/.git
+  f 1 /file
+rules /r/.gitignore
+  a
+$ seek -H . /r
+  /r/.gitignore
+  /r/s
+  /r/s/b
+$ seek -H . /r/s
+  /r/s/b
+
+# what git leads to makes no repository: a link that leads nowhere
+tree
+  d /r
+  f 1 /r/a
+  d /r/s
+  f 1 /r/s/a
+  f 1 /r/s/b
+  l nowhere	/r/.git
+rules /r/.gitignore
+  a
+$ seek -H . /r
+  /r/.gitignore
+  /r/a
+  /r/s
+  /r/s/a
+  /r/s/b
+$ seek -H . /r/s
+  /r/s/a
+  /r/s/b
+
+# what git leads to makes no repository: neither a directory nor a file
+tree
+  d /r
+  f 1 /r/a
+  d /r/s
+  f 1 /r/s/a
+  f 1 /r/s/b
+  l ../pipe	/r/.git
+  p /pipe
+rules /r/.gitignore
+  a
+$ seek -H . /r
+  /r/.gitignore
+  /r/a
+  /r/s
+  /r/s/a
+  /r/s/b
+$ seek -H . /r/s
+  /r/s/a
+  /r/s/b
+
 # a git that leads back to its directory makes a repository
 tree
   d /r
-  f 1 /r/.gitignore
   f 1 /r/a
   f 1 /r/b
   l .	/r/.git
@@ -107,5 +201,5 @@ rules /r/.gitignore
 $ seek -H -L . /r
   /r/.gitignore
   /r/b
-!~ /r/.git
+! seek: /r/.git: a link that leads back to /r
 = 1

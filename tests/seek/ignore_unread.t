@@ -1,12 +1,12 @@
+-- Files of rules that cannot be read.
+
 # rules that cannot be read are an error behind their entry
 tree
   d /r
   d /r/.git
-  f 1 /r/.gitignore
   f 1 /r/.h
   f 1 /r/a
   d /r/s
-  f 1 /r/s/.gitignore
   f 1 /r/s/a
   f 1 /r/s/b
   m 0 /r/.gitignore
@@ -22,7 +22,7 @@ $ seek -H . /r
   /r/s
   /r/s/.gitignore
   /r/s/a
-!~ /r/.gitignore
+! seek: /r/.gitignore: Permission denied (os error 13)
 = 1
 
 # the error stands where the entry is hidden
@@ -30,18 +30,16 @@ $ seek . /r
   /r/a
   /r/s
   /r/s/a
-!~ /r/.gitignore
+! seek: /r/.gitignore: Permission denied (os error 13)
 = 1
 
 # rules above go on where nearer ones cannot be read
 tree
   d /r
   d /r/.git
-  f 1 /r/.gitignore
   f 1 /r/.h
   f 1 /r/a
   d /r/s
-  f 1 /r/s/.gitignore
   f 1 /r/s/a
   f 1 /r/s/b
   m 0 /r/s/.gitignore
@@ -56,18 +54,16 @@ $ seek -H . /r
   /r/s
   /r/s/.gitignore
   /r/s/b
-!~ /r/s/.gitignore
+! seek: /r/s/.gitignore: Permission denied (os error 13)
 = 1
 
 # an exclude file that cannot be read is an error though git is dropped
 tree
   d /r
   d /r/.git
-  f 1 /r/.gitignore
   f 1 /r/.h
   f 1 /r/a
   d /r/s
-  f 1 /r/s/.gitignore
   f 1 /r/s/a
   f 1 /r/s/b
   m 0 /r/.git/info/exclude
@@ -82,5 +78,5 @@ $ seek -H . /r
   /r/.h
   /r/s
   /r/s/.gitignore
-!~ /r/.git/info/exclude
+! seek: /r/.git/info/exclude: Permission denied (os error 13)
 = 1

@@ -307,7 +307,6 @@ $ seek -HH --hidden hid /t
 # unrestricted
 tree
   d /r
-  f 1 /r/.ignore
   f 1 /r/a
   f 1 /r/.h
 rules /r/.ignore

@@ -2,13 +2,11 @@
 tree
   d /r
   d /r/.git
-  f 1 /r/.gitignore
   f 1 /r/a.o
   f 1 /r/a.c
   d /r/build
   f 1 /r/build/x.c
   d /r/lib
-  f 1 /r/lib/.gitignore
   f 1 /r/lib/keep.o
   f 1 /r/lib/b.o
 rules /r/.gitignore
@@ -81,7 +79,6 @@ $ seek -u --no-hidden o$|git /r
 tree
   d /r
   d /r/.git
-  f 1 /r/.gitignore
   f 1 /r/a.o
   f 1 /r/a.c
   d /r/build
@@ -106,7 +103,6 @@ $ seek -E !x.c c$ /r
 tree
   d /r
   d /r/.git
-  f 1 /r/.gitignore
   f 1 /r/a.o
   f 1 /r/a.c
   d /r/build
@@ -127,8 +123,6 @@ $ seek -I . /r/lib
 # gitignore counts in repositories alone
 tree
   d /r
-  f 1 /r/.gitignore
-  f 1 /r/.ignore
   f 1 /r/a.o
   f 1 /r/b.o
   f 1 /r/c

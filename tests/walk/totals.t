@@ -1,3 +1,5 @@
+-- Totals.
+
 # entries count by type and files by length
 tree
   d /t

@@ -1,3 +1,5 @@
+-- The lines of a tree.
+
 # answers come in order
 tree
   d /r
@@ -49,26 +51,31 @@ input
 $ walk --tree /
   0 d /
 
+-- The last line may have no line feed.
 input
   d /r
-  f 18446744073709551615 /r/last
+  f 18446744073709551615 /r/last\c
 $ walk --tree /r
   0 d /r
   1 f /r/last
 
-tree
-  d /r
-  f 00000000000000000007 /r/a b
-$ walk /r
+-- Empty lines do nothing.
+input
+  \x0a\x0ad /r\x0a
+  f 00000000000000000007 /r/a b\x0a
+$ walk --tree /r
   0 d /r
   1 f /r/a b
 
 # roots without a name and what is right below them
-input
+tree
   d /r
-$ walk --tree --max 1 .
+$ walk --max 1 .
   0 d .
   1 d ./r
+
+input
+  d /r
 $ walk --tree --max 1 ..
   0 d ..
   1 d ../r
@@ -163,8 +170,25 @@ $ walk /r/a
 input
   d /r
   d /x y
-  x /x y
+  x /x y\c
 $ walk --tree /
   0 d /
   1 d /r
   1 d /x y ! PermissionDenied
+
+# more directories than a batch come in order
+tree
+  d /r
+  d /r/{000..499}
+  f 1 /r/{000..499}/x
+$ walk /r
+  0 d /r
+  1 d /r/{000..499}\x0a2 f /r/{000..499}/x
+
+# a long input is read whole
+input
+  d /r
+  f {0000..1199} /r/<<one of many names *6>>{0000..1199}
+$ walk --tree /r
+  0 d /r
+  1 f /r/<<one of many names *6>>{0000..1199}

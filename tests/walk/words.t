@@ -1,6 +1,8 @@
+-- The meaning of words, and bad words.
+
 # other words are bad
 input
-  d /r
+  d /r\c
 $ walk
 ! walk: bad words
 = 2
@@ -56,6 +58,13 @@ input
 $ walk --hidden --tree --max 1 /
   0 d /
   1 d /.r
+$ walk --hidden --max 1 .
+  0 d .
+
+input
+  no line of a tree\c
+$ walk .
+  0 d .
 
 # depths have up to 20 digits
 tree

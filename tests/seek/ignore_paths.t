@@ -1,3 +1,5 @@
+-- Ignore files and paths, with the decisions of git 2.39.
+
 # what git says of a path
 tree
   d /r/.git
@@ -11,7 +13,7 @@ tree
   d /r/.git
   f 1 /r/# a
 rules /r/.gitignore
-  # a\x0a\x0a  
+  # a\x0a\x0a \x20
 $ seek -H . /r
   /r/# a
   /r/.gitignore
@@ -20,7 +22,7 @@ tree
   d /r/.git
   f 1 /r/a
 rules /r/.gitignore
-  # a\x0a\x0a  
+  # a\x0a\x0a \x20
 $ seek -H . /r
   /r/.gitignore
   /r/a
@@ -436,33 +438,33 @@ tree
   d /r/.git
   f 1 /r/b
 rules /r/.gitignore
-  b  
+  b \x20
 $ seek -H . /r
   /r/.gitignore
 
 tree
   d /r/.git
-  f 1 /r/b  
+  f 1 /r/b \x20
 rules /r/.gitignore
-  b  
+  b \x20
 $ seek -H . /r
   /r/.gitignore
-  /r/b  
+  /r/b \x20
 
 tree
   d /r/.git
   f 1 /r/b
 rules /r/.gitignore
-  b\ 
+  b\\x20
 $ seek -H . /r
   /r/.gitignore
   /r/b
 
 tree
   d /r/.git
-  f 1 /r/b 
+  f 1 /r/b\x20
 rules /r/.gitignore
-  b\ 
+  b\\x20
 $ seek -H . /r
   /r/.gitignore
 
@@ -470,44 +472,44 @@ tree
   d /r/.git
   f 1 /r/b
 rules /r/.gitignore
-  b\  
+  b\ \x20
 $ seek -H . /r
   /r/.gitignore
   /r/b
 
 tree
   d /r/.git
-  f 1 /r/b 
+  f 1 /r/b\x20
 rules /r/.gitignore
-  b\  
+  b\ \x20
 $ seek -H . /r
   /r/.gitignore
 
 tree
   d /r/.git
-  f 1 /r/b  
+  f 1 /r/b \x20
 rules /r/.gitignore
-  b\  
+  b\ \x20
 $ seek -H . /r
   /r/.gitignore
-  /r/b  
+  /r/b \x20
 
 tree
   d /r/.git
   f 1 /r/b\
 rules /r/.gitignore
-  b\\ 
+  b\\\x20
 $ seek -H . /r
   /r/.gitignore
 
 tree
   d /r/.git
-  f 1 /r/b\ 
+  f 1 /r/b\\x20
 rules /r/.gitignore
-  b\\ 
+  b\\\x20
 $ seek -H . /r
   /r/.gitignore
-  /r/b\ 
+  /r/b\\x20
 
 tree
   d /r/.git
@@ -589,7 +591,7 @@ tree
   d /r/.git
   f 1 /r/b
 rules /r/.gitignore
-  b\x0d 
+  b\x0d\x20
 $ seek -H . /r
   /r/.gitignore
   /r/b
@@ -598,7 +600,7 @@ tree
   d /r/.git
   f 1 /r/b\x0d
 rules /r/.gitignore
-  b\x0d 
+  b\x0d\x20
 $ seek -H . /r
   /r/.gitignore
 

@@ -1,9 +1,9 @@
+-- The ignore files that are in force at each place.
+
 # the kinds decide in order
 tree
   d /r
   d /r/.git
-  f 1 /r/.gitignore
-  f 1 /r/.ignore
   f 1 /r/a
 rules /r/.gitignore
   !a
@@ -16,8 +16,6 @@ $ seek -H . /r
 tree
   d /r
   d /r/.git
-  f 1 /r/.gitignore
-  f 1 /r/.ignore
   f 1 /r/a
 rules /r/.gitignore
   a
@@ -31,7 +29,6 @@ $ seek -H . /r
 tree
   d /r
   d /r/.git
-  f 1 /r/.gitignore
   f 1 /r/a
 rules /r/.git/info/exclude
   a
@@ -54,9 +51,7 @@ $ seek -H . /r
 tree
   d /r
   d /r/.git
-  f 1 /r/.ignore
   d /r/s
-  f 1 /r/s/.gitignore
   f 1 /r/s/a
 rules /r/.ignore
   a
@@ -71,12 +66,9 @@ $ seek -H . /r
 tree
   d /r
   d /r/.git
-  f 1 /r/.gitignore
   d /r/s
-  f 1 /r/s/.gitignore
   f 1 /r/s/a
   d /r/s/t
-  f 1 /r/s/t/.gitignore
   f 1 /r/s/t/a
 rules /r/.gitignore
   a
@@ -96,9 +88,7 @@ $ seek -H . /r
 tree
   d /r
   d /r/.git
-  f 1 /r/.gitignore
   d /r/s
-  f 1 /r/s/.gitignore
   f 1 /r/s/a
   f 1 /r/s/b
 rules /r/.gitignore
@@ -113,8 +103,6 @@ $ seek -H . /r
 tree
   d /r
   d /r/.git
-  f 1 /r/.gitignore
-  f 1 /r/.ignore
   d /r/s
   d /r/s/.git
   f 1 /r/s/a
@@ -141,7 +129,6 @@ $ seek -H . /r
 tree
   d /r
   f 1 /r/.git
-  f 1 /r/.gitignore
   f 1 /r/a
   f 1 /r/b
 rules /r/.gitignore
@@ -153,8 +140,6 @@ $ seek -H . /r
 # outside repositories
 tree
   d /r
-  f 1 /r/.gitignore
-  f 1 /r/.ignore
   f 1 /r/a
   f 1 /r/b
 rules /r/.gitignore
@@ -170,7 +155,6 @@ $ seek -H . /r
 tree
   d /r
   d /r/.git
-  f 1 /r/.gitignore
   f 1 /r/.h
   d /r/.s
   f 1 /r/.s/b
@@ -185,8 +169,6 @@ $ seek . /r
 tree
   d /r
   d /r/.git
-  f 1 /r/.gitignore
-  f 1 /r/.ignore
   f 1 /r/a
   d /r/s
   f 1 /r/s/a
@@ -205,7 +187,16 @@ $ seek -H . /r/s
   /r/s/t
   /r/s/t/b
   /r/s/t/d
+$ seek -H . /r/s/
+  /r/s/t
+  /r/s/t/b
+  /r/s/t/d
 $ seek -H . r/s
   r/s/t
   r/s/t/b
   r/s/t/d
+
+# a root that is a file
+$ seek -H . /r/s/a
+! seek: /r/s/a: Not a directory
+= 1

@@ -1,8 +1,1038 @@
+-- Small trees with ignore files, and the part of each that git 2.39 keeps.
+
+# tree 0
+tree
+  d /r
+  d /r/.git
+  f 1 /r/c.o
+  d /r/k.o
+  f 1 /r/k.o/.h
+  d /r/k.o/b
+  f 1 /r/k.o/b/b
+  d /r/sub
+  f 1 /r/sub/a
+rules /r/.gitignore
+  *sub/**
+rules /r/k.o/.gitignore
+  !k.o[!a]
+$ seek -H . /r
+  /r/.gitignore
+  /r/c.o
+  /r/k.o
+  /r/k.o/.gitignore
+  /r/k.o/.h
+  /r/k.o/b
+  /r/k.o/b/b
+  /r/sub
+
+# tree 1
+tree
+  d /r
+  d /r/.git
+  f 1 /r/.h
+  d /r/c.o
+  d /r/c.o/b
+  d /r/c.o/b/a
+  f 1 /r/c.o/b/a/b
+  f 1 /r/c.o/b/b
+  d /r/c.o/k.o
+  d /r/c.o/k.o/c.o
+  f 1 /r/c.o/k.o/c.o/b
+  f 1 /r/sub
+rules /r/.gitignore
+  a/**
+  ?
+  !?\a*.o
+rules /r/c.o/b/.gitignore
+  subsub[ab]
+$ seek -H . /r
+  /r/.gitignore
+  /r/.h
+  /r/c.o
+  /r/c.o/k.o
+  /r/c.o/k.o/c.o
+  /r/sub
+
+# tree 2
+tree
+  d /r
+  d /r/.git
+  d /r/a
+  f 1 /r/a/sub
+  f 1 /r/ab
+  d /r/c.o
+  f 1 /r/c.o/.h
+rules /r/.gitignore
+  ?
+  a\a?
+$ seek -H . /r
+  /r/.gitignore
+  /r/ab
+  /r/c.o
+  /r/c.o/.h
+
+# tree 3
+tree
+  d /r
+  d /r/.git
+  f 1 /r/.h
+  f 1 /r/a
+rules /r/.gitignore
+  *?
+  ?
+$ seek -H . /r
+
+# tree 4
+tree
+  d /r
+  d /r/.git
+  d /r/a
+  d /r/a/b
+  f 1 /r/a/b/.h
+  d /r/a/b/c.o
+  f 1 /r/a/b/c.o/.h
+  f 1 /r/a/b/k.o
+  d /r/a/sub
+  d /r/a/sub/ab
+  f 1 /r/a/sub/ab/c.o
+  f 1 /r/a/sub/k.o
+rules /r/.gitignore
+  *.o/
+$ seek -H . /r
+  /r/.gitignore
+  /r/a
+  /r/a/b
+  /r/a/b/.h
+  /r/a/b/k.o
+  /r/a/sub
+  /r/a/sub/ab
+  /r/a/sub/ab/c.o
+  /r/a/sub/k.o
+
+# tree 5
+tree
+  d /r
+  d /r/.git
+  f 1 /r/b
+rules /r/.git/info/exclude
+  **//
+rules /r/.gitignore
+  .hasub
+  /**/**
+  *[ab]**//
+$ seek -H . /r
+
+# tree 6
+tree
+  d /r
+  d /r/.git
+  d /r/c.o
+  d /r/c.o/c.o
+  d /r/c.o/c.o/b
+  f 1 /r/c.o/c.o/b/ab
+rules /r/.git/info/exclude
+  *.o/c.?/
+rules /r/.gitignore
+  /***
+  !/aa
+  !/**.h
+rules /r/c.o/c.o/.gitignore
+  *?
+$ seek -H . /r
+
+# tree 7
+tree
+  d /r
+  d /r/.git
+  d /r/k.o
+  d /r/k.o/ab
+  f 1 /r/k.o/ab/.h
+  f 1 /r/k.o/ab/ab
+  f 1 /r/k.o/ab/sub
+  f 1 /r/k.o/b
+  f 1 /r/k.o/c.o
+rules /r/.gitignore
+  /**
+rules /r/k.o/.gitignore
+  [ab]\a/
+  \a
+$ seek -H . /r
+
+# tree 8
+tree
+  d /r
+  d /r/.git
+  f 1 /r/b
+  f 1 /r/k.o
+rules /r/.gitignore
+  [!a]/ab/
+  !/**ab
+  /**
+$ seek -H . /r
+
+# tree 9
+tree
+  d /r
+  d /r/.git
+  f 1 /r/a
+  d /r/ab
+  d /r/ab/b
+  f 1 /r/ab/b/ab
+  f 1 /r/c.o
+rules /r/.git/info/exclude
+  ab
+  !*/
+  [!a][ab]c.?
+rules /r/.gitignore
+  subab
+  c.?subb
+  !k.o*
+rules /r/ab/b/.gitignore
+  !bab
+  c.?ab[!a]/
+$ seek -H . /r
+  /r/.gitignore
+  /r/a
+  /r/ab
+  /r/ab/b
+  /r/ab/b/.gitignore
+  /r/c.o
+
+# tree 10
+tree
+  d /r
+  d /r/.git
+  d /r/a
+  f 1 /r/a/.h
+  f 1 /r/a/c.o
+  d /r/a/k.o
+  f 1 /r/a/k.o/sub
+  f 1 /r/c.o
+  f 1 /r/sub
+rules /r/.git/info/exclude
+  !k.oc.?.h
+rules /r/.gitignore
+  [!a]
+  /**
+  !k.o**//
+$ seek -H . /r
+
+# tree 11
+tree
+  d /r
+  d /r/.git
+  d /r/ab
+  f 1 /r/ab/.h
+  f 1 /r/ab/c.o
+  f 1 /r/ab/sub
+  f 1 /r/b
+  d /r/k.o
+  f 1 /r/k.o/c.o
+rules /r/.gitignore
+  *?/
+  k.o\a/
+$ seek -H . /r
+  /r/.gitignore
+  /r/b
+
+# tree 12
+tree
+  d /r
+  d /r/.git
+  f 1 /r/.h
+  f 1 /r/ab
+  f 1 /r/sub
+rules /r/.git/info/exclude
+  ab
+  *.oab
+rules /r/.gitignore
+  !/aa
+$ seek -H . /r
+  /r/.gitignore
+  /r/.h
+  /r/sub
+
+# tree 13
+tree
+  d /r
+  d /r/.git
+  f 1 /r/ab
+  f 1 /r/c.o
+rules /r/.git/info/exclude
+  .h
+  ab
+rules /r/.gitignore
+  sub
+$ seek -H . /r
+  /r/.gitignore
+  /r/c.o
+
+# tree 14
+tree
+  d /r
+  d /r/.git
+  f 1 /r/.h
+  f 1 /r/a
+  d /r/c.o
+  d /r/c.o/a
+  f 1 /r/c.o/a/sub
+rules /r/.gitignore
+  [ab]\a
+  a
+$ seek -H . /r
+  /r/.gitignore
+  /r/.h
+  /r/c.o
+
+# tree 15
+tree
+  d /r
+  d /r/.git
+  d /r/sub
+  f 1 /r/sub/.h
+  d /r/sub/b
+  f 1 /r/sub/b/a
+  f 1 /r/sub/sub
+rules /r/.git/info/exclude
+  /**
+  ab
+  [!a]k.oab
+rules /r/.gitignore
+  asub
+rules /r/sub/b/.gitignore
+  *
+  b
+  !/**
+$ seek -H . /r
+
+# tree 16
+tree
+  d /r
+  d /r/.git
+  f 1 /r/k.o
+rules /r/.gitignore
+  ?ab**//
+  **.o
+$ seek -H . /r
+  /r/.gitignore
+
+# tree 17
+tree
+  d /r
+  d /r/.git
+  f 1 /r/ab
+  f 1 /r/c.o
+  d /r/k.o
+  f 1 /r/k.o/.h
+  d /r/k.o/c.o
+  d /r/k.o/c.o/sub
+  f 1 /r/k.o/c.o/sub/a
+  f 1 /r/k.o/c.o/sub/ab
+  f 1 /r/k.o/c.o/sub/k.o
+rules /r/.gitignore
+  !.h?/**
+  /**/
+  *.o/
+rules /r/k.o/.gitignore
+  \a
+$ seek -H . /r
+  /r/.gitignore
+  /r/ab
+  /r/c.o
+
+# tree 18
+tree
+  d /r
+  d /r/.git
+  d /r/k.o
+  f 1 /r/k.o/a
+  f 1 /r/k.o/b
+  f 1 /r/sub
+rules /r/.gitignore
+  /**/***.o/
+  !ab.hab
+  !?*.o//
+rules /r/k.o/.gitignore
+  !b.hab
+$ seek -H . /r
+  /r/.gitignore
+  /r/sub
+
+# tree 19
+tree
+  d /r
+  d /r/.git
+  f 1 /r/b
+  f 1 /r/sub
+rules /r/.gitignore
+  b
+  *abk.o
+  /b*.o
+$ seek -H . /r
+  /r/.gitignore
+  /r/sub
+
+# tree 20
+tree
+  d /r
+  d /r/.git
+  f 1 /r/a
+  d /r/b
+  d /r/b/k.o
+  f 1 /r/b/k.o/c.o
+  f 1 /r/sub
+rules /r/.gitignore
+  !/**k.o
+  \ac.?b/
+  */
+rules /r/b/k.o/.gitignore
+  !?c.?sub
+  [ab]/
+$ seek -H . /r
+  /r/.gitignore
+  /r/a
+  /r/sub
+
+# tree 21
+tree
+  d /r
+  d /r/.git
+  d /r/c.o
+  d /r/c.o/c.o
+  d /r/c.o/c.o/a
+  f 1 /r/c.o/c.o/a/a
+  f 1 /r/c.o/c.o/ab
+  f 1 /r/c.o/c.o/k.o
+  d /r/sub
+  f 1 /r/sub/.h
+  f 1 /r/sub/c.o
+rules /r/.gitignore
+  !?/**/**
+rules /r/c.o/c.o/.gitignore
+  ?
+rules /r/c.o/c.o/a/.gitignore
+  sub
+  .hc.?
+  *b.h
+$ seek -H . /r
+  /r/.gitignore
+  /r/c.o
+  /r/c.o/c.o
+  /r/c.o/c.o/.gitignore
+  /r/c.o/c.o/ab
+  /r/c.o/c.o/k.o
+  /r/sub
+  /r/sub/.h
+  /r/sub/c.o
+
+# tree 22
+tree
+  d /r
+  d /r/.git
+  f 1 /r/sub
+rules /r/.git/info/exclude
+  !*.o/
+  \aab/
+rules /r/.gitignore
+  !\a/**/
+  /**
+  /**.ha
+$ seek -H . /r
+
+# tree 23
+tree
+  d /r
+  d /r/.git
+  d /r/a
+  d /r/a/a
+  f 1 /r/a/a/c.o
+  d /r/k.o
+  f 1 /r/k.o/sub
+rules /r/.gitignore
+  .h
+  ![!a]
+  /**/
+rules /r/k.o/.gitignore
+  !\ab/
+  !c.??
+$ seek -H . /r
+  /r/.gitignore
+
+# tree 24
+tree
+  d /r
+  d /r/.git
+  f 1 /r/a
+  d /r/b
+  f 1 /r/b/ab
+  f 1 /r/b/sub
+rules /r/.gitignore
+  !bsub
+  [ab]*
+  *.o/**?
+rules /r/b/.gitignore
+  [!a][ab]
+$ seek -H . /r
+  /r/.gitignore
+
+# tree 25
+tree
+  d /r
+  d /r/.git
+  d /r/b
+  f 1 /r/b/a
+  d /r/b/c.o
+  f 1 /r/b/c.o/.h
+  f 1 /r/b/c.o/b
+  f 1 /r/b/c.o/k.o
+rules /r/.git/info/exclude
+  *.o*
+  .hc.?.h
+rules /r/.gitignore
+  !a/
+$ seek -H . /r
+  /r/.gitignore
+  /r/b
+  /r/b/a
+
+# tree 26
+tree
+  d /r
+  d /r/.git
+  d /r/k.o
+  f 1 /r/k.o/.h
+  d /r/k.o/b
+  d /r/k.o/b/a
+  f 1 /r/k.o/b/a/sub
+  d /r/sub
+  f 1 /r/sub/.h
+rules /r/.gitignore
+  !.h*.o.h
+  !/**//
+rules /r/k.o/b/a/.gitignore
+  aasub/
+rules /r/sub/.gitignore
+  .h
+$ seek -H . /r
+  /r/.gitignore
+  /r/k.o
+  /r/k.o/.h
+  /r/k.o/b
+  /r/k.o/b/a
+  /r/k.o/b/a/.gitignore
+  /r/k.o/b/a/sub
+  /r/sub
+  /r/sub/.gitignore
+
+# tree 27
+tree
+  d /r
+  d /r/.git
+  f 1 /r/k.o
+rules /r/.gitignore
+  k.o
+  c.?/
+  k.oab
+$ seek -H . /r
+  /r/.gitignore
+
+# tree 28
+tree
+  d /r
+  d /r/.git
+  d /r/a
+  f 1 /r/a/c.o
+  f 1 /r/a/k.o
+rules /r/.gitignore
+  **/k.o*
+  !.h/
+  .h/
+$ seek -H . /r
+  /r/.gitignore
+  /r/a
+  /r/a/c.o
+
+# tree 29
+tree
+  d /r
+  d /r/.git
+  f 1 /r/c.o
+  d /r/k.o
+  d /r/k.o/b
+  f 1 /r/k.o/b/.h
+rules /r/.gitignore
+  *.o
+rules /r/k.o/b/.gitignore
+  *.o
+  **/[ab]/
+  b*.o/
+$ seek -H . /r
+  /r/.gitignore
+
+# tree 30
+tree
+  d /r
+  d /r/.git
+  f 1 /r/a
+  d /r/ab
+  d /r/ab/b
+  f 1 /r/ab/b/.h
+  d /r/ab/b/k.o
+  f 1 /r/ab/b/k.o/k.o
+rules /r/.gitignore
+  .h[!a]
+  .hab\a
+  [!a]
+rules /r/ab/b/k.o/.gitignore
+  !**/[ab]?
+  !ac.?
+  \a
+$ seek -H . /r
+  /r/.gitignore
+  /r/a
+  /r/ab
+
+# tree 31
+tree
+  d /r
+  d /r/.git
+  d /r/b
+  f 1 /r/b/ab
+  f 1 /r/b/b
+  d /r/b/c.o
+  d /r/b/c.o/a
+  f 1 /r/b/c.o/a/c.o
+  f 1 /r/b/c.o/a/k.o
+  f 1 /r/c.o
+rules /r/.gitignore
+  !a?ab
+  c.?a.h
+rules /r/b/.gitignore
+  b
+  b
+  b.h
+$ seek -H . /r
+  /r/.gitignore
+  /r/b
+  /r/b/.gitignore
+  /r/b/ab
+  /r/b/c.o
+  /r/b/c.o/a
+  /r/b/c.o/a/c.o
+  /r/b/c.o/a/k.o
+  /r/c.o
+
+# tree 32
+tree
+  d /r
+  d /r/.git
+  f 1 /r/.h
+  d /r/k.o
+  d /r/k.o/c.o
+  f 1 /r/k.o/c.o/b
+  f 1 /r/k.o/c.o/c.o
+  f 1 /r/k.o/k.o
+rules /r/.gitignore
+  c.?
+  \a.h
+  a/
+rules /r/k.o/.gitignore
+  sub
+  b
+$ seek -H . /r
+  /r/.gitignore
+  /r/.h
+  /r/k.o
+  /r/k.o/.gitignore
+  /r/k.o/k.o
+
+# tree 33
+tree
+  d /r
+  d /r/.git
+  f 1 /r/.h
+  d /r/c.o
+  f 1 /r/c.o/b
+  f 1 /r/c.o/k.o
+rules /r/.git/info/exclude
+  *.o
+  **/
+rules /r/.gitignore
+  !/k.o/**
+  !.h
+rules /r/c.o/.gitignore
+  \asuba
+$ seek -H . /r
+  /r/.gitignore
+  /r/.h
+
+# tree 34
+tree
+  d /r
+  d /r/.git
+  d /r/b
+  d /r/b/a
+  d /r/b/a/ab
+  f 1 /r/b/a/ab/.h
+  f 1 /r/b/a/ab/c.o
+  d /r/b/a/b
+  f 1 /r/b/a/b/c.o
+  f 1 /r/b/a/b/k.o
+  f 1 /r/b/ab
+  f 1 /r/b/sub
+rules /r/.gitignore
+  *.o
+  k.o\a
+  sub
+rules /r/b/a/ab/.gitignore
+  */
+  ?/\a
+  /**
+$ seek -H . /r
+  /r/.gitignore
+  /r/b
+  /r/b/a
+  /r/b/a/ab
+  /r/b/a/b
+  /r/b/ab
+
+# tree 35
+tree
+  d /r
+  d /r/.git
+  d /r/a
+  f 1 /r/a/b
+  d /r/k.o
+  f 1 /r/k.o/.h
+  d /r/k.o/c.o
+  f 1 /r/k.o/c.o/a
+  f 1 /r/k.o/c.o/ab
+  f 1 /r/k.o/c.o/b
+  f 1 /r/k.o/k.o
+rules /r/.git/info/exclude
+  !ac.?
+rules /r/.gitignore
+  /?
+rules /r/a/.gitignore
+  **/c.?\a
+$ seek -H . /r
+  /r/.gitignore
+  /r/k.o
+  /r/k.o/.h
+  /r/k.o/c.o
+  /r/k.o/c.o/a
+  /r/k.o/c.o/ab
+  /r/k.o/c.o/b
+  /r/k.o/k.o
+
+# tree 36
+tree
+  d /r
+  d /r/.git
+  f 1 /r/.h
+  f 1 /r/a
+rules /r/.git/info/exclude
+  c.?
+  ![ab]*.o**//
+  !/a[ab]
+rules /r/.gitignore
+  a*
+  !/**/**a/
+$ seek -H . /r
+  /r/.gitignore
+  /r/.h
+
+# tree 37
+tree
+  d /r
+  d /r/.git
+  f 1 /r/a
+  d /r/b
+  d /r/b/c.o
+  d /r/b/c.o/ab
+  f 1 /r/b/c.o/ab/ab
+  f 1 /r/b/c.o/ab/sub
+  f 1 /r/b/c.o/c.o
+  f 1 /r/b/c.o/k.o
+rules /r/.gitignore
+  !*.o
+  /**?
+  k.o[ab]**/
+rules /r/b/.gitignore
+  ![!a]
+  **/k.ok.o
+  [!a]**//
+rules /r/b/c.o/.gitignore
+  /[!a]
+  !b?\a
+  !*.o*[ab]
+$ seek -H . /r
+
+# tree 38
+tree
+  d /r
+  d /r/.git
+  f 1 /r/a
+  d /r/b
+  f 1 /r/b/ab
+  f 1 /r/b/b
+rules /r/.gitignore
+  \a/
+  !.h\a\a/
+  **/
+rules /r/b/.gitignore
+  !//
+$ seek -H . /r
+  /r/.gitignore
+  /r/a
+
+# tree 39
+tree
+  d /r
+  d /r/.git
+  d /r/ab
+  d /r/ab/ab
+  d /r/ab/ab/c.o
+  f 1 /r/ab/ab/c.o/.h
+  f 1 /r/ab/ab/c.o/k.o
+  f 1 /r/ab/c.o
+rules /r/.gitignore
+  sub/
+rules /r/ab/.gitignore
+  [!a]b**/
+  ?[ab]b
+  /**/*
+$ seek -H . /r
+  /r/.gitignore
+  /r/ab
+
+# tree 40
+tree
+  d /r
+  d /r/.git
+  d /r/ab
+  f 1 /r/ab/sub
+  d /r/c.o
+  d /r/c.o/ab
+  f 1 /r/c.o/ab/ab
+  f 1 /r/c.o/ab/k.o
+  f 1 /r/c.o/ab/sub
+rules /r/.gitignore
+  !?**/\a
+  b[!a]
+  sub
+rules /r/c.o/ab/.gitignore
+  bsub
+$ seek -H . /r
+  /r/.gitignore
+  /r/ab
+  /r/c.o
+  /r/c.o/ab
+  /r/c.o/ab/.gitignore
+  /r/c.o/ab/ab
+  /r/c.o/ab/k.o
+
+# tree 41
+tree
+  d /r
+  d /r/.git
+  f 1 /r/a
+  d /r/ab
+  f 1 /r/ab/ab
+  f 1 /r/ab/b
+  d /r/sub
+  f 1 /r/sub/.h
+  d /r/sub/b
+  f 1 /r/sub/b/c.o
+rules /r/sub/b/.gitignore
+  *.oc.?sub/
+  !sub/
+  /**?
+$ seek -H . /r
+  /r/a
+  /r/ab
+  /r/ab/ab
+  /r/ab/b
+  /r/sub
+  /r/sub/.h
+  /r/sub/b
+
+# tree 42
+tree
+  d /r
+  d /r/.git
+  f 1 /r/.h
+  f 1 /r/ab
+  f 1 /r/k.o
+rules /r/.gitignore
+  **/*.oc.?
+  !sub
+  /**
+$ seek -H . /r
+
+# tree 43
+tree
+  d /r
+  d /r/.git
+  d /r/c.o
+  f 1 /r/c.o/.h
+  f 1 /r/c.o/c.o
+  f 1 /r/c.o/k.o
+rules /r/c.o/.gitignore
+  !b
+  /**?
+  !a
+$ seek -H . /r
+  /r/c.o
+
+# tree 44
+tree
+  d /r
+  d /r/.git
+  f 1 /r/b
+  d /r/k.o
+  f 1 /r/k.o/.h
+  f 1 /r/k.o/k.o
+rules /r/.git/info/exclude
+  !subsub
+  !sub*.o*
+  ![ab]subc.?/
+rules /r/.gitignore
+  \ab/
+  k.osub/**
+  !c.?/**
+rules /r/k.o/.gitignore
+  !k.o
+  .h
+$ seek -H . /r
+  /r/.gitignore
+  /r/b
+  /r/k.o
+  /r/k.o/.gitignore
+  /r/k.o/k.o
+
+# tree 45
+tree
+  d /r
+  d /r/.git
+  f 1 /r/.h
+  f 1 /r/a
+  d /r/b
+  f 1 /r/b/a
+  d /r/b/k.o
+  d /r/b/k.o/c.o
+  f 1 /r/b/k.o/c.o/b
+  f 1 /r/b/k.o/c.o/k.o
+rules /r/.git/info/exclude
+  /\ab
+rules /r/.gitignore
+  !**/
+rules /r/b/.gitignore
+  ***/
+rules /r/b/k.o/c.o/.gitignore
+  !*
+$ seek -H . /r
+  /r/.gitignore
+  /r/.h
+  /r/a
+  /r/b
+  /r/b/.gitignore
+  /r/b/a
+
+# tree 46
+tree
+  d /r
+  d /r/.git
+  d /r/k.o
+  f 1 /r/k.o/.h
+  d /r/k.o/a
+  f 1 /r/k.o/a/ab
+  f 1 /r/k.o/sub
+  f 1 /r/sub
+rules /r/.gitignore
+  *.o*/
+  aab
+  !sub/**/
+rules /r/k.o/a/.gitignore
+  ![!a]aba/
+$ seek -H . /r
+  /r/.gitignore
+  /r/sub
+
+# tree 47
+tree
+  d /r
+  d /r/.git
+  f 1 /r/.h
+  d /r/a
+  f 1 /r/a/c.o
+  d /r/a/sub
+  d /r/a/sub/a
+  f 1 /r/a/sub/a/a
+  f 1 /r/a/sub/a/c.o
+  f 1 /r/a/sub/b
+rules /r/.gitignore
+  sub
+rules /r/a/sub/.gitignore
+  sub**/
+  !c.??/
+  !/**/?
+$ seek -H . /r
+  /r/.gitignore
+  /r/.h
+  /r/a
+  /r/a/c.o
+
+# tree 48
+tree
+  d /r
+  d /r/.git
+  f 1 /r/.h
+  d /r/ab
+  f 1 /r/ab/a
+  d /r/ab/ab
+  f 1 /r/ab/ab/.h
+  d /r/ab/ab/k.o
+  f 1 /r/ab/ab/k.o/.h
+  f 1 /r/ab/ab/sub
+  f 1 /r/ab/c.o
+rules /r/.gitignore
+  subsub
+rules /r/ab/ab/.gitignore
+  !**/*k.o
+  *
+rules /r/ab/ab/k.o/.gitignore
+  ?[ab]/
+  [!a]a/
+  !a\a
+$ seek -H . /r
+  /r/.gitignore
+  /r/.h
+  /r/ab
+  /r/ab/a
+  /r/ab/ab
+  /r/ab/c.o
+
+# tree 49
+tree
+  d /r
+  d /r/.git
+  f 1 /r/ab
+  d /r/sub
+  f 1 /r/sub/.h
+rules /r/.git/info/exclude
+  c.?b[ab]/
+  /**
+rules /r/.gitignore
+  !sub
+  /
+$ seek -H . /r
+  /r/sub
+
 # tree 50
 tree
   d /r
   d /r/.git
-  f 1 /r/.gitignore
   f 1 /r/.h
   d /r/ab
   f 1 /r/ab/sub
@@ -24,10 +1054,8 @@ $ seek -H . /r
 tree
   d /r
   d /r/.git
-  f 1 /r/.gitignore
   f 1 /r/.h
   d /r/k.o
-  f 1 /r/k.o/.gitignore
   f 1 /r/k.o/.h
   d /r/k.o/ab
   f 1 /r/k.o/ab/.h
@@ -45,7 +1073,6 @@ $ seek -H . /r
 tree
   d /r
   d /r/.git
-  f 1 /r/.gitignore
   f 1 /r/.h
   d /r/c.o
   f 1 /r/c.o/sub
@@ -59,13 +1086,10 @@ $ seek -H . /r
 tree
   d /r
   d /r/.git
-  f 1 /r/.gitignore
   f 1 /r/ab
   d /r/k.o
   d /r/k.o/a
-  f 1 /r/k.o/a/.gitignore
   d /r/k.o/a/sub
-  f 1 /r/k.o/a/sub/.gitignore
   f 1 /r/k.o/a/sub/k.o
   f 1 /r/k.o/b
   f 1 /r/k.o/c.o
@@ -93,7 +1117,6 @@ $ seek -H . /r
 tree
   d /r
   d /r/.git
-  f 1 /r/.gitignore
   f 1 /r/ab
   f 1 /r/sub
 rules /r/.gitignore
@@ -108,10 +1131,8 @@ $ seek -H . /r
 tree
   d /r
   d /r/.git
-  f 1 /r/.gitignore
   f 1 /r/.h
   d /r/a
-  f 1 /r/a/.gitignore
   f 1 /r/a/a
   f 1 /r/a/k.o
 rules /r/.git/info/exclude
@@ -131,10 +1152,8 @@ $ seek -H . /r
 tree
   d /r
   d /r/.git
-  f 1 /r/.gitignore
   f 1 /r/ab
   d /r/k.o
-  f 1 /r/k.o/.gitignore
   f 1 /r/k.o/b
 rules /r/.gitignore
   [!a]
@@ -150,7 +1169,6 @@ $ seek -H . /r
 tree
   d /r
   d /r/.git
-  f 1 /r/.gitignore
   f 1 /r/.h
   f 1 /r/a
   d /r/k.o
@@ -176,11 +1194,9 @@ $ seek -H . /r
 tree
   d /r
   d /r/.git
-  f 1 /r/.gitignore
   f 1 /r/.h
   f 1 /r/c.o
   d /r/sub
-  f 1 /r/sub/.gitignore
   f 1 /r/sub/sub
 rules /r/.gitignore
   ?sub[!a]
@@ -197,9 +1213,7 @@ $ seek -H . /r
 tree
   d /r
   d /r/.git
-  f 1 /r/.gitignore
   d /r/b
-  f 1 /r/b/.gitignore
   f 1 /r/b/.h
 rules /r/.git/info/exclude
   /**
@@ -216,7 +1230,6 @@ $ seek -H . /r
 tree
   d /r
   d /r/.git
-  f 1 /r/.gitignore
   f 1 /r/ab
 rules /r/.gitignore
   ![ab]a[ab]
@@ -228,7 +1241,6 @@ $ seek -H . /r
 tree
   d /r
   d /r/.git
-  f 1 /r/.gitignore
   f 1 /r/a
   d /r/ab
   d /r/ab/sub
@@ -236,7 +1248,6 @@ tree
   f 1 /r/ab/sub/ab/a
   f 1 /r/ab/sub/ab/ab
   d /r/ab/sub/k.o
-  f 1 /r/ab/sub/k.o/.gitignore
   f 1 /r/ab/sub/k.o/b
 rules /r/.gitignore
   a
@@ -258,7 +1269,6 @@ $ seek -H . /r
 tree
   d /r
   d /r/.git
-  f 1 /r/.gitignore
   f 1 /r/.h
   d /r/ab
   f 1 /r/ab/b
@@ -279,7 +1289,6 @@ $ seek -H . /r
 tree
   d /r
   d /r/.git
-  f 1 /r/.gitignore
   f 1 /r/a
   d /r/b
   f 1 /r/b/.h
@@ -300,13 +1309,10 @@ $ seek -H . /r
 tree
   d /r
   d /r/.git
-  f 1 /r/.gitignore
   d /r/sub
   f 1 /r/sub/.h
   d /r/sub/c.o
-  f 1 /r/sub/c.o/.gitignore
   d /r/sub/c.o/a
-  f 1 /r/sub/c.o/a/.gitignore
   f 1 /r/sub/c.o/a/c.o
 rules /r/.gitignore
   k.o[!a]*
@@ -331,7 +1337,6 @@ $ seek -H . /r
 tree
   d /r
   d /r/.git
-  f 1 /r/.gitignore
   d /r/a
   f 1 /r/a/sub
   d /r/c.o
@@ -349,11 +1354,9 @@ $ seek -H . /r
 tree
   d /r
   d /r/.git
-  f 1 /r/.gitignore
   f 1 /r/.h
   d /r/c.o
   d /r/c.o/k.o
-  f 1 /r/c.o/k.o/.gitignore
   d /r/c.o/k.o/a
   f 1 /r/c.o/k.o/a/sub
   f 1 /r/k.o
@@ -376,7 +1379,6 @@ tree
   d /r
   d /r/.git
   d /r/k.o
-  f 1 /r/k.o/.gitignore
   f 1 /r/k.o/a
   f 1 /r/k.o/b
   d /r/k.o/k.o
@@ -402,7 +1404,6 @@ $ seek -H . /r
 tree
   d /r
   d /r/.git
-  f 1 /r/.gitignore
   d /r/ab
   f 1 /r/ab/b
 rules /r/.gitignore
@@ -416,7 +1417,6 @@ $ seek -H . /r
 tree
   d /r
   d /r/.git
-  f 1 /r/.gitignore
   d /r/c.o
   f 1 /r/c.o/b
   f 1 /r/sub
@@ -436,13 +1436,9 @@ $ seek -H . /r
 tree
   d /r
   d /r/.git
-  f 1 /r/.gitignore
   d /r/b
-  f 1 /r/b/.gitignore
   d /r/b/sub
-  f 1 /r/b/sub/.gitignore
   d /r/b/sub/a
-  f 1 /r/b/sub/a/.gitignore
   f 1 /r/b/sub/a/ab
   f 1 /r/b/sub/c.o
 rules /r/.gitignore
@@ -481,10 +1477,8 @@ $ seek -H . /r
 tree
   d /r
   d /r/.git
-  f 1 /r/.gitignore
   f 1 /r/.h
   d /r/c.o
-  f 1 /r/c.o/.gitignore
   f 1 /r/c.o/.h
   f 1 /r/c.o/b
   d /r/c.o/k.o
@@ -505,7 +1499,6 @@ $ seek -H . /r
 tree
   d /r
   d /r/.git
-  f 1 /r/.gitignore
   f 1 /r/a
 rules /r/.git/info/exclude
   b
@@ -521,7 +1514,6 @@ $ seek -H . /r
 tree
   d /r
   d /r/.git
-  f 1 /r/.gitignore
   f 1 /r/ab
 rules /r/.git/info/exclude
   a*?
@@ -536,9 +1528,7 @@ $ seek -H . /r
 tree
   d /r
   d /r/.git
-  f 1 /r/.gitignore
   d /r/a
-  f 1 /r/a/.gitignore
   f 1 /r/a/.h
   f 1 /r/a/sub
   f 1 /r/ab
@@ -559,7 +1549,6 @@ $ seek -H . /r
 tree
   d /r
   d /r/.git
-  f 1 /r/.gitignore
   f 1 /r/b
   f 1 /r/sub
 rules /r/.gitignore
@@ -571,7 +1560,6 @@ $ seek -H . /r
 tree
   d /r
   d /r/.git
-  f 1 /r/.gitignore
   f 1 /r/b
   d /r/c.o
   f 1 /r/c.o/k.o
@@ -587,12 +1575,9 @@ $ seek -H . /r
 tree
   d /r
   d /r/.git
-  f 1 /r/.gitignore
   d /r/a
-  f 1 /r/a/.gitignore
   d /r/a/k.o
   d /r/a/k.o/ab
-  f 1 /r/a/k.o/ab/.gitignore
   f 1 /r/a/k.o/ab/c.o
   f 1 /r/ab
   f 1 /r/sub
@@ -616,7 +1601,6 @@ $ seek -H . /r
 tree
   d /r
   d /r/.git
-  f 1 /r/.gitignore
   f 1 /r/.h
 rules /r/.gitignore
   ??
@@ -628,10 +1612,8 @@ $ seek -H . /r
 tree
   d /r
   d /r/.git
-  f 1 /r/.gitignore
   f 1 /r/.h
   d /r/a
-  f 1 /r/a/.gitignore
   f 1 /r/a/.h
   f 1 /r/a/k.o
   f 1 /r/b
@@ -655,7 +1637,6 @@ $ seek -H . /r
 tree
   d /r
   d /r/.git
-  f 1 /r/.gitignore
   f 1 /r/ab
 rules /r/.git/info/exclude
   \ab
@@ -671,13 +1652,10 @@ $ seek -H . /r
 tree
   d /r
   d /r/.git
-  f 1 /r/.gitignore
   d /r/ab
-  f 1 /r/ab/.gitignore
   f 1 /r/ab/.h
   d /r/ab/ab
   d /r/ab/ab/ab
-  f 1 /r/ab/ab/ab/.gitignore
   f 1 /r/ab/ab/ab/a
   f 1 /r/ab/ab/ab/c.o
   f 1 /r/ab/ab/ab/k.o
@@ -706,9 +1684,7 @@ $ seek -H . /r
 tree
   d /r
   d /r/.git
-  f 1 /r/.gitignore
   d /r/k.o
-  f 1 /r/k.o/.gitignore
   f 1 /r/k.o/ab
 rules /r/.git/info/exclude
   **ab
@@ -727,13 +1703,10 @@ $ seek -H . /r
 tree
   d /r
   d /r/.git
-  f 1 /r/.gitignore
   d /r/a
-  f 1 /r/a/.gitignore
   f 1 /r/a/b
   f 1 /r/a/sub
   d /r/ab
-  f 1 /r/ab/.gitignore
   f 1 /r/ab/.h
   f 1 /r/ab/b
   f 1 /r/ab/c.o
@@ -757,7 +1730,6 @@ $ seek -H . /r
 tree
   d /r
   d /r/.git
-  f 1 /r/.gitignore
   d /r/ab
   f 1 /r/ab/b
   d /r/ab/k.o
@@ -766,7 +1738,6 @@ tree
   f 1 /r/ab/k.o/sub
   f 1 /r/ab/sub
   d /r/b
-  f 1 /r/b/.gitignore
   f 1 /r/b/.h
 rules /r/.gitignore
   .h
@@ -791,11 +1762,8 @@ $ seek -H . /r
 tree
   d /r
   d /r/.git
-  f 1 /r/.gitignore
   d /r/c.o
-  f 1 /r/c.o/.gitignore
   d /r/c.o/a
-  f 1 /r/c.o/a/.gitignore
   f 1 /r/c.o/a/sub
   f 1 /r/c.o/c.o
   f 1 /r/k.o
@@ -817,13 +1785,10 @@ $ seek -H . /r
 tree
   d /r
   d /r/.git
-  f 1 /r/.gitignore
   d /r/ab
-  f 1 /r/ab/.gitignore
   f 1 /r/ab/c.o
   f 1 /r/ab/sub
   d /r/c.o
-  f 1 /r/c.o/.gitignore
   f 1 /r/c.o/a
   f 1 /r/sub
 rules /r/.gitignore
@@ -840,7 +1805,6 @@ $ seek -H . /r
 tree
   d /r
   d /r/.git
-  f 1 /r/.gitignore
   d /r/ab
   f 1 /r/ab/ab
   f 1 /r/ab/c.o
@@ -859,12 +1823,10 @@ $ seek -H . /r
 tree
   d /r
   d /r/.git
-  f 1 /r/.gitignore
   f 1 /r/ab
   d /r/sub
   d /r/sub/a
   d /r/sub/a/ab
-  f 1 /r/sub/a/ab/.gitignore
   f 1 /r/sub/a/ab/a
   f 1 /r/sub/a/ab/b
   f 1 /r/sub/a/ab/k.o
@@ -885,14 +1847,12 @@ $ seek -H . /r
 tree
   d /r
   d /r/.git
-  f 1 /r/.gitignore
   f 1 /r/.h
   d /r/b
   f 1 /r/b/ab
   d /r/b/sub
   f 1 /r/b/sub/.h
   d /r/b/sub/c.o
-  f 1 /r/b/sub/c.o/.gitignore
   f 1 /r/b/sub/c.o/k.o
   f 1 /r/b/sub/c.o/sub
 rules /r/.git/info/exclude
@@ -919,7 +1879,6 @@ $ seek -H . /r
 tree
   d /r
   d /r/.git
-  f 1 /r/.gitignore
   d /r/b
   d /r/b/a
   f 1 /r/b/a/a
@@ -937,16 +1896,13 @@ $ seek -H . /r
 tree
   d /r
   d /r/.git
-  f 1 /r/.gitignore
   d /r/ab
   f 1 /r/ab/.h
   d /r/ab/a
-  f 1 /r/ab/a/.gitignore
   f 1 /r/ab/a/b
   f 1 /r/ab/a/c.o
   f 1 /r/ab/a/k.o
   d /r/b
-  f 1 /r/b/.gitignore
   f 1 /r/b/c.o
   f 1 /r/k.o
 rules /r/.gitignore
@@ -971,9 +1927,7 @@ $ seek -H . /r
 tree
   d /r
   d /r/.git
-  f 1 /r/.gitignore
   d /r/sub
-  f 1 /r/sub/.gitignore
   f 1 /r/sub/sub
 rules /r/.git/info/exclude
   ababb
@@ -990,14 +1944,11 @@ $ seek -H . /r
 tree
   d /r
   d /r/.git
-  f 1 /r/.gitignore
   f 1 /r/b
   d /r/sub
-  f 1 /r/sub/.gitignore
   d /r/sub/ab
   f 1 /r/sub/ab/.h
   d /r/sub/ab/ab
-  f 1 /r/sub/ab/ab/.gitignore
   f 1 /r/sub/ab/ab/c.o
 rules /r/.git/info/exclude
   !k.ob?/
@@ -1025,16 +1976,13 @@ $ seek -H . /r
 tree
   d /r
   d /r/.git
-  f 1 /r/.gitignore
   d /r/a
   f 1 /r/a/.h
   d /r/a/a
-  f 1 /r/a/a/.gitignore
   d /r/a/a/ab
   f 1 /r/a/a/ab/b
   f 1 /r/a/a/ab/sub
   d /r/c.o
-  f 1 /r/c.o/.gitignore
   f 1 /r/c.o/.h
   f 1 /r/k.o
 rules /r/.gitignore
@@ -1060,7 +2008,6 @@ $ seek -H . /r
 tree
   d /r
   d /r/.git
-  f 1 /r/.gitignore
   f 1 /r/ab
   d /r/k.o
   f 1 /r/k.o/.h
@@ -1075,10 +2022,8 @@ $ seek -H . /r
 tree
   d /r
   d /r/.git
-  f 1 /r/.gitignore
   d /r/a
   d /r/a/k.o
-  f 1 /r/a/k.o/.gitignore
   f 1 /r/a/k.o/b
   f 1 /r/a/k.o/sub
   f 1 /r/c.o
@@ -1097,10 +2042,8 @@ $ seek -H . /r
 tree
   d /r
   d /r/.git
-  f 1 /r/.gitignore
   d /r/c.o
   d /r/c.o/a
-  f 1 /r/c.o/a/.gitignore
   f 1 /r/c.o/a/.h
   d /r/c.o/a/k.o
   f 1 /r/c.o/a/k.o/.h
@@ -1130,7 +2073,6 @@ $ seek -H . /r
 tree
   d /r
   d /r/.git
-  f 1 /r/.gitignore
   f 1 /r/ab
   d /r/b
   f 1 /r/b/ab
