@@ -1,3 +1,5 @@
+-- Colors, as `ls --color=always` and `fd --color=always` print them.
+
 # the colors of ls
 tree
   d /c
@@ -6,6 +8,7 @@ tree
   d /c/d.txt
   l a.txt	/c/l
   p /c/p
+  s /c/s
   f 1 /c/B.TXT
   f 1 /c/README
   f 1 /c/a.txt
@@ -96,8 +99,43 @@ $ LS_COLORS=di=33:x:ln=31 seek --color=always --base-directory=/c ^l$
   \x1b[31ml\x1b[0m
 $ LS_COLORS==33:*.txt=35 seek --color=always --base-directory=/c ^a\.txt$
   \x1b[35ma.txt\x1b[0m
+$ LS_COLORS=so=31 seek --color=always --base-directory=/c ^s$
+  \x1b[31ms\x1b[0m
+
+# the colors of devices
+tree
+  b 7:250 /c/b
+  c 1:3 /c/c
+$ LS_COLORS=bd=31:cd=32 seek --color=always --base-directory=/c ^b$
+  \x1b[31mb\x1b[0m
+$ LS_COLORS=bd=31:cd=32 seek --color=always --base-directory=/c ^c$
+  \x1b[32mc\x1b[0m
+
+# folders and names
+tree
+  f 1 /c/f
+  f 1 /c/a/b/f
+  f 1 /c/a/g
+  l g	/c/a/l
+  d /c/d
+  f 1 /c/a.c
+$ LS_COLORS='' seek --color=always --base-directory=/c -d1 ^f$
+  f
+$ LS_COLORS='' seek --color=always --base-directory=/c ^f$ a
+  \x1b[01;34ma/b/\x1b[0mf
+$ LS_COLORS='' seek --color=always --base-directory=/c ^f$ a/b/
+  \x1b[01;34ma/b/\x1b[0mf
+$ LS_COLORS=di=0 seek --color=always --base-directory=/c ^g$
+  a/g
+$ LS_COLORS='' seek --color=always --base-directory=/c ^l$
+  \x1b[01;34ma/\x1b[0m\x1b[01;36ml\x1b[0m
+$ LS_COLORS='' seek --color=always --base-directory=/c ^d$
+  \x1b[01;34md\x1b[0m
+$ LS_COLORS=*.c=31 seek --color=always --base-directory=/c ^a\.c$
+  \x1b[31ma.c\x1b[0m
 
 # the colors of links
+-- Links that are followed and left have the color that `fd -L` prints.
 tree
   d /t
   f 1 /t/a

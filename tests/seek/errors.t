@@ -1,3 +1,5 @@
+-- Errors of walks.
+
 # a root that is missing
 tree
   d /r
@@ -101,3 +103,27 @@ $ seek -LH -E c -tl . /r
 $ seek -L . /r/c
 ! seek: /r/c: Not a directory
 = 1
+
+# a root that is missing in a folder that is there
+$ seek . /r/none
+! seek: /r/none: No such file or directory (os error 2)
+= 1
+
+# an error has no control characters on a terminal
+$ seek . '/no\x1b[2J\xc2\x9b\x09é'
+! seek: /no\x1b[2J\xc2\x9b\x09é: No such file or directory (os error 2)
+= 1
+ttyerr$ seek . '/no\x1b[2J\xc2\x9b\x09é'
+! seek: /no?[2J??é: No such file or directory (os error 2)
+= 1
+
+# three hundred links in a ring
+tree
+  l {001..299}	/r/{000..298}
+  l 000	/r/299
+$ seek -tl . /r
+  /r/{000..299}
+$ seek -L . /r
+! seek: /r/{000..299}: Too many levels of symbolic links (os error 40)
+= 1
+any order

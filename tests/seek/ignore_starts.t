@@ -203,3 +203,17 @@ $ seek -H -L . /r
   /r/b
 ! seek: /r/.git: a link that leads back to /r
 = 1
+
+# a file of rules is a regular file, at the root and above it
+tree
+  d /k
+  l nowhere	/k/.git
+  d /k/.gitignore
+  l rules	/k/.ignore
+  d /k/s
+  f 0 /k/s/a
+  l ../rules	/k/s/.ignore
+rules /k/rules
+  a
+$ seek . /k/s
+  /k/s/a

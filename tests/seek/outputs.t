@@ -1,3 +1,5 @@
+-- Outputs.
+
 # control characters on a terminal
 tree
   d /t
@@ -20,3 +22,9 @@ $ seek . /t
   /t/\x1b[31m
   /t/\x1b[31m/a\xc2\x9bb
   /t/\x7fé\x09
+
+# a long output is written whole
+tree
+  f 1 /r/<<a file of a long name *4>>{0000..1499}
+$ seek . /r
+  /r/<<a file of a long name *4>>{0000..1499}

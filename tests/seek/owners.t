@@ -1,66 +1,53 @@
+-- Files of an owner, as `fd --owner` finds them.
+
 # files of an owner
 tree
-  f 1 /o/a
-  o 1000:7 /o/a
-$ seek --owner=1000 . /o
-  /o/a
-
-tree
-  f 1 /o/a
-  o 1001:7 /o/a
-$ seek --owner=1000 . /o
-
-tree
-  f 1 /o/a
-  o 1000:7 /o/a
-$ seek --owner=1000: . /o
-  /o/a
-$ seek --owner=:7 . /o
-  /o/a
-
-tree
-  f 1 /o/a
-  o 7:1000 /o/a
-$ seek --owner=:7 . /o
-
-tree
-  f 1 /o/a
-  o 1000:7 /o/a
-$ seek --owner=1000:7 . /o
-  /o/a
-
-tree
-  f 1 /o/a
-  o 1000:8 /o/a
-$ seek --owner=1000:7 . /o
-
-tree
-  f 1 /o/a
-  o 1000:0 /o/a
-$ seek --owner=!0 . /o
-  /o/a
-
-tree
-  f 1 /o/a
-  o 0:1000 /o/a
-$ seek --owner=!0 . /o
-
-tree
-  f 1 /o/a
-  o 1000:7 /o/a
-$ seek --owner=!0:!0 . /o
-  /o/a
-
-tree
-  f 1 /o/a
-  o 1000:0 /o/a
-$ seek --owner=!0:!0 . /o
-
-tree
-  f 1 /o/a
-  o 0:7 /o/a
-$ seek --owner=:!0 . /o
-  /o/a
+  f 1 /o/0-7
+  f 1 /o/0-1000
+  f 1 /o/0-4294967294
+  f 1 /o/7-1000
+  f 1 /o/1000-0
+  f 1 /o/1000-7
+  f 1 /o/1000-8
+  f 1 /o/1001-7
+  o 0:7 /o/0-7
+  o 0:1000 /o/0-1000
+  o 0:4294967294 /o/0-4294967294
+  o 7:1000 /o/7-1000
+  o 1000:0 /o/1000-0
+  o 1000:7 /o/1000-7
+  o 1000:8 /o/1000-8
+  o 1001:7 /o/1001-7
+$ seek --owner=1000 ^1000-7$ /o
+  /o/1000-7
+$ seek --owner=1000 ^1001-7$ /o
+$ seek --owner=1000: ^1000-7$ /o
+  /o/1000-7
+$ seek --owner=:7 ^7-1000$ /o
+$ seek --owner=1000:7 ^1000-7$ /o
+  /o/1000-7
+$ seek --owner=1000:7 ^1000-8$ /o
+$ seek --owner=!0 ^1000-0$ /o
+  /o/1000-0
+$ seek --owner=!0 ^0-1000$ /o
+$ seek --owner=!0:!0 ^1000-7$ /o
+  /o/1000-7
+$ seek --owner=!0:!0 ^1000-0$ /o
+$ seek --owner=:!0 ^0-7$ /o
+  /o/0-7
+$ seek --owner=0000:4294967294 ^0-4294967294$ /o
+  /o/0-4294967294
+-- All of them.
+$ seek -o !0 . /o
+  /o/1000-0
+  /o/1000-7
+  /o/1000-8
+  /o/1001-7
+  /o/7-1000
+$ seek -o :7 . /o
+  /o/0-7
+  /o/1000-7
+  /o/1001-7
 
 # other texts are no owner
 tree

@@ -1,3 +1,5 @@
+-- Ignore files.
+
 # rules leave out what they name
 tree
   d /r
@@ -134,3 +136,44 @@ rules /r/.ignore
 $ seek . /r
   /r/b.o
   /r/c
+
+# rules, exclude and ignore together
+tree
+  d /k
+  d /k/.git
+  d /k/.git/info
+  f 0 /k/a.c
+  f 0 /k/a.o
+  f 0 /k/k.o
+  d /k/d
+  f 0 /k/d/x
+  d /k/e
+  f 0 /k/e/x
+  f 0 /k/e/y
+  l a.c	/k/l
+  f 0 /k/new\x0aline
+rules /k/.git/info/exclude
+  /d
+rules /k/.gitignore
+  *.o
+  !k.o
+rules /k/e/.ignore
+  y
+$ seek --sort . /k
+  /k/a.c
+  /k/e
+  /k/e/x
+  /k/k.o
+  /k/l
+  /k/new
+  line
+$ seek -H --sort ignore /k
+  /k/.gitignore
+  /k/e/.ignore
+$ seek -I --sort [ox]$ /k
+  /k/a.o
+  /k/d/x
+  /k/e/x
+  /k/k.o
+$ seek --type=l . /k
+  /k/l

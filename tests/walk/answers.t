@@ -70,6 +70,7 @@ $ walk /t
   ! 2 /t/closed/x PermissionDenied
   ! 2 /t/closed/y PermissionDenied
 = 1
+any order
 $ walk --usage /t
   files 0 dirs 2 links 0 others 0 errors 2 bytes 0
 = 1
