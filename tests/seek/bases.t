@@ -1,3 +1,5 @@
+-- `--base-directory`.
+
 # a base
 tree
   d /t

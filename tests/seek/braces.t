@@ -1,3 +1,5 @@
+-- Braces in globs and in lines of `-E`.
+
 # a glob takes what one of its texts takes
 tree
   d /t
@@ -79,6 +81,16 @@ $ seek -E a -E {{a,b}{a,b}{a,b}{a,b}{a,b}{a,b}{a,b}{a,b}{a,b}{a,b},a} txt /t
 ! seek: bad pattern '{{a,b}{a,b}{a,b}{a,b}{a,b}{a,b}{a,b}{a,b}{a,b}{a,b},a}': short for more than 1024 others
 = 2
 $ seek -F {{a,b}{a,b}{a,b}{a,b}{a,b}{a,b}{a,b}{a,b}{a,b}{a,b},a} /t
+
+# long and deep texts
+$ seek -g <<{a,b}*20000>> /t
+! seek: bad pattern '<<{a,b}*20000>>': short for more than 1024 others
+= 2
+$ seek -g <<{*50000>> /t
+$ seek -g <<{x*20000>><<y}*20000>> /t
+$ seek -E <<{x,*2000>><<}*2000>> . /t
+! seek: bad pattern '<<{x,*2000>><<}*2000>>': short for more than 1024 others
+= 2
 
 # braces and commas that are themselves
 tree

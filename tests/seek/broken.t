@@ -1,3 +1,5 @@
+-- Links that lead nowhere, in colors.
+
 # links by where they lead
 tree
   d /b

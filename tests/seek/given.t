@@ -1,3 +1,5 @@
+-- Ignore files that a call names, and those of the user.
+
 # ignore files that are named
 tree
   d t

@@ -1,3 +1,5 @@
+-- The text of help.
+
 # no dots behind options that take nothing
 tree
   d /t

@@ -1,3 +1,5 @@
+-- Sizes and roots that begin with a hyphen.
+
 # a size in a word of its own
 tree
   d /s
@@ -48,7 +50,7 @@ $ seek -S -H . /s
 !~ '--size <SIZE>'
 = 2
 $ seek -S - . /s
-!~ -
+! seek: '-' is no size: write a number and a unit, as in +10k, with + for at least and - for at most that
 = 2
 $ seek -d -1 . /s
 !~ --max-depth
@@ -56,7 +58,7 @@ $ seek -d -1 . /s
 
 # a root of the name of an option or of a size
 $ seek -- --size -1k
-!~ -1k
+! seek: -1k: No such file or directory (os error 2)
 = 1
 $ seek -tf -- ^a /s --
   /s/a.S

@@ -1,3 +1,5 @@
+-- Each option.
+
 # hidden
 tree
   d /t
@@ -452,3 +454,11 @@ $ seek -L --prune z /r
   /r/z
 ! seek: /r/x/up: a link that leads back to /r
 = 1
+
+# one file system
+$ seek --one-file-system ^ptmx$ /dev
+  /dev/ptmx
+$ seek --mount ^ptmx$ /dev
+  /dev/ptmx
+$ seek --xdev ^ptmx$ /dev
+  /dev/ptmx

@@ -52,47 +52,47 @@ $ seek -o :7 . /o
 # other texts are no owner
 tree
 $ seek --owner=
-!~ is no owner
+!~ '' is no owner
 = 2
 $ seek --owner=:
-!~ is no owner
+!~ ':' is no owner
 = 2
 $ seek --owner=!
-!~ is no owner
+!~ '!' is no owner
 = 2
 $ seek --owner=!:
-!~ is no owner
+!~ '!:' is no owner
 = 2
 $ seek --owner=::
-!~ is no owner
+!~ '::' is no owner
 = 2
 $ seek --owner=1:2:3
-!~ is no owner
+!~ '1:2:3' is no owner
 = 2
 $ seek --owner=root
-!~ is no owner
+!~ 'root' is no owner
 = 2
 $ seek --owner=0:root
-!~ is no owner
+!~ '0:root' is no owner
 = 2
 $ seek --owner=+5
-!~ is no owner
+!~ '+5' is no owner
 = 2
 $ seek --owner=-1
-!~ is no owner
+!~ '-1' is no owner
 = 2
 $ seek '--owner= 1'
-!~ is no owner
+!~ ' 1' is no owner
 = 2
 $ seek '--owner=1 '
-!~ is no owner
+!~ '1 ' is no owner
 = 2
 $ seek --owner=!!1
-!~ is no owner
+!~ '!!1' is no owner
 = 2
 $ seek --owner=0x1
-!~ is no owner
+!~ '0x1' is no owner
 = 2
 $ seek --owner=4294967296
-!~ is no owner
+!~ '4294967296' is no owner
 = 2

@@ -1,3 +1,5 @@
+-- Patterns.
+
 # a dot and an empty pattern list all
 tree
   d /t

@@ -1,3 +1,5 @@
+-- `--path-separator`.
+
 # a separator
 tree
   d /t

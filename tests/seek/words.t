@@ -1,3 +1,5 @@
+-- Words that ask for no search.
+
 # bad words are named
 tree
   d /t
