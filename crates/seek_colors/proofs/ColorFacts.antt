@@ -5,7 +5,7 @@ use Rattle.std.specs.List.{cons_option, filter, list_all}
 use Rattle.std.specs.Option.{is_none, option_map, option_or}
 use Rattle.std.proofs.lemmas.List.{reverse-append}
 use Rattle.seek_colors.specs.Entries.{entries_among, entries_in, entry_in, is_color_byte, is_entry, parts_in}
-use Rattle.seek_colors.specs.Palette.{Colors, defaults, directory_color, file_color, has_all, has_any, is_visible, marked, name_color, kinds_in, own_color, palette_in, suffix_in, suffixes_in, visible, GivesColorsAlone}
+use Rattle.seek_colors.specs.Palette.{Colors, defaults, directory_color, file_color, has_all, has_any, is_visible, marked, mode_defaults, name_color, kinds_in, own_color, palette_in, suffix_in, suffixes_in, visible, GivesColorsAlone}
 use Rattle.seek_colors.specs.Table.{key_color, last_color, suffix_color}
 use Rattle.seek_colors.specs.declared.kind.Kind.{Kind}
 use Rattle.seek_colors.specs.declared.kind.Kind.TheVariants.{Directory, Link, BrokenLink, File, Pipe, Socket, BlockDevice, CharDevice, Other}
@@ -137,5 +137,6 @@ suffixes_of text = suffixed (entries_in text) (among (parts_in text))
 -- the colours of a text are of digits and `;` alone
 pub colors_alone : (text : List ℕ) (colors : Colors) → colors.kinds ≡ (palette_in text).kinds → colors.suffixes ≡ (palette_in text).suffixes → GivesColorsAlone colors
 colors_alone text colors kinds suffixes =
-    given colors (subst Are (sym kinds) (both (kinds_in (entries_in defaults)) _ (kinds_of defaults) (kinds_of text)))
-    (subst Are (sym suffixes) (both (suffixes_in (entries_in defaults)) _ (suffixes_of defaults) (suffixes_of text)))
+    given colors
+    (subst Are (sym kinds) (both (kinds_in (entries_in defaults) ++ kinds_in (entries_in mode_defaults)) (kinds_in (entries_in text)) (both (kinds_in (entries_in defaults)) (kinds_in (entries_in mode_defaults)) (kinds_of defaults) (kinds_of mode_defaults)) (kinds_of text)))
+    (subst Are (sym suffixes) (both (suffixes_in (entries_in defaults) ++ suffixes_in (entries_in mode_defaults)) (suffixes_in (entries_in text)) (both (suffixes_in (entries_in defaults)) (suffixes_in (entries_in mode_defaults)) (suffixes_of defaults) (suffixes_of mode_defaults)) (suffixes_of text)))

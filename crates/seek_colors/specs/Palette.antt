@@ -34,13 +34,17 @@ suffixes_in = filter_map (λ entry. option_map (λ suffix. (suffix, entry.1)) (s
 
 -- the default colours
 abbrev pub defaults : List ℕ
-defaults = codes "di=01;34:ln=01;36:ex=01;32:pi=40;33:so=01;35:bd=40;33;01:cd=40;33;01:or=40;31;01:su=37;41:sg=30;43:tw=30;42:ow=34;42:st=37;44"
+defaults = codes "di=01;34:ln=01;36:ex=01;32:pi=40;33:so=01;35:bd=40;33;01:cd=40;33;01:or=40;31;01"
+
+-- the default colours of kinds that a mode tells
+abbrev pub mode_defaults : List ℕ
+mode_defaults = codes "su=37;41:sg=30;43:tw=30;42:ow=34;42:st=37;44"
 
 -- the colours of the value of `LS_COLORS`
 abbrev pub palette_in : List ℕ → Colors
 palette_in text = record {
-  kinds = kinds_in (entries_in defaults) ++ kinds_in (entries_in text);
-  suffixes = suffixes_in (entries_in defaults) ++ suffixes_in (entries_in text);
+  kinds = (kinds_in (entries_in defaults) ++ kinds_in (entries_in mode_defaults)) ++ kinds_in (entries_in text);
+  suffixes = (suffixes_in (entries_in defaults) ++ suffixes_in (entries_in mode_defaults)) ++ suffixes_in (entries_in text);
 }
 
 -- whether a colour differs from that of any text

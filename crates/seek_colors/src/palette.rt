@@ -12,8 +12,10 @@ use std::alloc::{AllocError, Allocator, Global};
 
 /// The entries before those of `LS_COLORS`.
 const DEFAULTS: &str =
-    "di=01;34:ln=01;36:ex=01;32:pi=40;33:so=01;35:bd=40;33;01:cd=40;33;01:or=40;31;01:\
-     su=37;41:sg=30;43:tw=30;42:ow=34;42:st=37;44";
+    "di=01;34:ln=01;36:ex=01;32:pi=40;33:so=01;35:bd=40;33;01:cd=40;33;01:or=40;31;01";
+
+/// Those of kinds that a mode tells.
+const MODE_DEFAULTS: &str = "su=37;41:sg=30;43:tw=30;42:ow=34;42:st=37;44";
 
 /// The colors by the kinds of entries and by the ends of names.
 #[derive(Drop)]
@@ -106,6 +108,7 @@ impl Palette {
             suffixes: Table::new(alloc),
         };
         palette.add(alloc, DEFAULTS)?;
+        palette.add(alloc, MODE_DEFAULTS)?;
         palette.add(alloc, text)?;
         Ok(palette)
     }
