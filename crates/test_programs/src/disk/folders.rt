@@ -1,5 +1,5 @@
 //! Walks from folders, files, links and other things on the disk.
-use crate::disk::walks::{Walk, Wanted, yields_on_disk};
+use crate::disk::walks::{Walk, Wanted, yields_on_disk, yields_on_disk_in_batches};
 use std::{env, io};
 use test_fixtures::folder::{Step, make, path_in, remove};
 use test_fixtures::ways::Setting;
@@ -203,7 +203,7 @@ fn holds_in(rt: &HostRuntime, folder: &str, row: &Row) -> io::Result<bool> {
         root: root.as_str(),
         settings: row.settings,
     };
-    Ok(yields_on_disk(rt, &walk, wanted)?)
+    Ok(yields_on_disk(rt, &walk, wanted)? && yields_on_disk_in_batches(rt, &walk, wanted)?)
 }
 
 /// Makes the folder of a row, and removes it after the walk.

@@ -1,11 +1,13 @@
 //! Walks, and what they must yield.
 use crate::disk::kept::{are_as_made, are_same, keep_none};
+use jwalk::Parallelism;
 use jwalk::file_system::{FileSystem, RealFs};
 use std::alloc::{AllocError, Global};
+use std::thread::Threads;
 use std::{fs, slice};
 use test_fixtures::answers::{Answer, are_lines};
 use test_fixtures::builders::{Builder, builder};
-use test_fixtures::ways::{Setting, all_of, with_all};
+use test_fixtures::ways::{Setting, all_of, all_on_threads, with_all};
 
 /// A walk that has not begun.
 #[derive(Clone, Copy)]
@@ -72,6 +74,19 @@ pub(super) fn yields<S: FileSystem>(
     Ok(is_so(alloc, found.as_slice(), wanted))
 }
 
+/// Returns whether a walk yields what it must, two directories at a time that threads read.
+fn yields_in_batches<R: Threads + AllocGlobal + Sync, S: FileSystem + Send + Sync>(
+    rt: &R,
+    fs: S,
+    asked: &Walk<'_>,
+    wanted: Wanted<'_>,
+) -> Result<bool, AllocError> {
+    let walk: Builder<S> = with_all(builder(rt.alloc(), fs, asked.root)?, asked.settings);
+    let walk = walk.parallelism(Parallelism::RayonNewPool(2));
+    let found = all_on_threads(rt, rt.alloc(), walk.into_iter())?;
+    Ok(is_so(rt.alloc(), found.as_slice(), wanted))
+}
+
 /// Returns whether a walk over the disk yields what it must.
 pub(super) fn yields_on_disk(
     rt: &HostRuntime,
@@ -79,4 +94,13 @@ pub(super) fn yields_on_disk(
     wanted: Wanted<'_>,
 ) -> Result<bool, AllocError> {
     yields(rt.alloc(), RealFs::new(*rt), asked, wanted)
+}
+
+/// Returns whether a walk over the disk yields what it must, in batches.
+pub(super) fn yields_on_disk_in_batches(
+    rt: &HostRuntime,
+    asked: &Walk<'_>,
+    wanted: Wanted<'_>,
+) -> Result<bool, AllocError> {
+    yields_in_batches(rt, RealFs::new(*rt), asked, wanted)
 }
