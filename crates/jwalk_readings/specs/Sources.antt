@@ -47,7 +47,7 @@ module _ {C S P A R E : Type 0} (files : FileSystem.Ghosts S) (process : Process
     reading = λ given. reading (job_by files given base.job);
     told = ToldBy base.by_crew base.job;
     below = λ x spec. IsNextBelow base.by_crew x (spec ∷ []);
-    enters = EntersBy files process clone defaults base.by_crew base.job base.width;
+    enters = EntersBy base.by_crew base.job base.width;
     tells = Tells base.by_crew;
   }
 

@@ -11,7 +11,6 @@ ghost use Rattle.std.specs.Prelude.{IfOk, IfErr};
 ghost use Rattle.std.specs.Iterator.{IsFinite};
 ghost use Rattle.jwalk_usage.specs.Counts.{CountsAll, CountsRest, StopsCounting, StopsCountingRest};
 
-mod by_answers;
 mod counting;
 pub mod kept;
 pub mod report;
