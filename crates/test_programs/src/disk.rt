@@ -1,10 +1,9 @@
-//! Walks over the real disk, and over disks whose answers are in a table.
-pub mod lines;
-mod links;
+//! Walks over folders on the disk, and over disks whose answers are in a table.
+mod folders;
+mod kept;
+mod large;
 mod listings;
 mod metadata;
-mod real;
-mod refusals;
-mod sizes;
+mod removed;
 mod told;
 mod walks;

@@ -1,11 +1,11 @@
-//! The output of the programs `walk` and `tally` and of the small programs of `examples`, and walks over a disk.
+//! What rows of text files can't say of the programs `walk` and `tally`, and walks over a disk.
 #![tactic(auto)]
 
 #[cfg(test)]
 mod disk;
 #[cfg(test)]
-mod program;
-#[cfg(test)]
-mod small_programs;
+mod output;
 #[cfg(test)]
 mod tally;
+#[cfg(test)]
+mod walk;

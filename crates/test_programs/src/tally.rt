@@ -1,10 +1,6 @@
-//! Runs of the program `tally`.
-mod files;
-mod forms;
-mod left_out;
-mod lines;
-mod numbered;
+//! Calls of the program `tally`, and subtotals where memory is refused.
+mod calls;
+mod clock;
+mod disk;
 mod refused;
-mod runs;
-mod stopped;
-mod told;
+mod rows;

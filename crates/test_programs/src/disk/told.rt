@@ -158,7 +158,7 @@ impl Calls {
 
     /// Returns the number of calls that open a directory, look at a path, look at the target of a path, and read the
     /// text of a link.
-    pub fn counts(&self) -> (usize, usize, usize, usize) {
+    pub(super) fn counts(&self) -> (usize, usize, usize, usize) {
         (
             self.opens.get(),
             self.looks.get(),

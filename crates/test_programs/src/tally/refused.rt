@@ -1,6 +1,5 @@
 //! Subtotals where each request for memory is refused, or all from each on.
-use crate::tally::files::{KNOWN, TREE};
-use crate::tally::numbered::Numbered;
+use crate::tally::disk::{Disk, KNOWN, TREE};
 use jwalk::file_system::FileSystem;
 use jwalk::read_dir::NoProcess;
 use jwalk::{ClientState, DirEntryIter, WalkDirGeneric};
@@ -10,6 +9,7 @@ use std::alloc::{Allocator, Global};
 use test_fixtures::refused::outcome::Outcome;
 use test_fixtures::refused::turns::{MOST, Repeated, first_wrong};
 use test_fixtures::refusing_alloc::Refusing;
+use test_fixtures::watched::{Failing, Watched};
 use test_fixtures::width::Width;
 use walk_text::tree::build_tree;
 
@@ -37,7 +37,7 @@ const ROWS: &[(&str, u128)] = &[
 /// Subtotals of the tree that are taken again and again, with the number of directories that are read together.
 #[derive(Drop)]
 struct Play {
-    disk: Numbered,
+    disk: Disk,
     width: Width,
 }
 
@@ -118,7 +118,8 @@ fn a_beginning_comes_and_one_error_where_memory_is_refused(rt: HostRuntime) {
         for many in &[1, MOST] {
             let wrong = match build_tree(rt.alloc(), TREE.as_bytes()) {
                 Ok(tree) => {
-                    let disk = Numbered { tree, known: KNOWN };
+                    let tree = Watched::new(tree, Failing::Never);
+                    let disk = Disk { tree, known: KNOWN };
                     let play = Play {
                         disk,
                         width: *width,

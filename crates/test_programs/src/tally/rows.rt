@@ -1,0 +1,210 @@
+//! Disks with details that no folder of a test can have, disks and outputs that fail, and clocks.
+use crate::tally::calls::{CALL, Call, FILE, first_wrong};
+use crate::tally::disk::{KNOWN, TREE};
+use tally_run::screen::Screen;
+use test_fixtures::watched::Failing;
+
+/// One directory at a time, and by three threads.
+const WAYS: &[&str] = &["-j1", "-j3"];
+
+/// One directory at a time.
+const IN_TURN: &[&str] = &["-j1"];
+
+const NUMBERED: Call<'static> = Call {
+    tree: TREE,
+    known: KNOWN,
+    ..CALL
+};
+
+#[test]
+fn a_file_with_two_names_counts_at_the_first_and_each_device_is_one_file_system(rt: HostRuntime) {
+    const CALLS: &[Call] = &[
+        // The directories come in the order of the listing.
+        Call {
+            words: &["--plain", "-b", "/r"],
+            out: Some("16384\t/r/b\n4096\t/r/a\n8192\t/r/c\n32768\t/r\n"),
+            ..NUMBERED
+        },
+        Call {
+            words: &["--plain", "-x", "-b", "/r"],
+            out: Some("16384\t/r/b\n4096\t/r/a\n4096\t/r/c\n28672\t/r\n"),
+            ..NUMBERED
+        },
+        // Entries that aren't read from the first root are counted from the second.
+        Call {
+            words: &["--plain", "-x", "-s", "-b", "/r", "/r/c"],
+            out: Some("28672\t/r\n8192\t/r/c\n"),
+            ..NUMBERED
+        },
+    ];
+    assert_eq!(rt; first_wrong(&rt, WAYS, CALLS), None);
+}
+
+/// A directory after others, for whose listing memory runs out.
+const STOPPED: Call<'static> = Call {
+    tree: "d /r\nd /r/a\nf 1 /r/a/x\nd /r/s\nf 2 /r/s/y\nf 3 /r/z\n",
+    failing: Failing::ListForMemory("/r/s"),
+    err: "tally: memory refused for the walk\n",
+    status: 1,
+    ..CALL
+};
+
+#[test]
+fn a_walk_without_memory_ends_the_call_and_nothing_is_written(rt: HostRuntime) {
+    const CALLS: &[Call] = &[
+        Call {
+            words: &["--plain", "/r/a", "/r/s", "/r"],
+            ..STOPPED
+        },
+        Call {
+            words: &["-0", "/r/a", "/r/s", "/r"],
+            ..STOPPED
+        },
+        Call {
+            words: &["--json", "/r/a", "/r/s", "/r"],
+            ..STOPPED
+        },
+        Call {
+            words: &["-b", "/r/a", "/r/s", "/r"],
+            ..STOPPED
+        },
+    ];
+    assert_eq!(rt; first_wrong(&rt, WAYS, CALLS), None);
+}
+
+/// A tree of three directories. One file is hidden.
+const GROUPS: Call<'static> = Call {
+    tree: "d /t\nf 1 /t/c.txt\nf 2 /t/a.txt\nd /t/group 2\nf 3 /t/group 2/.hidden_file.txt\n\
+           f 4 /t/group 2/e.txt\nd /t/group 1\nf 5 /t/group 1/d.txt\nf 6 /t/b.txt\n",
+    ..CALL
+};
+
+/// An output that takes five bytes.
+const FULL: Call<'static> = Call {
+    room: 5,
+    status: 1,
+    ..GROUPS
+};
+
+#[test]
+fn an_output_that_cannot_be_written_ends_the_call(rt: HostRuntime) {
+    const CALLS: &[Call] = &[
+        Call {
+            words: &["--plain", "-b", "--apparent", "/t"],
+            out: Some("7\t/t/"),
+            ..FULL
+        },
+        // Each line is written at once to a terminal.
+        Call {
+            words: &["--plain", "-b", "--apparent", "/t"],
+            screen: Screen {
+                is_terminal: true,
+                ..FILE
+            },
+            out: Some("7\t/t/"),
+            ..FULL
+        },
+        Call {
+            words: &["--apparent", "-s", "/t"],
+            out: Some("    2"),
+            ..FULL
+        },
+        Call {
+            words: &["--json", "-s", "/t"],
+            out: Some("[{\"by"),
+            ..FULL
+        },
+    ];
+    assert_eq!(rt; first_wrong(&rt, WAYS, CALLS), None);
+}
+
+/// Standard error is a terminal, and the clock goes on by more than half a second each time that it is read.
+const ERRORS: Call<'static> = Call {
+    screen: Screen {
+        shows_errors: true,
+        ..FILE
+    },
+    millis: 600,
+    out: None,
+    ..GROUPS
+};
+
+/// So is standard output.
+const BOTH: Call<'static> = Call {
+    screen: Screen {
+        is_terminal: true,
+        shows_errors: true,
+        ..FILE
+    },
+    ..ERRORS
+};
+
+/// What is written where more than a second passes up to every second directory, and then up to every second entry.
+const DIRECTORIES: &str = "\rentries read: 8\r\u{1b}[K";
+
+const ENTRIES: &str =
+    "\rentries read: 3\rentries read: 6\rentries read: 8\rentries read: 9\r\u{1b}[K";
+
+#[test]
+fn a_line_tells_how_many_entries_were_read_and_is_wiped(rt: HostRuntime) {
+    const CALLS: &[Call] = &[
+        Call {
+            words: &["--apparent", "/t"],
+            err: DIRECTORIES,
+            ..ERRORS
+        },
+        Call {
+            words: &["--apparent", "-a", "/t"],
+            err: ENTRIES,
+            ..ERRORS
+        },
+        Call {
+            words: &["--apparent", "-a", "/t"],
+            err: ENTRIES,
+            ..BOTH
+        },
+        Call {
+            words: &["--apparent", "-s", "/t"],
+            err: DIRECTORIES,
+            ..BOTH
+        },
+        Call {
+            words: &["--apparent", "--json", "-a", "/t"],
+            err: ENTRIES,
+            ..BOTH
+        },
+        Call {
+            words: &["--apparent", "--plain", "-a", "/t"],
+            err: ENTRIES,
+            ..ERRORS
+        },
+        Call {
+            words: &["--apparent", "--plain", "-a", "/t"],
+            ..BOTH
+        },
+        Call {
+            words: &["--apparent", "-a", "/t"],
+            millis: 600,
+            out: None,
+            ..GROUPS
+        },
+        Call {
+            words: &["--apparent", "-a", "/t"],
+            millis: 50,
+            ..ERRORS
+        },
+    ];
+    assert_eq!(rt; first_wrong(&rt, IN_TURN, CALLS), None);
+}
+
+#[test]
+fn the_line_is_wiped_before_an_error_is_reported(rt: HostRuntime) {
+    const CALLS: &[Call] = &[Call {
+        words: &["--apparent", "/t/group 1", "/n"],
+        millis: 1500,
+        err: "\rentries read: 2\r\u{1b}[Ktally: /n: entity not found\n\rentries read: 2\r\u{1b}[K",
+        status: 1,
+        ..ERRORS
+    }];
+    assert_eq!(rt; first_wrong(&rt, IN_TURN, CALLS), None);
+}

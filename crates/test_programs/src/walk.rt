@@ -1,0 +1,6 @@
+//! Calls of the program `walk`.
+mod calls;
+mod disk;
+mod failing;
+mod input;
+mod long;

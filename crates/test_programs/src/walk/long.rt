@@ -1,0 +1,91 @@
+//! Trees whose lines are written in several pieces.
+use crate::walk::calls::{CALL, Call, first_wrong};
+use crate::walk::input::Input;
+use std::alloc::AllocError;
+
+/// Adds the lines of a directory and of `count` directories in it, each of one file, to a tree, and the lines of their
+/// entries to an output.
+fn push_dirs(tree: &mut String, out: &mut String, count: u64) -> Result<(), AllocError> {
+    tree.push_str("d /r\n")?;
+    out.push_str("0 d /r\n")?;
+    for number in 0..count {
+        write!(
+            tree,
+            "d /r/directory number {number}\nf 1 /r/directory number {number}/x\n"
+        )?;
+        write!(
+            out,
+            "1 d /r/directory number {number}\n2 f /r/directory number {number}/x\n"
+        )?;
+    }
+    Ok(())
+}
+
+/// The calls read from the disk or from the input, in each way.
+#[test]
+fn a_long_tree_comes_whole_and_in_order(rt: HostRuntime) -> Result<(), AllocError> {
+    let mut tree = String::new(rt.alloc());
+    let mut out = String::new(rt.alloc());
+    push_dirs(&mut tree, &mut out, 3000)?;
+    let on_disk = Call {
+        tree: tree.as_str(),
+        out: out.as_str(),
+        ..CALL
+    };
+    let in_input = Call {
+        words: &["--tree", "/r"],
+        input: Input {
+            left: tree.as_bytes(),
+            error: None,
+        },
+        out: out.as_str(),
+        ..CALL
+    };
+    let calls = [
+        in_input,
+        Call {
+            words: &["--batch", "8", "/r"],
+            ..on_disk
+        },
+        Call {
+            words: &["--crew", "2", "/r"],
+            ..on_disk
+        },
+    ];
+    assert_eq!(rt; first_wrong(&rt, &calls), None);
+    Ok(())
+}
+
+/// The number of bytes that an output takes before it is closed.
+const ROOM: usize = 20_000;
+
+/// Unless workers read ahead, the walk must not come to its end.
+#[test]
+fn nothing_is_asked_once_a_write_has_failed(rt: HostRuntime) -> Result<(), AllocError> {
+    let mut tree = String::new(rt.alloc());
+    let mut out = String::new(rt.alloc());
+    push_dirs(&mut tree, &mut out, 3000)?;
+    let closed = Call {
+        words: &["/r"],
+        tree: tree.as_str(),
+        most_calls: 1500,
+        room: ROOM,
+        out: out.get(..ROOM).unwrap_or(""),
+        status: 1,
+        ..CALL
+    };
+    let calls = [
+        closed,
+        Call {
+            words: &["--batch", "8", "/r"],
+            ..closed
+        },
+        Call {
+            words: &["--crew", "2", "/r"],
+            most_calls: usize::MAX,
+            ..closed
+        },
+    ];
+    assert_eq!(rt; first_wrong(&rt, &calls), None);
+    Ok(())
+}
