@@ -3,8 +3,8 @@
 
     python3 tests/run.py [--program NAME=PATH] [-j N] [--prove] [FILE | FILE:LINE ..]
 
-Without a file, all rows of all files run, on all cores. With `--prove` they run with stand-ins for the programs, each
-of which does one thing wrong: every row whose outcome that changes must fail. README.md beside this file tells the rest.
+Without a file, all rows of all files run, on all cores. With `--prove` they run with stand-ins for the programs, and
+every row whose outcome a stand-in changes must fail. README.md beside this file tells the rest.
 """
 import argparse
 import collections
@@ -153,7 +153,7 @@ def run(programs, scenes, threads):
 
 
 def prove(programs, scenes, threads):
-    """Runs the rows with each stand-in, and returns whether each failed of whose outcome the stand-in changed a part."""
+    """Runs the rows with each stand-in, and returns whether each failed that says what the stand-in changed."""
     missed = 0
     for name, stand_in in STAND_INS.items():
         changed = [it for it in all_results(Runner(programs, stand_in), scenes, threads) if it.changed]
