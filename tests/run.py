@@ -3,12 +3,13 @@
 
     python3 tests/run.py [--program NAME=PATH] [-j N] [--prove] [FILE | FILE:LINE ..]
 
-Without a file, all rows of all files run, on all cores. With `--prove` they run over stand-ins, each of which does one
-thing wrong: every row whose outcome that changes must be reported. README.md beside this file tells what a file says.
+Without a file, all rows of all files run, on all cores. With `--prove` they run with stand-ins for the programs, and
+every row whose outcome a stand-in changes must fail. README.md beside this file tells the rest.
 """
 import argparse
 import collections
 import concurrent.futures
+import dataclasses
 import os
 import pathlib
 import shutil
@@ -18,18 +19,22 @@ import tempfile
 from runner.folder import CannotMake, Folder, needs_root
 from runner.outcomes import apart, difference, outcome
 from runner.stand_ins import STAND_INS, says_nothing_of
-from runner.table import NoTable, read
-from runner.texts import escaped
+from runner.table import NoTable, Row, read
+from runner.texts import decoded
 from runner.ways import PROGRAMS, ways_of
 
 TESTS = pathlib.Path(__file__).resolve().parent
 
 
+@dataclasses.dataclass
 class Result:
-    """What came of a row: `told` says what is wrong, and `skipped` why it wasn't called."""
+    """The result of a row: the report if it is wrong, and the reason if it wasn't called."""
 
-    def __init__(self, row, told="", skipped="", changed=False):
-        self.row, self.told, self.skipped, self.changed = row, told, skipped, changed
+    row: Row
+    report: str = ""
+    skipped: str = ""
+    # Whether the stand-in changed an outcome.
+    changed: bool = False
 
 
 class Runner:
@@ -47,6 +52,9 @@ class Runner:
                 return [self.result(row, scene, folder) for row in scene.rows]
         except CannotMake as error:
             return [Result(row, skipped=str(error)) for row in scene.rows]
+        except OSError as error:
+            wrong = f"the folder can't be made, or the program can't be called: {error}"
+            return [Result(row, report(row, [wrong])) for row in scene.rows]
 
     def result(self, row, scene, folder):
         """Runs a row in all of its ways, up to the first that is wrong."""
@@ -59,14 +67,18 @@ class Runner:
             first, other = groups.setdefault(way.group, (came, call))
             lines = difference(row, came, way.in_order, folder) or apart(first, came, (other, call))
             if lines:
-                place = f"{row.file}:{row.line}: {row.name}"
-                return Result(row, "\n".join([place, f"$ {call}", *lines, "", ""]), changed=changed)
+                return Result(row, report(row, [f"$ {call}", *lines]), changed=changed)
         return Result(row, changed=changed)
 
 
+def report(row, lines):
+    return "\n".join([f"{row.file}:{row.line}: {row.name}", *lines, "", ""])
+
+
 def call_of(row, way):
-    front = " ".join(map(escaped, way.front))
-    call = escaped(row.call)
+    """Returns the call of a row in one of its ways, as a file of rows has it."""
+    front = " ".join(map(decoded, way.front))
+    call = decoded(row.call)
     return call.replace(row.program, f"{row.program} {front}", 1) if front else call
 
 
@@ -75,7 +87,7 @@ def parsed():
     parser.add_argument("--program", action="append", default=[])
     parser.add_argument("-j", type=int, default=os.cpu_count())
     parser.add_argument("--prove", action="store_true")
-    parser.add_argument("files", nargs="*", default=sorted(map(str, TESTS.glob("*/*.t"))))
+    parser.add_argument("files", nargs="*", default=sorted(map(os.path.relpath, TESTS.glob("*/*.t"))))
     return parser.parse_args()
 
 
@@ -124,13 +136,13 @@ def all_results(runner, scenes, threads):
 
 
 def run(programs, scenes, threads):
-    """Runs the rows, and returns whether all passed that could be called."""
+    """Runs the rows, and returns whether none failed."""
     passed, failed, skipped = 0, 0, collections.Counter()
     for result in all_results(Runner(programs), scenes, threads):
-        print(result.told, end="", flush=True)
+        print(result.report, end="", flush=True)
         if result.skipped:
             skipped[result.skipped] += 1
-        elif result.told:
+        elif result.report:
             failed += 1
         else:
             passed += 1
@@ -141,11 +153,11 @@ def run(programs, scenes, threads):
 
 
 def prove(programs, scenes, threads):
-    """Runs the rows over each stand-in, and returns whether all were reported that say what it changes."""
+    """Runs the rows with each stand-in, and returns whether each failed that says what the stand-in changed."""
     missed = 0
     for name, stand_in in STAND_INS.items():
         changed = [it for it in all_results(Runner(programs, stand_in), scenes, threads) if it.changed]
-        quiet = [it.row for it in changed if not it.told]
+        quiet = [it.row for it in changed if not it.report]
         unsaid = [row for row in quiet if says_nothing_of(row, stand_in)]
         for row in quiet:
             if row not in unsaid:

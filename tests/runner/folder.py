@@ -6,11 +6,11 @@ import socket
 import stat
 import tempfile
 
-from runner.texts import escaped, text_of
+from runner.texts import text_of
 
-# A line of a tree: its letter, what it says, which may be nothing, and its path.
-FORM = re.compile(rb"([dpsx]) ()(.+)|([lh]) ([^\t]*)\t(.+)|([fbctom]) (\S+) (.+)", re.S)
+# Lines of a tree that only root can make, and those that not every disk can have.
 ROOT_ALONE = b"obc"
+MAY_FAIL = ROOT_ALONE + b"s"
 NUMBER = rb"\{(size|names|blocks|folders) ([^}:]*)(?::(\d+))?\}"
 SUM = re.compile(rb"(?:\d+[+-])?%s(?:[+-]%s)*" % (NUMBER, NUMBER))
 
@@ -55,8 +55,7 @@ def set_owner(said, path):
     os.lchown(path, user, group)
 
 
-# How each line of a tree is made. Those of the first six letters are made as they come, and then the others in this order:
-# names of files, texts of files, times, owners, modes, folders that can't be listed.
+# How each line of a tree is made. Those that aren't in `LATER` are made as they come, and then the others in its order.
 MAKERS = {
     b"d": lambda _, path: os.makedirs(path, exist_ok=True),
     b"f": make_file,
@@ -75,24 +74,17 @@ MAKERS = {
 LATER = b"hrtomx"
 
 
-def parsed(scene):
-    """Returns the letter, the saying and the path of each line of a tree, in the order in which they are made."""
-    lines = []
-    for line in scene.lines if scene.kind != "input" else []:
-        form = FORM.fullmatch(line)
-        if not form:
-            raise CannotMake(f"no line of a tree: {escaped(line)}")
-        lines.append([it for it in form.groups() if it is not None])
-    lines += [(b"r", text_of(text), path) for path, text in scene.rules.items()]
+def steps(scene):
+    """Returns the lines of a tree and the texts of its files, in the order in which they are made."""
+    lines = scene.tree() + [[b"r", text_of(text), path] for path, text in scene.rules.items()]
     return sorted(lines, key=lambda line: LATER.find(line[0]))
 
 
 def below(path):
-    """Yields a path and all paths below it."""
+    """Yields a path and all paths below it, but for what is in directories that can't be listed."""
     yield path
-    if os.path.isdir(path) and not os.path.islink(path):
-        for name in os.listdir(path):
-            yield from below(os.path.join(path, name))
+    for folder, directories, files in os.walk(path) if not os.path.islink(path) else ():
+        yield from (os.path.join(folder, name) for name in directories + files)
 
 
 def blocks(path):
@@ -113,7 +105,7 @@ class Folder:
     """A new folder with the tree of a scene, which is removed at the end of a `with` block."""
 
     def __init__(self, scene):
-        self.lines = parsed(scene)
+        self.lines = steps(scene)
         self.temporary = tempfile.TemporaryDirectory(prefix="rows_")
         self.path = os.fsencode(self.temporary.name)
         tops = b"|".join({re.escape(path.lstrip(b"/").split(b"/")[0]) for _, _, path in self.lines})
@@ -143,8 +135,10 @@ class Folder:
         os.makedirs(os.path.dirname(at), exist_ok=True)
         try:
             MAKERS[kind](self.placed(said) if kind in b"lh" else said, at)
-        except (PermissionError, OSError if kind in ROOT_ALONE + b"s" else PermissionError) as error:
-            raise CannotMake(f"`{kind.decode()}` lines can't be made here ({error.strerror or error})") from error
+        except OSError as error:
+            if kind not in MAY_FAIL:
+                raise
+            raise CannotMake(f"the disk takes no line `{kind.decode()}`: {error.strerror or error}") from error
 
     def placed(self, word):
         """Puts the folder's path in front of a path of the tree in a word."""
@@ -169,4 +163,4 @@ class Folder:
 
 def needs_root(scene):
     """Whether only root can make the folder."""
-    return any(line[:1] in ROOT_ALONE and line[1:2] == b" " for line in scene.lines) and scene.kind != "input"
+    return any(kind in ROOT_ALONE for kind, _, _ in scene.tree())

@@ -4,17 +4,20 @@ import dataclasses
 import difflib
 import os
 import pty
+import signal
 import subprocess
 import threading
 import tty
 
-from runner.texts import escaped, lines_of, shown, text_of
+from runner.texts import lines_of, shown, text_of
 
 VARIABLES = {"XDG_CONFIG_HOME": "", "NO_COLOR": "1", "LS_COLORS": "di=34:*.rs=31:or=35", "TZ": "UTC"}
 SECONDS = 60
 NOBODY = {"user": 65534, "group": 65534, "extra_groups": []}
 MARKS = {"out": " ", "err": "!"}
+# A difference shows that many lines at most, and that much of each.
 MOST = 50
+WIDEST = 400
 
 
 @dataclasses.dataclass(frozen=True)
@@ -26,33 +29,52 @@ class Outcome:
     status: int
 
 
-def read_all(end):
-    """Returns what is written to a terminal until the program has closed its end."""
-    text = b""
-    with contextlib.suppress(OSError):
-        while piece := os.read(end, 65536):
-            text += piece
-    os.close(end)
-    return text
+class Terminal:
+    """A terminal, of which a thread keeps what a program writes to it."""
+
+    def __init__(self):
+        self.ours, self.end = pty.openpty()
+        tty.setraw(self.end)
+        self.kept = b""
+        self.reader = threading.Thread(target=self.read)
+
+    def read(self):
+        # A read fails once the program has closed its end.
+        with contextlib.suppress(OSError):
+            while piece := os.read(self.ours, 65536):
+                self.kept += piece
+
+    def handed_over(self):
+        """Begins to read, once the program has the end that it writes to."""
+        os.close(self.end)
+        self.reader.start()
+
+    def text(self):
+        """Waits until the program has closed its end, and returns what it wrote."""
+        self.reader.join()
+        os.close(self.ours)
+        return self.kept
 
 
 def called(program, words, terminal, given, **how):
     """Returns the outcome of a call. One that takes too long is killed."""
-    ends, master = {"out": subprocess.PIPE, "err": subprocess.PIPE}, None
-    if terminal:
-        master, ends[terminal] = pty.openpty()
-        tty.setraw(ends[terminal])
+    screen = Terminal() if terminal else None
+    ends = {"out": subprocess.PIPE, "err": subprocess.PIPE}
+    if screen:
+        ends[terminal] = screen.end
     how |= {"stdin": subprocess.PIPE, "stdout": ends["out"], "stderr": ends["err"]}
     process = subprocess.Popen(words, executable=program, **how)
-    timer = threading.Timer(SECONDS, process.kill)
-    timer.start()
-    texts = {}
-    if terminal:
-        os.close(ends[terminal])
-        texts[terminal] = read_all(master)
-    out, err = process.communicate(given)
-    timer.cancel()
-    return Outcome(**({"out": out, "err": err} | texts), status=process.returncode)
+    if screen:
+        screen.handed_over()
+    try:
+        out, err = process.communicate(given, SECONDS)
+    except subprocess.TimeoutExpired:
+        process.kill()
+        out, err = process.communicate()
+    texts = {"out": out, "err": err}
+    if screen:
+        texts[terminal] = screen.text()
+    return Outcome(**texts, status=process.returncode)
 
 
 def how_of(row, scene, folder):
@@ -71,35 +93,40 @@ def outcome(program, row, scene, folder, way):
     return Outcome(folder.cut(came.out), folder.cut(came.err), came.status)
 
 
-def listed(mark, text, in_order):
-    lines = [f"{mark} {shown(line)}" for line in lines_of(text)]
-    return lines if in_order else sorted(lines)
+def marked(mark, text, in_order=True):
+    """Returns the lines of an output, each with the mark that it has in a file of rows."""
+    lines = lines_of(text)
+    return [(mark, line) for line in (lines if in_order else sorted(lines))]
 
 
 def ended(status):
-    return f"= {status}" if status >= 0 else f"ended by signal {-status}, as by the {SECONDS} seconds that a call has"
+    if status == -signal.SIGKILL:
+        return [("=", b"killed, as after %d seconds\n" % SECONDS)]
+    return [("=", b"%d\n" % status if status >= 0 else b"signal %d\n" % -status)]
 
 
 def unlike(wanted, found, names):
-    return [] if wanted == found else list(difflib.unified_diff(wanted, found, *names, lineterm="", n=2))[:MOST]
+    """Returns the lines of a diff of two lists of marked lines, or none if they are the same."""
+    if wanted == found:
+        return []
+    sides = [[f"{mark} {shown(line)}"[:WIDEST] for mark, line in lines] for lines in (wanted, found)]
+    return list(difflib.unified_diff(*sides, *names, lineterm="", n=2))[:MOST]
 
 
 def difference(row, came, in_order, folder):
-    """Returns the lines of the difference between what the row says and what came, of which there may be none."""
+    """Returns the lines of a diff of a row's outcome and the one that came, or none if they are the same."""
     wanted, found = [], []
     for name, mark in MARKS.items():
         output, text = getattr(row, name), getattr(came, name)
         if output.parts and all(part in text for part in output.parts):
             continue
-        wanted += [f"{mark}~ {escaped(part)}" for part in output.parts]
-        wanted += listed(mark, folder.measured(text_of(output.lines)), in_order)
-        found += listed(mark, text, in_order)
-    return unlike([*wanted, ended(row.status)], [*found, ended(came.status)], ("wanted", "found"))
+        wanted += [(f"{mark}~", part + b"\n") for part in output.parts]
+        wanted += marked(mark, folder.measured(text_of(output.lines)), in_order)
+        found += marked(mark, text, in_order)
+    return unlike(wanted + ended(row.status), found + ended(came.status), ("wanted", "found"))
 
 
 def apart(first, came, names):
-    """Returns the lines of the difference between the outcomes of two ways that write the same bytes."""
-    sides = []
-    for side in (first, came):
-        sides.append([*listed(" ", side.out, True), *listed("!", side.err, True), ended(side.status)])
+    """Returns the lines of a diff of the outcomes of two ways, or none if they are the same."""
+    sides = [marked(" ", it.out) + marked("!", it.err) + ended(it.status) for it in (first, came)]
     return unlike(*sides, names)

@@ -1,5 +1,4 @@
-"""Stand-ins: programs that do what the real one does, and one thing wrong. Each row whose outcome one of them changes must
-be told to be wrong, or the rows vouch for nothing."""
+"""Stand-ins for programs. Each does what the real one does, and one thing wrong."""
 import dataclasses
 
 from runner.texts import lines_of
@@ -31,7 +30,6 @@ def with_a_line_twice(came):
     return dataclasses.replace(came, out=b"".join(lines_of(came.out)[:1]) + came.out)
 
 
-# The stand-ins, each with whether what it changes is the order of lines alone.
 STAND_INS = {
     "drops the last line": without_last_line,
     "swaps two lines": with_swapped_lines,
@@ -42,7 +40,7 @@ STAND_INS = {
 
 
 def says_nothing_of(row, stand_in):
-    """Whether the row leaves open what the stand-in changes: lines beside the parts that it names, or their order."""
+    """Whether the row leaves open what the stand-in changes: lines beside the parts that it has, or their order."""
     if stand_in is with_status_0:
         return False
     return bool(row.out.parts) or (row.any_order and stand_in is with_swapped_lines)

@@ -2,9 +2,11 @@
 import dataclasses
 import re
 
-from runner.texts import escaped, spread, unescaped, words_of
+from runner.texts import decoded, spread, unescaped, words_of
 
 SCENES = (b"tree", b"disk", b"input")
+# A line of a tree: its letter, what it says, which may be nothing, and its path.
+TREE_LINE = re.compile(rb"([dpsx]) ()(.+)|([lh]) ([^\t]*)\t(.+)|([fbctom]) (\S+) (.+)", re.S)
 TERMINALS = {b"$": "", b"tty$": "out", b"ttyerr$": "err"}
 PARTS = {b"~": "out", b"!~": "err"}
 VARIABLE = re.compile(rb"[A-Z_]+=")
@@ -16,7 +18,7 @@ class NoTable(Exception):
 
 @dataclasses.dataclass
 class Output:
-    """What a row says of an output: all of its lines, or parts that it has beside others."""
+    """The lines of an output, or some parts of it."""
 
     lines: list = dataclasses.field(default_factory=list)
     parts: list = dataclasses.field(default_factory=list)
@@ -49,6 +51,11 @@ class Scene:
     rules: dict = dataclasses.field(default_factory=dict)
     nobody: bool = False
     rows: list = dataclasses.field(default_factory=list)
+
+    def tree(self):
+        """Returns the letter, the saying and the path of each line of the tree."""
+        lines = [] if self.kind == "input" else self.lines
+        return [[it for it in TREE_LINE.fullmatch(line).groups() if it is not None] for line in lines]
 
 
 class Reader:
@@ -89,14 +96,18 @@ class Reader:
     def add_line(self, text):
         if self.lines is None:
             self.refuse("this line belongs to nothing")
-        self.lines += map(unescaped, spread(text))
+        lines = [unescaped(line) for line in spread(text)]
+        scene = self.scene()
+        if self.lines is scene.lines and scene.kind != "input" and not all(map(TREE_LINE.fullmatch, lines)):
+            self.refuse("no line of a tree")
+        self.lines += lines
 
     def take(self, line):
         head, _, rest = line.partition(b" ")
         if line.startswith(b"  "):
             self.add_line(line[2:])
         elif head == b"#":
-            self.name = escaped(rest)
+            self.name = decoded(rest)
         elif line in SCENES:
             self.begin_scene(line)
         elif head == b"rules":
@@ -118,7 +129,7 @@ class Reader:
         elif line == b"any order":
             self.row().any_order = True
         else:
-            self.refuse(f"no line of a file of rows: {escaped(line)}")
+            self.refuse(f"no line of a file of rows: {decoded(line)}")
 
 
 def read(path):
@@ -126,4 +137,7 @@ def read(path):
     reader = Reader(str(path))
     for reader.number, line in enumerate(path.read_bytes().split(b"\n"), 1):
         reader.take(line)
+    for row in (row for scene in reader.scenes for row in scene.rows):
+        if any(output.lines and output.parts for output in (row.out, row.err)):
+            raise NoTable(f"{row.file}:{row.line}: lines and parts of one output")
     return reader.scenes

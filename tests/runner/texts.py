@@ -1,6 +1,8 @@
 """Texts of files of rows: escapes, ranges, repeated pieces, and the words of a call."""
 import re
 
+# What has to be an escape in a file of rows: control characters but tabs, and a backslash that begins no escape.
+UNPRINTED = re.compile(rb"[\0-\x08\x0a-\x1f\x7f]|\\(?=x[0-9a-f]{2})")
 ESCAPE = re.compile(rb"\\x([0-9a-f]{2})")
 REPEATED = re.compile(rb"<<(.*?)\*(\d+)>>")
 RANGE = re.compile(rb"\{(\d+)\.\.(\d+)\}")
@@ -13,8 +15,13 @@ def unescaped(text):
     return ESCAPE.sub(lambda found: bytes.fromhex(found[1].decode()), text)
 
 
+def decoded(text):
+    return text.decode(errors="backslashreplace")
+
+
 def escaped(text):
-    return re.sub(rb"[\0-\x08\x0a-\x1f\x7f]", lambda found: b"\\x%02x" % found[0][0], text).decode(errors="backslashreplace")
+    """Returns a text as files of rows have it."""
+    return decoded(UNPRINTED.sub(lambda found: b"\\x%02x" % found[0][0], text))
 
 
 def spread(line):

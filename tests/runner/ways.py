@@ -41,28 +41,27 @@ def sorted_ways(row, front, **how):
     return [Way([*front, SORT], "sorted", **how)]
 
 
-def in_memory(row, fronts):
-    """Returns the ways of a row of `walk` over the tree of its scene in memory, and one over that on the disk.
+def over_tree(row, fronts, on_disk):
+    """Returns the ways of a row of `walk` over a tree in memory and on the disk.
 
-    A row over a tree has its lines in the order of the tree's lines. Those of the walk by name on the disk must be those
-    of the walk by name in memory.
+    The row has its lines in the order of the tree's lines. The disk has another order, but by name both are the same.
     """
-    tree = [b"--tree"]
-    ways = [Way([*tree, *front], "memory", in_order=True, in_memory=True) for front in fronts]
+    tree, in_order = [b"--tree"], not row.any_order
+    ways = [Way([*tree, *front], "memory", in_order, in_memory=True) for front in fronts]
+    ways += [Way(front, "disk", in_order and not is_free(row)) for front in on_disk]
     ways += sorted_ways(row, tree, in_order=False, in_memory=True)
     return ways + sorted_ways(row, [], in_order=False)
 
 
 def ways_of(row, scene):
+    is_walk, is_input = row.program == "walk", scene.kind == "input"
     says_how = any(map(SAYS_HOW.match, row.words))
     fronts = [[]] if says_how else FRONTS[row.program]
-    ways = []
-    if scene.kind == "tree" and row.program == "walk":
-        ways = in_memory(row, fronts)
-    if scene.kind != "input" and row.program == "walk":
-        fronts = fronts if says_how else WALK_ON_DISK
-    is_ordered = scene.kind == "input" and row.program == "walk" or not is_free(row)
-    ways += [Way(front, "disk", is_ordered and not row.any_order) for front in fronts]
-    if scene.kind == "tree" and row.program == "walk" or is_ordered:
-        return ways
-    return ways + sorted_ways(row, fronts[-1], in_order=True)
+    on_disk = [[]] if says_how else WALK_ON_DISK
+    if is_walk and scene.kind == "tree":
+        return over_tree(row, fronts, on_disk)
+    if is_walk and not is_input:
+        fronts = on_disk
+    is_ordered = is_walk and is_input or not is_free(row)
+    ways = [Way(front, "disk", is_ordered and not row.any_order) for front in fronts]
+    return ways if is_ordered else ways + sorted_ways(row, fronts[-1], in_order=True)

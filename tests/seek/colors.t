@@ -125,6 +125,8 @@ $ LS_COLORS='' seek --color=always --base-directory=/c ^f$ a
   \x1b[01;34ma/b/\x1b[0mf
 $ LS_COLORS='' seek --color=always --base-directory=/c ^f$ a/b/
   \x1b[01;34ma/b/\x1b[0mf
+$ LS_COLORS='' seek --color=always -d1 ^usr$ /
+  \x1b[01;34m/\x1b[0m\x1b[01;34musr\x1b[0m
 $ LS_COLORS=di=0 seek --color=always --base-directory=/c ^g$
   a/g
 $ LS_COLORS='' seek --color=always --base-directory=/c ^l$
