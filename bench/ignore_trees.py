@@ -1,7 +1,7 @@
 #!/usr/bin/env python3
 """Small trees with ignore files, and what git keeps of them.
 
-    python3 bench/ignore_trees.py write SEED           writes the 100 trees of tests/seek/ignore_trees.t, and the five of
+    python3 bench/ignore_trees.py write SEED           writes the 100 trees of tests/seek/ignore_trees.t, and the four of
                                                        them in crates/test_seek/src/ignore/trees.rt; theirs is seed 1
     python3 bench/ignore_trees.py against PROGRAM COUNT SEED
                                                        random trees on disk: git beside what PROGRAM PATH prints
@@ -12,7 +12,7 @@ is kept is each path that `git check-ignore --no-index` doesn't print, in the or
 the tree's path, and prints the paths that it keeps below it, each ended by a zero byte; `{}` in PROGRAM stands for the
 path. A pattern with a literal text that `**` is directly behind is left out, since git 2.39 matches more there than it
 documents, and so is `**\\/`. The 100 are chosen of 200, one after another: each time the tree that shows most that none
-of those chosen before shows. The five are those that are chosen first.
+of those chosen before shows. The four are those that are chosen first.
 """
 import os
 import random
@@ -108,7 +108,7 @@ TOP = os.path.join(os.path.dirname(os.path.abspath(__file__)), "..")
 ROWS = os.path.join(TOP, "tests", "seek", "ignore_trees.t")
 TREES = os.path.join(TOP, "crates", "test_seek", "src", "ignore", "trees.rt")
 COUNT = 100
-FIRST = 5
+FIRST = 4
 
 
 def indented(lines):

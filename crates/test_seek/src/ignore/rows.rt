@@ -62,16 +62,6 @@ $ walk /r no-git anywhere
   .gitignore
   .ignore
   a
-# hidden rules are read
-repository
-  .gitignore=a|
-  .h
-  .s/
-  .s/b
-  a
-  b
-$ walk /r hide
-  b
 # rules above the root are in force, which may be a file, or a relative path
 repository
   .gitignore=a|s/|s/b|
@@ -172,21 +162,6 @@ $ walk /r
   s/.gitignore
   ! 2 s/.gitignore
   s/b
-# beyond the repository no file of git is opened
-tree
-  .git/
-  .gitignore=y|
-  .ignore=x|
-  p/
-  p/.git/
-  p/s/
-  p/s/x
-  p/s/y
-unread dir /r/.git
-unread dir /r/p/.git
-denied /r/.gitignore
-$ walk /r/p/s
-  p/s/y
 # a file of rules above the root, and an exclude, are regular files
 tree
   s/
@@ -199,20 +174,9 @@ $ walk /r/s
   s/a
 ";
 
-/// Links.
+/// Many links to the directory that they are in.
 const LINKS: &str = "\
-# a git that leads back to its directory makes a repository
-tree
-  .gitignore=a|
-  a
-  b
-link /r/.git .
-unread dir /r/.git
-$ walk /r follow
-  .gitignore
-  b
-  ! 1 .git
-# many links to their directory are dropped by name, and not as directories; no rule drops a loop
+# links are dropped by name, and not as directories; no rule drops a loop
 repository
   .gitignore=l1*|l2*/|
   l2d/
@@ -227,4 +191,5 @@ $ walk /r follow
 ~ 3 300
 ";
 
+/// All of these.
 pub(crate) const TABLES: &[&str] = &[FORCE, UNREAD, LINKS];

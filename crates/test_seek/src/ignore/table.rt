@@ -8,7 +8,6 @@
 //! | `rules PATH=RULES` | a file of rules that the tree doesn't show |
 //! | `denied PATH` | a file of rules that can't be read |
 //! | `unread TYPE PATH` | a path of this type, which can't be read as a file of rules |
-//! | `link PATH TEXT` | a link, which is only in the tree |
 //! | `links NUMBER` | this many links in `/r` to `/r` |
 //! | `$ walk ROOT SETTING ..` | a row, which is a walk by name |
 //! | two spaces, `TEXT` | a line of the tree, or an item that the walk must yield |
@@ -116,10 +115,6 @@ impl<'t> Reader<'t> {
                 texts
                     .add_unread(path, type_of(file_type)?, ErrorKind::Other)
                     .ok()
-            }
-            "link" => {
-                let (path, text) = said.split_once(' ')?;
-                planted.fs.add_link(path, text).ok()
             }
             _ => None,
         }

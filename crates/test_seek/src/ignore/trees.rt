@@ -46,28 +46,6 @@ $ walk /r
   k.o
   k.o/.gitignore
   k.o/k.o
-# tree 90
-repository
-  .git/info/exclude=subsubb|!?k.o/|ab|
-  .gitignore=b/a|
-  .h
-  b/
-  b/ab
-  b/sub/
-  b/sub/.h
-  b/sub/c.o/
-  b/sub/c.o/.gitignore=!k.o**/|/**b|ab*.oa|
-  b/sub/c.o/k.o
-  b/sub/c.o/sub
-$ walk /r
-  .gitignore
-  .h
-  b
-  b/sub
-  b/sub/.h
-  b/sub/c.o
-  b/sub/c.o/.gitignore
-  b/sub/c.o/k.o
 # tree 94
 repository
   .git/info/exclude=!k.ob?/|ab/sub|a|

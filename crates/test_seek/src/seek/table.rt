@@ -5,7 +5,6 @@
 //! | `# NAME` | the name of the rows below |
 //! | `tree` | the rows below are over another tree |
 //! | `files NUMBER` | this many files in `/r` |
-//! | `links NUMBER` | this many links in `/r`, each to the next one, and the last to the first |
 //! | `rules PATH` | a file of rules |
 //! | `seen PATH TYPE LENGTH MODE LINKS USER GROUP SECONDS` | what a list says of a path; without details, if the line ends behind the length, and nothing but the type, if it ends there |
 //! | `seen PATH FAILURE` | what a path is can't be told |
@@ -70,14 +69,6 @@ impl Scene<'_> {
         }
         Some(())
     }
-
-    fn add_links(&mut self, count: u64) -> Option<()> {
-        for number in 0..count {
-            let next = number.wrapping_add(1) % count.max(1);
-            write!(self.tree, "l /r/l{next}\t/r/l{number}\n").ok()?;
-        }
-        Some(())
-    }
 }
 
 /// What a line with two spaces in front is of.
@@ -115,7 +106,7 @@ fn kind_of(word: &str) -> Option<ErrorKind> {
 
 fn fails_in(text: &str) -> Option<Fails<'_>> {
     let (question, rest) = text.split_once(' ')?;
-    let (failure, path) = rest.split_once(' ')?;
+    let (failure, path) = rest.split_once(' ').unwrap_or((rest, ""));
     let question = match question {
         "list" => Question::List,
         "look" => Question::Look,
@@ -257,7 +248,6 @@ impl<'t> Reader<'t> {
             "#" => self.name = rest,
             "tree" => self.begin_scene()?,
             "files" => self.scene()?.add_files(rest.parse().ok()?)?,
-            "links" => self.scene()?.add_links(rest.parse().ok()?)?,
             "rules" => self.begin_rules(rest)?,
             "seen" => {
                 let (path, told) = rest.split_once(' ')?;
