@@ -19,12 +19,12 @@ use Rattle.jwalk_ignore_laws.proofs.twice.walk_tree.Goals as goal
 pub returns : goal.returns
 returns c = λ none.
     let built = c.new-walk.ensures in
-    let rules = c.new-2.ensures in
+    let rules = c.new.ensures in
     let set = c.with_ignore_files.ensures in
     let begun = c.into_iter.ensures in
     let found = c.fill.new.out in
     let state : rules_alone rules_held (state_of c.new-walk.result) ≡ no_rules_yet = ap (λ chain. both (chain_worth chain) blank) built.state in
-    let given = ignoring_alone rules_held (settings_of c.new-2.result) (texts_of (asked_of c.new-2.result).now) in
+    let given = ignoring_alone rules_held (settings_of c.new.result) (texts_of (asked_of c.new.result).now) in
     yielded_by (λ settings texts. counted_list (ignoring_alone rules_held settings texts) found.items) rules.settings (ap (λ texts. texts_of texts.now) rules.texts)
     (ap (λ fs. functions_of (tree_of fs.now)) (set.file_system ∙ built.file_system)) (set.options ∙ ap (with_skip_hidden false) built.options) (set.root ∙ built.root) (ap (rules_alone rules_held) set.state ∙ state)
     (whole_filled _ _ _ _ _ given c.with_ignore_files.result c.into_iter.result c.fill.new.self (2 ^ 64 - 1) c.in_ok-fill.field-0 c.new-found.result.items found.items begun.own begun.starts begun.holds
