@@ -1,3 +1,4 @@
+pub mod PaintingFacts
 pub mod OptionFacts
 pub mod SearchFacts
 pub mod RunFacts
