@@ -2,6 +2,7 @@
 """Tries the wrong bodies that the gate doesn't try, those in bench/edits: the prover must refuse each.
 
     python3 bench/edits.py [--check] [CRATE | CRATE/NAME ..]
+    python3 bench/edits.py --since COMMIT
     python3 bench/edits.py --twins [CRATE | CRATE/NAME ..]
 
 An edit is the file bench/edits/CRATE/NAME.edit. All are tried where none is named, of a crate that is named all of its
@@ -10,6 +11,10 @@ runs on them; the crate's own folder is put back whatever happens, so change not
 check of its crate takes after a change. The lines of `rt` come first, with its reason for each. Then there is a line
 for each edit, which says whether it is refused, NOT REFUSED, a BAD EDIT, which can't be applied or compiled, or NOT
 TRIED. The script ends with 1 if one isn't refused.
+
+With --since it tries those of each crate whose text, or that of a library below it, changed since a commit: the files in
+src/, specs/ and proofs/, the line of crates.txt, and the crate's own edits. What isn't committed yet counts too. Who
+changes a crate runs it.
 
 With --twins it tries the edits of the gate, in crates/CRATE/must-fail, with a harmless body in the place of the wrong
 one, where a rule makes one (`twin_of`): a branch that is added is never taken, and a condition that is changed is what
@@ -66,6 +71,41 @@ def asked_for(words, folder_of):
             sys.exit(f"{word} is no edit here, nor a crate that has some")
         asked[crate] = sorted({*asked.get(crate, []), *names})
     return asked
+
+
+def uses_in(text):
+    """The libraries that each crate uses, by the lines of crates.txt."""
+    lines = [line.partition("#")[0].partition(":") for line in text.splitlines()]
+    return {name.split()[0]: uses.split() for name, _, uses in lines if name.split()}
+
+
+def git(*words):
+    """What a git command prints, as a text. The script ends if it fails."""
+    done = subprocess.run(["git", "-C", TOP, *words], capture_output=True, text=True)
+    if done.returncode:
+        sys.exit(done.stderr.strip())
+    return done.stdout
+
+
+def changed_since(commit):
+    """The crates whose own text, line of crates.txt or edits changed since a commit."""
+    text = r"(?:crates/([^/]+)/(?:src|specs|proofs|must-fail)|bench/edits/([^/]+))/"
+    paths = git("diff", "--name-only", commit).splitlines()
+    paths += git("ls-files", "--others", "--exclude-standard").splitlines()
+    found = [re.match(text, path) for path in paths]
+    was, now = uses_in(git("show", f"{commit}:crates.txt")), uses_in(read(f"{TOP}/crates.txt"))
+    return {it[1] or it[2] for it in found if it} | {name for name in now if now[name] != was.get(name)}
+
+
+def edits_since(commit):
+    """The names of the edits to be tried after the changes since a commit, by crate."""
+    uses, changed = uses_in(read(f"{TOP}/crates.txt")), changed_since(commit)
+
+    def is_touched(crate):
+        return crate in changed or any(is_touched(it) for it in uses.get(crate, []))
+
+    every = asked_for([], own_edits)
+    return {crate: names for crate, names in every.items() if is_touched(crate)}
 
 
 def fault_of(crate, path):
@@ -185,7 +225,10 @@ def texts_of(crate, names, twins):
 def main():
     twins = "--twins" in sys.argv
     words = [word for word in sys.argv[1:] if word not in ("--check", "--twins")]
-    asked = asked_for(words, gate_edits if twins else own_edits)
+    if words[:1] == ["--since"] and len(words) == 2:
+        asked = edits_since(words[1])
+    else:
+        asked = asked_for(words, gate_edits if twins else own_edits)
     if "--check" in sys.argv:
         sys.exit(1 if check(asked) else 0)
     # so that an end by one of these signals puts the folder back

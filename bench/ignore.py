@@ -1,13 +1,14 @@
 #!/usr/bin/env python3
-"""Rows of ignore files, paths and what git says of them, as in crates/test_seek/src/ignore/rows.rt.
+"""Rows of ignore files, paths and what git says of them, as in tests/seek/ignore_paths.t.
 
     python3 bench/ignore.py [SEED [COUNT]]
     python3 bench/ignore.py speed [PROGRAM ..]      times of `seek` beside `fd` (ignore_speed.py)
 
 Makes random ignore files and paths, and asks `git check-ignore` about each in a fresh repository, with the directories
 on disk, since git takes a path's type from there. A row is left out where git's answer is about a directory above the
-path, and where a literal text has `**` directly behind it: git 2.39 matches more there than it documents.
-A row is the file, the path, whether that is a directory, and the answer.
+path, and where a literal text has `**` directly behind it: git 2.39 matches more there than it documents. So is one with
+a path that is no UTF-8, which `seek` doesn't print. A row is a repository with the file and the path, and what `seek`
+leaves of it.
 """
 import os
 import random
@@ -199,10 +200,24 @@ def random_rows(random, count):
                           for _ in range(4)]
 
 
-def written(data):
-    """A byte string of Rust."""
-    plain = {9: "\\t", 10: "\\n", 13: "\\r", 34: '\\"', 92: "\\\\"}
-    return 'b"' + "".join(plain.get(c, chr(c) if 32 <= c < 127 else "\\x%02x" % c) for c in data) + '"'
+def escaped(data):
+    """A text as files of rows have it: a space at its end, and what isn't printed, as bytes."""
+    text = "".join(c if c.isprintable() else "".join(f"\\x{byte:02x}" for byte in c.encode(errors="surrogateescape"))
+                   for c in data.decode(errors="surrogateescape"))
+    return text[:-1] + "\\x20" if text.endswith(" ") else text
+
+
+def row_of(rules, path, is_dir, answer):
+    """The lines of a row. What is below an ignored directory isn't asked, so the folders above the path are left."""
+    parts = path.split(b"/")
+    above = [b"/".join(parts[:end]) for end in range(1, len(parts))]
+    left = [b".gitignore", *above, *([] if answer == "Ignored" else [path])]
+    lines = rules.removesuffix(b"\n").split(b"\n")
+    lines = [b"\n".join(lines)] if b"" in lines[:-1] else lines if rules else []
+    kind = "d" if is_dir else "f 1"
+    said = ["tree", "  d /r/.git", f"  {kind} /r/{escaped(path)}", "rules /r/.gitignore"]
+    said += [f"  {escaped(line)}" for line in lines]
+    return [*said, "$ seek -H . /r", *(f"  /r/{escaped(path)}" for path in sorted(left, key=lambda it: it.split(b"/"))), ""]
 
 
 def main():
@@ -212,8 +227,9 @@ def main():
     count = int(sys.argv[2]) if len(sys.argv) > 2 else 20
     rows = [(rules, [(p.rstrip(b"/"), p.endswith(b"/")) for p in paths]) for rules, paths in FIXED]
     rows += list(random_rows(random.Random(seed), count))
-    for rules, path, is_dir, answer in answered(rows):
-        print(f"({written(rules)}, {written(path)}, {str(is_dir).lower()}, Decision::{answer}),")
+    for row in answered(rows):
+        if row[1] == row[1].decode(errors="replace").encode():
+            print(*row_of(*row), sep="\n")
 
 
 main()

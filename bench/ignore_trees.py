@@ -1,7 +1,8 @@
 #!/usr/bin/env python3
-"""Small trees with ignore files, and what git keeps of them, as in crates/test_seek/src/ignore/tree_rows.
+"""Small trees with ignore files, and what git keeps of them.
 
-    python3 bench/ignore_trees.py write SEED           writes the 100 trees of the tests, 50 a file; theirs is seed 1
+    python3 bench/ignore_trees.py write SEED           writes the 100 trees of tests/seek/ignore_trees.t, and the four of
+                                                       them in crates/test_seek/src/ignore/trees.rt; theirs is seed 1
     python3 bench/ignore_trees.py against PROGRAM COUNT SEED
                                                        random trees on disk: git beside what PROGRAM PATH prints
 
@@ -11,7 +12,7 @@ is kept is each path that `git check-ignore --no-index` doesn't print, in the or
 the tree's path, and prints the paths that it keeps below it, each ended by a zero byte; `{}` in PROGRAM stands for the
 path. A pattern with a literal text that `**` is directly behind is left out, since git 2.39 matches more there than it
 documents, and so is `**\\/`. The 100 are chosen of 200, one after another: each time the tree that shows most that none
-of those chosen before shows.
+of those chosen before shows. The four are those that are chosen first.
 """
 import os
 import random
@@ -103,15 +104,33 @@ def trees(count, seed):
             yield number, folder, lines, kept(folder, lines)
 
 
-def written(number, lines, left):
-    """The lines of a table for a tree, in a string of Rust."""
-    indented = lambda texts: [f"  {text}" for text in texts]
+TOP = os.path.join(os.path.dirname(os.path.abspath(__file__)), "..")
+ROWS = os.path.join(TOP, "tests", "seek", "ignore_trees.t")
+TREES = os.path.join(TOP, "crates", "test_seek", "src", "ignore", "trees.rt")
+COUNT = 100
+FIRST = 4
+
+
+def indented(lines):
+    return [f"  {line}" for line in lines]
+
+
+def row_of(number, lines, left):
+    """The lines of a file of rows for a tree."""
+    said = [f"# tree {number}", "tree", "  d /r", "  d /r/.git"]
+    files = [line.partition("=") for line in lines if "=" in line]
+    for line in lines:
+        if "=" not in line:
+            said.append(f"  d /r/{line[:-1]}" if line.endswith("/") else f"  f 1 /r/{line}")
+    for path, _, text in files:
+        said += [f"rules /r/{path}", *indented(text.removesuffix("|").split("|"))]
+    return [*said, "$ seek -H . /r", *(f"  /r/{path}" for path in left), ""]
+
+
+def table_of(number, lines, left):
+    """The lines of a table of walks for a tree, in a string of Rust."""
     said = [f"# tree {number}", "repository", *indented(lines), "$ walk /r", *indented(left)]
-    return "".join(line.replace("\\", "\\\\").replace('"', '\\"') + "\n" for line in said)
-
-
-FILES = ["first", "second"]
-PER_FILE = 50
+    return [line.replace("\\", "\\\\").replace('"', '\\"') for line in said]
 
 
 def pieces_of(text):
@@ -159,18 +178,18 @@ def chosen(rows, count):
 
 
 def write(seed):
-    """Writes the tables of the tests, of trees of at most 12 lines."""
-    top = os.path.join(os.path.dirname(os.path.abspath(__file__)), "..", "crates", "test_seek", "src", "ignore", "tree_rows")
-    os.makedirs(top, exist_ok=True)
+    """Writes the rows and the table, of trees of at most 12 lines."""
     rows = [(lines, left) for _, _, lines, left in trees(900, seed) if len(lines) <= 12 and len(left) < len(paths_of(lines))]
-    rows = chosen(rows[:200], PER_FILE * len(FILES))
-    for index, name in enumerate(FILES):
-        first = PER_FILE * index
-        with open(os.path.join(top, name + ".rt"), "w") as file:
-            file.write("//! Rows of trees.\n\n/// Trees, with what is kept of each.\npub(crate) const ROWS: &str = \"\\\n")
-            for number, (lines, left) in enumerate(rows[first:first + PER_FILE], first):
-                file.write(written(number, lines, left))
-            file.write("\";\n")
+    rows = list(enumerate(chosen(rows[:200], COUNT)))
+    first = chosen([row for _, row in rows], FIRST)
+    with open(ROWS, "w") as file:
+        file.write("-- Small trees with ignore files, and the part of each that git 2.39 keeps.\n\n")
+        file.write("\n".join(line for number, row in rows for line in row_of(number, *row)))
+    with open(TREES, "w") as file:
+        file.write("//! Small trees with ignore files, and the part of each that git 2.39 keeps. `bench/ignore_trees.py` writes them.\n")
+        file.write("pub(crate) const TABLE: &str = \"\\\n")
+        file.write("\n".join(line for number, row in rows if row in first for line in table_of(number, *row)))
+        file.write("\n\";\n")
 
 
 def against(program, count, seed):

@@ -1,13 +1,3 @@
 pub mod HandsOnNames
-pub mod SmallTree
 pub mod Subtotals
-pub mod Skipping
-pub mod RootAlone
-pub mod Turned
-pub mod Alike
-pub mod Filtering
-pub mod Texts
-pub mod Numbers
-pub mod OwnReaders
-pub mod Each
-pub mod Totals
+pub mod ThreeWays

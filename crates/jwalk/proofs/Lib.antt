@@ -9,11 +9,10 @@ pub use Rattle.jwalk_iter.proofs.FillFacts as FillFacts
 pub use Rattle.jwalk_iter.proofs.SameFacts as SameFacts
 -- what callers cite of a callback's lists
 pub use Rattle.jwalk_job.proofs.GivenFacts as GivenFacts
--- what callers cite of callbacks that change states alone, and of sizes
+-- what callers cite of callbacks that change states alone
 pub use Rattle.jwalk_model.proofs.StatesFacts as StatesFacts
 -- what callers cite of walks that keep metadata
 pub use Rattle.jwalk_model.proofs.KeptFacts as KeptFacts
-pub use Rattle.jwalk_callbacks.proofs.SizedWalks as SizedWalks
 -- what callers cite of readings by readers of their own
 pub use Rattle.jwalk_readings.proofs.OriginFacts as OriginFacts
 pub use Rattle.jwalk_readings.proofs.DueFacts as DueFacts

@@ -31,7 +31,7 @@ use Rattle.jwalk.specs.declared.walk_dir.WalkDirGeneric.{WalkDirGeneric}
 use Rattle.jwalk_iter.specs.DirEntryIter.{DirEntryIter, by_crew, is_refused, job_of, min_depth_of, items_of, unread_of, held, held_by, refusal, to_come, TellsMemory, NoneRefused, IsRefused, StartsSteady, IsSteadyWalk, Answers, Fills}
 use Rattle.jwalk.specs.WalkDir as builder
 use Rattle.jwalk.specs.WalkDir.{file_system_of, callback_of, root_of, state_of, job_for, Starts, Holds}
-use Rattle.jwalk_readings.specs.ReadingsBy.{readings_by}
+use Rattle.jwalk_readings.specs.ReadDirIter.{readings_by}
 use Rattle.jwalk_iter.proofs.AnswerFacts.{held_by_nothing}
 use Rattle.jwalk_iter.proofs.StartFacts.{alone_steady}
 use Rattle.jwalk_iter.proofs.FillFacts.{stays_steady, come}

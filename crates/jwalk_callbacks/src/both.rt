@@ -7,7 +7,7 @@ use std::alloc::{AllocError, Allocator};
 /// A callback that calls one callback and then another.
 ///
 /// ```text
-/// let both = Both::new(SkipNames::new(names), WithSizes::new(fs));
+/// let both = Both::new(FilterEntry::new(test), SkipNames::new(names));
 /// let walk = walk.process_read_dir(both);
 /// ```
 ///

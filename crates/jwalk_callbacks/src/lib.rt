@@ -1,5 +1,5 @@
-//! Callbacks that are ready to use: a closure, a filter of entries, directories that aren't entered, sizes of files,
-//! and two callbacks, one after the other.
+//! Callbacks that are ready to use: a closure, a filter of entries, directories that aren't entered, and two callbacks,
+//! one after the other.
 #![tactic(auto)]
 
 pub mod both;
@@ -7,6 +7,4 @@ pub mod by_fn;
 pub mod calls;
 pub mod filter_entry;
 pub mod laws;
-pub mod size;
 pub mod skip_names;
-pub mod with_sizes;

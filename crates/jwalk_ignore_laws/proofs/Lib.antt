@@ -4,6 +4,7 @@ pub mod StartFacts
 pub mod OwnFacts
 pub mod AlikeFacts
 pub mod WayFacts
+pub mod YieldedFacts
 pub mod BelowFacts
 pub mod FoundFacts
 pub mod SameFacts

@@ -2,4 +2,6 @@
 #![tactic(auto)]
 
 pub mod starts;
+pub mod states;
+pub mod twice;
 pub mod walks;

@@ -17,7 +17,8 @@ use Rattle.jwalk_job.specs.Given.{Given, counted_item, counted_spec, counted_rea
 use Rattle.jwalk_job.specs.Job.{IsSteadyJob}
 use Rattle.jwalk_readings.specs.declared.readers.Readers as Readers
 use Rattle.jwalk_readings.specs.CrewReads.{IsNextBelow}
-use Rattle.jwalk_readings.specs.Sources.{base_of, source_by}
+use Rattle.jwalk_readings.specs.Sources.{source_by}
+use Rattle.jwalk_readings.specs.ReadDirIter.{base_of}
 use Rattle.jwalk_iter.specs.DirEntryIter.{DirEntryIter, by_crew, job_of, items_of, unread_of, read_ahead, held, held_by, IsSourced, IsSteadyWalk}
 use Rattle.jwalk_readings.proofs.RestFacts.{steady_at_rest}
 use Rattle.jwalk_iter.proofs.PlacedFacts.{all_placed}

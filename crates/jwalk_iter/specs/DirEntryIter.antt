@@ -22,8 +22,8 @@ use Rattle.jwalk_readings.specs.ReadAhead.{ReadAhead}
 use Rattle.jwalk_readings.specs.declared.readers.Readers as Readers
 use Rattle.jwalk_readings.specs.declared.read_dir_iter.ReadDirIter.{ReadDirIter}
 use Rattle.jwalk_readings.specs.ReadDirIter as readings
-use Rattle.jwalk_readings.specs.ReadDirIter.{to_read, Tells}
-use Rattle.jwalk_readings.specs.ReadingsBy.{readings_by}
+use Rattle.jwalk_readings.specs.ReadDirIter.{to_read, readings_by}
+use Rattle.jwalk_readings.specs.Sources.{Tells}
 use Rattle.jwalk_iter.specs.declared.entries.Entries.{Entries}
 use Rattle.jwalk_iter.specs.Entries as entries
 use Rattle.jwalk_iter.specs.Entries.{items_of, held_with, counted_with, AreAllSourced, StopsWith}

@@ -11,9 +11,7 @@ use Rattle.jwalk_readings.specs.declared.read_dir_iter.ReadDirIter.TheVariants.{
 use Rattle.jwalk_readings.specs.declared.crew_reads.CrewReads.{CrewReads}
 use Rattle.jwalk_readings.specs.CrewReads.{job_of as crew_job_of}
 use Rattle.jwalk_readings.specs.BatchReads.{BatchReads, next_of, read_ahead, ReadsForNext}
-use Rattle.jwalk_readings.specs.ReadBy.{by_crew, job_of, width_of}
-use Rattle.jwalk_readings.specs.Sources.{base_of}
-use Rattle.jwalk_readings.specs.ReadingsBy.{readings_by}
+use Rattle.jwalk_readings.specs.ReadDirIter.{by_crew, job_of, width_of, base_of, readings_by}
 use Rattle.jwalk_readings.specs.Gives.{Readies}
 use Rattle.jwalk_readings.proofs.BatchPrepareFacts.{ready_enters}
 

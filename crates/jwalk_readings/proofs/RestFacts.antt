@@ -18,7 +18,7 @@ use Rattle.jwalk_readings.specs.BatchReads.{BatchReads, IsSteadyBatches}
 use Rattle.jwalk_readings.specs.declared.readers.Readers as Readers
 use Rattle.jwalk_readings.specs.declared.read_dir_iter.ReadDirIter.{ReadDirIter}
 use Rattle.jwalk_readings.specs.declared.read_dir_iter.ReadDirIter.TheVariants.{Walk, CrewWalk}
-use Rattle.jwalk_readings.specs.ReadBy.{by_crew, job_of, read_ahead, frontier_of, IsSteadyReads, StartsSteady}
+use Rattle.jwalk_readings.specs.ReadDirIter.{by_crew, job_of, read_ahead, frontier_of, IsSteadyReads, StartsSteady}
 
 -- readings that were made and not handed on are as many as their addresses
 pub as_many : {C A R E : Type 0} (b : Option (Board (ReadDirSpec C A R E) (Read C A R E))) → length (board.early_on b) ≡ length (board.ahead_of b).done

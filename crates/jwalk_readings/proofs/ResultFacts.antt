@@ -4,7 +4,7 @@ use Rattle.jwalk_job.specs.Given.{Given}
 use Rattle.jwalk_readings.specs.declared.readers.Missed.{Missed}
 use Rattle.jwalk_readings.specs.declared.readers.Missed.TheVariants.{Memory, Lost}
 use Rattle.jwalk_readings.specs.CrewReads.{failure_of, NotLost}
-use Rattle.jwalk_readings.specs.ReadBy.{Tells}
+use Rattle.jwalk_readings.specs.Sources.{Tells}
 
 -- an error is no `Ok`
 pub none_ok : {T F : Type 0} (P : T → Type 0) (r : Result T F) → IsErr r → IfOk r P

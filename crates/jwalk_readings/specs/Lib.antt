@@ -9,10 +9,8 @@ pub mod ReadAhead
 pub mod BatchReads
 pub mod Parallelism
 pub mod CrewReads
-pub mod ReadBy
 pub mod Source
 pub mod Sources
 pub mod SourceFacts
-pub mod ReadingsBy
 pub mod Gives
 pub mod ReadDirIter

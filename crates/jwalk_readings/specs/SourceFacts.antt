@@ -13,15 +13,10 @@ use Rattle.jwalk_fs.specs.declared.file_system.FileSystem as FileSystem
 use Rattle.jwalk_order.specs.Addressed.{addresses_of}
 use Rattle.jwalk_job.specs.declared.process_read_dir.ProcessReadDir as ProcessReadDir
 use Rattle.jwalk_job.specs.declared.job.Job.{Job}
-use Rattle.jwalk_job.specs.Given.{Given}
 use Rattle.jwalk_readings.specs.ReadAhead.{ReadAhead, HandsOnAt, ReadsLeast}
 use Rattle.jwalk_readings.specs.CrewReads.{IsBelow, IsNextBelow}
 use Rattle.jwalk_readings.specs.Source.{IsSource}
-use Rattle.jwalk_readings.specs.declared.readers.Readers as Readers
-use Rattle.jwalk_readings.specs.declared.read_dir_iter.ReadDirIter.{ReadDirIter}
-use Rattle.jwalk_readings.specs.declared.read_dir_iter.ReadDirIter.TheVariants.{Walk, CrewWalk}
-use Rattle.jwalk_readings.specs.ReadBy.{Tells, EntersBy, IsSteadyReads}
-use Rattle.jwalk_readings.specs.Sources.{Base, source_by}
+use Rattle.jwalk_readings.specs.Sources.{Base, Tells, EntersBy, source_by}
 
 -- any walk may end early because memory ran out
 pub tells_memory : (b : Bool) (f : Failure) → f ≡ memory → Tells b f
@@ -60,8 +55,3 @@ module _ {C S P A R E : Type 0} (files : FileSystem.Ghosts S) (process : Process
     fewer = enters_fewer files process clone defaults base.job base.width base.by_crew;
     found_below = λ e c state made. found_below base.by_crew clone.is_clone state e c made;
   }
-
-  -- over what readings are steady, clones count as their originals
-  pub clones_by : {L : Type 0} (readers : Readers.Ghosts L C S P A R E) (it : ReadDirIter C S P A L R E) (given : Given R E) → IsSteadyReads files process clone defaults readers it given → (x y : R) → clone.is_clone x y → given.read_dir_state y ≡ given.read_dir_state x
-  clones_by readers (Walk walk) given steady = steady.steady.clones
-  clones_by readers (CrewWalk reads) given steady = steady.steady.clones

@@ -64,8 +64,7 @@ impl<
     ghost use Rattle.jwalk_job.specs.Options as options;
     ghost use Rattle.jwalk_job.specs.Options.{mode_value};
     ghost use Rattle.jwalk_readings.specs.ReadAhead.{nothing_ahead, BeginsWith};
-    ghost use Rattle.jwalk_readings.specs.ReadDirIter.{by_crew, job_of, to_read, width_of, read_ahead, early_of, frontier_of, most_ahead, CountsAhead, StaysSteady, Gives, GivesOf};
-    ghost use Rattle.jwalk_readings.specs.Sources.{base_of};
+    ghost use Rattle.jwalk_readings.specs.ReadDirIter.{by_crew, job_of, to_read, width_of, read_ahead, early_of, frontier_of, base_of, most_ahead, CountsAhead, StaysSteady, Gives, GivesOf};
 
     /// Returns readings that no crew makes, of no directory yet. [`begin`](ReadDirIter::begin) names the directories.
     pub fn new(alloc: A, job: Job<C, S, P, A>, mode: Mode) -> Self

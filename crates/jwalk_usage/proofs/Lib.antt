@@ -2,7 +2,6 @@ pub mod TotalFacts
 pub mod CountFacts
 pub mod StateFacts
 pub mod AddFacts
-pub mod SizedFacts
 pub mod GrowFacts
 pub mod AskedFacts
 pub mod WholeTotals

@@ -17,7 +17,7 @@ module _ {R E : Type 0} (given : Given R E) where
   same_bytes fs (Err f) = refl
   same_bytes fs (Ok e) = refl
 
-  pub same_type : (is : FileType → Bool) (x : Item R E) → entry_of is (counted_item given x) ≡ entry_of is x
+  same_type : (is : FileType → Bool) (x : Item R E) → entry_of is (counted_item given x) ≡ entry_of is x
   same_type is (Err f) = refl
   same_type is (Ok e) = refl
 

@@ -1,5 +1,5 @@
 -- The totals of a walk are those of all that was to come.
-use Rattle.std.proofs.Common.{◌≡◌, ◌⊎◌, ◌∙◌, ℕ, List, Option, false, sym, ap, map}
+use Rattle.std.proofs.Common.{◌≡◌, ◌⊎◌, ◌∙◌, false, sym, ap, map}
 use Rattle.std.specs.declared.clone.Clone as Clone
 use Rattle.std.specs.declared.default.Default as Default
 use Rattle.jwalk.specs.jwalk_fs.declared.file_system.FileSystem as FileSystem
@@ -7,25 +7,17 @@ use Rattle.jwalk.specs.jwalk_job.declared.process_read_dir.ProcessReadDir as Pro
 use Rattle.jwalk.specs.jwalk_readings.declared.readers.Readers as Readers
 use Rattle.jwalk.specs.declared.walk_dir.WalkDirGeneric.{WalkDirGeneric}
 use Rattle.jwalk.specs.jwalk_model.FileSystem.{Functions}
-use Rattle.jwalk.specs.jwalk_model.Options.{with_keep_metadata}
-use Rattle.jwalk.specs.jwalk_model.Entry.{Item}
-use Rattle.jwalk.specs.jwalk_model.ReadDir.{Reading}
-use Rattle.jwalk.specs.jwalk_model.Counted.{Worth, blank}
-use Rattle.jwalk.specs.jwalk_model.Walk.{whole_walk, stateless_walk}
+use Rattle.jwalk.specs.jwalk_model.Walk.{whole_walk}
 use Rattle.jwalk.specs.jwalk_job.Entry.{item}
 use Rattle.jwalk.specs.jwalk_job.Given.{Given}
 use Rattle.jwalk.specs.jwalk_job.Job.{IsSteady}
-use Rattle.jwalk.specs.jwalk_callbacks.declared.size.Size.{Size}
-use Rattle.jwalk.specs.jwalk_callbacks.WithSizes.{sizes, sizing}
-use Rattle.jwalk.specs.WalkDir.{file_system_of, callback_of, root_of, state_of, options_of, job_for, Starts, Holds}
+use Rattle.jwalk.specs.WalkDir.{file_system_of, callback_of, root_of, state_of, job_for, Starts, Holds}
 use Rattle.jwalk.specs.DirEntryIter.{DirEntryIter, by_crew, to_come, IsRefused, IsSteadyWalk, Answers}
 use Rattle.jwalk.proofs.WholeFacts.{all_answered, whole, steady_start}
 use Rattle.jwalk_usage.specs.declared.report.Usage.{Usage}
 use Rattle.jwalk_usage.specs.Totals.{totals}
 use Rattle.jwalk_usage.specs.Counts.{CountsAll}
-use Rattle.jwalk_usage.specs.Sized.{CountsSizes}
 use Rattle.jwalk_usage.proofs.StateFacts.{same_totals}
-use Rattle.jwalk_usage.proofs.SizedFacts.{sized_whole}
 
 -- The usage of a steady walk from its beginning is the totals of the whole walk from its root, by a file system that is asked for metadata and is fixed.
 pub counted_over : {C S P A W L R E : Type 0} (files : FileSystem.Ghosts S) (process : ProcessReadDir.Ghosts P C A R E) (clone : Clone.Ghosts R) (defaults : Default.Ghosts E) (readers : Readers.Ghosts L C S P A R E) (given : Given R E) (fixed : Type 0) (fs : Functions) (usage : Usage) (walk : WalkDirGeneric C S P A W R E) (it : DirEntryIter C S P A L R E) → IsSteadyWalk files process clone defaults readers it given → Starts walk it → IsRefused it ⊎ Holds files process clone defaults walk it → IsSteady files process clone defaults (file_system_of walk) (callback_of walk) given → fixed → CountsAll (Answers files process clone defaults readers) fixed fs it usage
@@ -47,16 +39,3 @@ module _ {C S P A L R E : Type 0} (files : FileSystem.Ghosts S) (process : Proce
   pub whole_counted : {W : Type 0} (walk : WalkDirGeneric C S P A W R E) (it : DirEntryIter C S P A L R E) → by_crew it ≡ false → Starts walk it → IsRefused it ⊎ Holds files process clone defaults walk it → IsSteady files process clone defaults (file_system_of walk) (callback_of walk) given → files.IsFixed fs → CountsAll (Answers files process clone defaults readers) (files.IsFixed fs) (files.functions fs) it usage
       → usage ≡ totals (files.functions fs) (whole_walk (job_for files given walk) (root_of walk) (given.read_dir_state (state_of walk)))
   whole_counted walk it own starts begun steady fixed counts = counted_over files process clone defaults readers given (files.IsFixed fs) (files.functions fs) usage walk it (steady_start files process clone defaults readers given walk it own starts steady) starts begun steady fixed counts
-
-module _ {C S P A W L R : Type 0} (files : FileSystem.Ghosts S) (process : ProcessReadDir.Ghosts P C A R Size) (clone : Clone.Ghosts R) (defaults : Default.Ghosts Size) (readers : Readers.Ghosts L C S P A R Size) (walk : WalkDirGeneric C S P A W R Size) (it : DirEntryIter C S P A L R Size) (usage : Usage) where
-  -- The usage by sizes of a steady walk from its beginning, whose callback asks for the sizes that the walk's own file system gives, is the totals of the walk that has no callback and keeps no metadata.
-  pub whole_sized : IsSteadyWalk files process clone defaults readers it (sizing (files.functions (file_system_of walk))) → Starts walk it → IsRefused it ⊎ Holds files process clone defaults walk it → IsSteady files process clone defaults (file_system_of walk) (callback_of walk) (sizing (files.functions (file_system_of walk))) → CountsSizes (Answers files process clone defaults readers) it usage
-      → usage ≡ totals (files.functions (file_system_of walk)) (stateless_walk (files.functions (file_system_of walk)) (with_keep_metadata false (options_of walk)) (root_of walk))
-  whole_sized steadily starts begun steady (answered, drains, adds) =
-      let fs = files.functions (file_system_of walk) in
-      adds.totals
-      ∙ sized_whole fs (options_of walk) (root_of walk) blank (map item answered) (whole files process clone defaults readers (sizing fs) walk it answered steadily starts begun steady drains adds.none_refused)
-
--- Two file systems that return the same have the same sizes.
-pub same_sizes : (fs other : Functions) → other ≡ fs → (depth : Option ℕ) (path : List ℕ) (state : Worth) (list : List (Item Worth Worth)) → ◌≡◌ {A = Reading Worth Worth} (sizes fs depth path state list) (sizes other depth path state list)
-same_sizes fs other same depth path state list = ap (λ f. sizes f depth path state list) (sym same)

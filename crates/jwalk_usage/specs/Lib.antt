@@ -3,4 +3,3 @@ pub mod Kept
 pub mod Counts
 pub mod ByAnswers
 pub mod Rows
-pub mod Sized

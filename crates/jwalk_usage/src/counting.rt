@@ -12,9 +12,7 @@ use jwalk::file_system::{FileSystem, FileType, Metadata};
 use jwalk::{ClientState, DirEntry, Error};
 use std::alloc::Allocator;
 
-pub(crate) fn has_failed<C: ClientState, A: Allocator + Copy>(
-    below: &Option<ReadChildren<C, A>>,
-) -> bool
+fn has_failed<C: ClientState, A: Allocator + Copy>(below: &Option<ReadChildren<C, A>>) -> bool
     ensures { result ≡ has_failed (option_map children below.now) }
 {
     match below {
@@ -61,7 +59,7 @@ impl Usage {
         }
     }
 
-    pub(crate) fn add_type(&mut self, file_type: FileType) -> Result<(), UsageFault>
+    fn add_type(&mut self, file_type: FileType) -> Result<(), UsageFault>
         ensures counted { OnOk result (self.new ≡ with_type file_type self.old) }
         ensures too_many { IfErr result (λ fault. (fault ≡ UsageFault.TooMany)
             × IsTooGreat (with_type file_type self.old)) }

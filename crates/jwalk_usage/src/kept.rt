@@ -4,31 +4,26 @@ ghost use Rattle.std.specs.Iterator.{IsFinite};
 ghost use Rattle.jwalk.specs.jwalk_job.Entry.{item};
 ghost use Rattle.jwalk.specs.DirEntryIter.{TellsMemory};
 ghost use Rattle.jwalk_usage.specs.ByAnswers.{AddsAll, AddsRest, CannotAdd, StopsAdding, StopsAddingRest};
-ghost use Rattle.jwalk_usage.specs.Kept.{bytes_kept, errors_kept, kept_totals, with_kept};
+ghost use Rattle.jwalk_usage.specs.Kept.{kept_totals, with_kept};
 
-use crate::by_answers::{Counted, usage_by};
 use crate::report::{Usage, UsageFault};
 use jwalk::error::Result as Answer;
 use jwalk::{ClientState, DirEntry};
 use std::alloc::Allocator;
 
-/// Answers are counted by the metadata that their entries keep.
-#[derive(Drop)]
-struct ByMetadata;
-
-impl<C: ClientState, A: Allocator + Copy> Counted<C, A> for ByMetadata {
-    ghost errors = { errors_kept };
-
-    ghost bytes = { bytes_kept };
-
-    fn add(&self, usage: &mut Usage, answer: &Answer<DirEntry<C, A>, A>) -> Result<(), UsageFault>
-        ensures counted { OnOk result (usage.new ≡ with_kept (item answer.now) usage.old) }
-        ensures told { OnOk result (¬ TellsMemory (item answer.now)) }
-        ensures faults { IfErr result (CannotAdd (with_kept (item answer.now) usage.old) (item answer.now)) }
+impl Usage {
+    /// Counts one answer by the metadata that its entry keeps.
+    fn add_kept<C: ClientState, A: Allocator + Copy>(
+        &mut self,
+        answer: Answer<DirEntry<C, A>, A>,
+    ) -> Result<(), UsageFault>
+        ensures counted { OnOk result (self.new ≡ with_kept (item answer) self.old) }
+        ensures told { OnOk result (¬ TellsMemory (item answer)) }
+        ensures faults { IfErr result (CannotAdd (with_kept (item answer) self.old) (item answer)) }
     {
         match answer {
-            Ok(found) => usage.add_kept_entry(found),
-            Err(error) => usage.add_error(error),
+            Ok(found) => self.add_kept_entry(&found),
+            Err(error) => self.add_error(&error),
         }
     }
 }
@@ -72,5 +67,9 @@ pub fn usage_kept_of_rest<
     ensures totals { IfOk result (AddsRest kept_totals I.next_gives answers.old answers.new) }
     ensures faults { IfErr result (StopsAddingRest kept_totals I.next_gives answers.old answers.new) }
 {
-    usage_by(&ByMetadata, answers)
+    let mut usage = Usage::nothing();
+    while let Some(answer) = answers.next() {
+        usage.add_kept(answer)?;
+    }
+    Ok(usage)
 }

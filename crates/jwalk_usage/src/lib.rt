@@ -11,11 +11,9 @@ ghost use Rattle.std.specs.Prelude.{IfOk, IfErr};
 ghost use Rattle.std.specs.Iterator.{IsFinite};
 ghost use Rattle.jwalk_usage.specs.Counts.{CountsAll, CountsRest, StopsCounting, StopsCountingRest};
 
-mod by_answers;
 mod counting;
 pub mod kept;
 pub mod report;
-pub mod sized;
 pub mod sums;
 
 use jwalk::error::Result as Answer;
@@ -23,7 +21,6 @@ use jwalk::file_system::FileSystem;
 use jwalk::{ClientState, DirEntry};
 pub use kept::{usage_kept, usage_kept_of_rest};
 pub use report::{Usage, UsageFault};
-pub use sized::{usage_sized, usage_sized_of_rest};
 use std::alloc::Allocator;
 
 /// Returns what the answers of an iterator come to. It is called until it ends, so it may be a walk, or any other

@@ -5,3 +5,4 @@ pub mod RefusalFacts
 pub mod RuleFacts
 pub mod StatusFacts
 pub mod ValueFacts
+mod HelpFacts

@@ -1,4 +1,5 @@
 pub mod Gathered
+pub mod Help
 pub mod Masked
 pub mod Matches
 pub mod Paths

@@ -3,7 +3,7 @@ ghost use Rattle.std.specs.Prelude.{◌≡◌, [], IfOk, OnOk};
 ghost use Rattle.std.specs.Io.KnownBytes.{Appends};
 
 use crate::halt::Halt;
-use std::alloc::{AllocError, Global};
+use std::alloc::{AllocError, Allocator, Global};
 use std::io::Write;
 
 /// The number of bytes that are gathered before they are written. A buffer of twice the length takes the last line, too.
@@ -12,12 +12,12 @@ const GATHERED: usize = 16384;
 
 /// Bytes of output that are gathered before they are written.
 #[derive(Drop)]
-pub struct Gathered {
+pub struct Gathered<A: Allocator = Global> {
     /// The bytes that aren't written yet.
-    pub bytes: Vec<u8, Global>,
+    pub bytes: Vec<u8, A>,
 }
 
-impl Gathered {
+impl<A: Allocator> Gathered<A> {
     ghost use Rattle.program_parts.specs.Gathered.{are_due};
 
     /// Returns no bytes, with room for those that are gathered.
@@ -25,7 +25,7 @@ impl Gathered {
     /// # Errors
     ///
     /// If memory runs out.
-    pub fn new(alloc: Global) -> Result<Self, AllocError>
+    pub fn new(alloc: A) -> Result<Self, AllocError>
         ensures { IfOk result (λ gathered. gathered.bytes.items ≡ []) }
     {
         Ok(Gathered {

@@ -1,9 +1,10 @@
-//! What the programs `seek` and `tally` share: words and their refusal, the written form of paths, masked texts, and output
-//! that is gathered.
+//! What the programs share: words and their refusal, the text of help, the written form of paths, masked texts, and
+//! output that is gathered.
 #![tactic(auto)]
 
 pub mod gathered;
 pub mod halt;
+pub mod help;
 pub mod masked;
 pub mod masked_lines;
 pub mod options;

@@ -3,9 +3,9 @@ ghost use Rattle.std.specs.Prelude.{◌≡◌, ◌<◌, ◌≤◌};
 ghost use Rattle.program_parts.specs.Status.{status_of_kind};
 
 use crate::halt::Halt;
+use crate::help::help_text;
 use clap::Error;
 use clap::error::ErrorKind;
-use program_help::help_text;
 use std::alloc::{AllocError, Global};
 use std::fmt;
 use std::fmt::Display;

@@ -1,19 +1,19 @@
 //! The crew that reads directories.
-ghost use Rattle.std.specs.Prelude.{◌≡◌, ℕ, Some, is_some, min, nat_lt, string_bytes, IfOk, IfSome};
+ghost use Rattle.std.specs.Prelude.{◌≡◌, ◌<◌, ℕ, Some, is_some, min, nat_lt, string_bytes, IfOk, IfSome};
 ghost use Rattle.std.specs.Arc.{arc_value};
 ghost use Rattle.jwalk.specs.jwalk_job.Options.{options_value};
 ghost use Rattle.jwalk.specs.tree_crew.Crew.{limit_of, workers_of};
 ghost use Rattle.jwalk.specs.WalkDir.{file_system_of, root_of, state_of, options_of, described};
 ghost use Rattle.program_walks.specs.Crew.{with_crew, ReadsBy};
 
-use jwalk::crew::Session;
+use jwalk::crew::{Session, threads_for};
 use jwalk::file_system::FileSystem;
 use jwalk::read_dir::NoProcess;
 use jwalk::{ClientState, Crew, DirEntryIter, Options, Parallelism, WalkDirGeneric};
 use jwalk_ignore::states::OnlyRules;
 use std::alloc::{AllocError, Allocator, Global};
 use std::sync::{Arc, Wait};
-use std::thread::{Threads, available_parallelism};
+use std::thread::Threads;
 use std::time::Clock;
 
 /// How many directories are read ahead at most: enough for all threads but one, while that one lists a large directory.
@@ -25,20 +25,8 @@ pub type Plain<T, S> = WalkDirGeneric<OnlyRules, Arc<S>, NoProcess, Global, Crew
 /// A walk under way that a crew may read for.
 pub type CrewWalk<T, C, S, P> = DirEntryIter<C, S, P, Global, Session<T, C, S, P, Global>>;
 
-fn threads_of<T: Threads>(rt: &T, asked: Option<usize>) -> usize
-    ensures { (threads : ℕ) → asked ≡ Some threads → result ≡ threads }
-{
-    match asked {
-        Some(threads) => threads,
-        None => match available_parallelism(rt) {
-            Ok(threads) => threads.get(),
-            Err(_) => 1,
-        },
-    }
-}
-
-/// Returns a crew of as many threads as are asked for, or else as can run at a time, but at most 256. One thread needs no
-/// crew. The threads read at most 8,192 directories ahead.
+/// Returns a crew of as many threads as are asked for, but at most 256. 0 and no number mean as many as can run at a time.
+/// One thread needs no crew. The threads read at most 8,192 directories ahead.
 ///
 /// # Errors
 ///
@@ -48,12 +36,13 @@ pub fn crew_of<T: Wait + Threads + Clock + Clone + Drop>(
     alloc: Global,
     asked: Option<usize>,
 ) -> Result<Option<Arc<Crew<T>>>, AllocError>
-    ensures crew { (threads : ℕ) → asked ≡ Some threads → IfOk result (λ crew. is_some crew ≡ nat_lt 1 threads) }
-    ensures workers { (threads : ℕ) → asked ≡ Some threads
+    ensures crew { (threads : ℕ) → asked ≡ Some threads → 0 < threads
+        → IfOk result (λ crew. is_some crew ≡ nat_lt 1 threads) }
+    ensures workers { (threads : ℕ) → asked ≡ Some threads → 0 < threads
         → IfOk result (λ crew. IfSome crew (λ it. workers_of (arc_value it) ≡ min threads 256)) }
     ensures read_ahead { IfOk result (λ crew. IfSome crew (λ it. limit_of (arc_value it) ≡ 8192)) }
 {
-    let threads = threads_of(rt, asked);
+    let threads = threads_for(rt, asked.unwrap_or(0));
     if threads < 2 {
         return Ok(None);
     }

@@ -5,10 +5,10 @@ use Rattle.std.specs.List.{cons_option, filter, list_all}
 use Rattle.std.specs.Option.{is_none, option_map, option_or}
 use Rattle.std.proofs.lemmas.List.{reverse-append}
 use Rattle.seek_colors.specs.Entries.{entries_among, entries_in, entry_in, is_color_byte, is_entry, parts_in}
-use Rattle.seek_colors.specs.Palette.{Colors, defaults, file_color, is_visible, kinds_in, own_color, palette_in, suffix_in, suffixes_in, visible, GivesColorsAlone}
+use Rattle.seek_colors.specs.Palette.{Colors, defaults, directory_color, file_color, has_all, has_any, is_visible, marked, mode_defaults, name_color, kinds_in, own_color, palette_in, suffix_in, suffixes_in, visible, GivesColorsAlone}
 use Rattle.seek_colors.specs.Table.{key_color, last_color, suffix_color}
 use Rattle.seek_colors.specs.declared.kind.Kind.{Kind}
-use Rattle.seek_colors.specs.declared.kind.Kind.TheVariants.{Directory, Link, BrokenLink, Executable, File, Pipe, Socket, BlockDevice, CharDevice, Other}
+use Rattle.seek_colors.specs.declared.kind.Kind.TheVariants.{Directory, Link, BrokenLink, File, Pipe, Socket, BlockDevice, CharDevice, Other}
 
 abbrev Entry : Type 0
 Entry = List ℕ × List ℕ
@@ -95,18 +95,30 @@ one_of None other is or_is = or_is
 one_of (Some color) other is or_is = is
 
 module _ (colors : Colors) (kinds : Are colors.kinds) (suffixes : Are colors.suffixes) where
-  key : (name : List ℕ) → IfAny (key_color colors.kinds name)
-  key name = last _ colors.kinds kinds
+  key : (it : List ℕ) → IfAny (key_color colors.kinds it)
+  key it = last _ colors.kinds kinds
 
-  file : (name : List ℕ) → IfAny (file_color colors name)
-  file name = one_of (suffix_color colors.suffixes name) _ (last _ colors.suffixes suffixes) (key (codes "fi"))
+  name : (name : List ℕ) → IfAny (name_color colors name)
+  name it = one_of (suffix_color colors.suffixes it) _ (last _ colors.suffixes suffixes) (key (codes "fi"))
+
+  mark : (has_bits : Bool) (key : List ℕ) → IfAny (marked colors has_bits key)
+  mark true it = seen _ (key it)
+  mark false it = tt
+
+  first_of : (first second third other : Option (List ℕ)) → IfAny first → IfAny second → IfAny third → IfAny other → IfAny (option_or (option_or (option_or first second) third) other)
+  first_of first second third other a b c d = one_of (option_or (option_or first second) third) other (one_of (option_or first second) third (one_of first second a b) c) d
+
+  file : (mode : ℕ) (it : List ℕ) → IfAny (file_color colors mode it)
+  file mode it = first_of _ _ _ _ (mark (has_all mode 2048) (codes "su")) (mark (has_all mode 1024) (codes "sg")) (mark (has_any mode 73) (codes "ex")) (name it)
+
+  directory : (mode : ℕ) → IfAny (directory_color colors mode)
+  directory mode = first_of _ _ _ _ (mark (has_all mode 514) (codes "tw")) (mark (has_all mode 2) (codes "ow")) (mark (has_all mode 512) (codes "st")) (key (codes "di"))
 
   own : (kind : Kind) (name : List ℕ) → IfAny (own_color colors kind name)
-  own Directory name = key (codes "di")
+  own (Directory mode) name = directory mode
   own Link name = key (codes "ln")
   own BrokenLink name = one_of (visible (key_color colors.kinds (codes "or"))) _ (seen _ (key (codes "or"))) (key (codes "ln"))
-  own Executable name = one_of (visible (key_color colors.kinds (codes "ex"))) _ (seen _ (key (codes "ex"))) (file name)
-  own File name = file name
+  own (File mode) it = file mode it
   own Pipe name = key (codes "pi")
   own Socket name = key (codes "so")
   own BlockDevice name = key (codes "bd")
@@ -125,5 +137,6 @@ suffixes_of text = suffixed (entries_in text) (among (parts_in text))
 -- the colours of a text are of digits and `;` alone
 pub colors_alone : (text : List ℕ) (colors : Colors) → colors.kinds ≡ (palette_in text).kinds → colors.suffixes ≡ (palette_in text).suffixes → GivesColorsAlone colors
 colors_alone text colors kinds suffixes =
-    given colors (subst Are (sym kinds) (both (kinds_in (entries_in defaults)) _ (kinds_of defaults) (kinds_of text)))
-    (subst Are (sym suffixes) (both (suffixes_in (entries_in defaults)) _ (suffixes_of defaults) (suffixes_of text)))
+    given colors
+    (subst Are (sym kinds) (both (kinds_in (entries_in defaults) ++ kinds_in (entries_in mode_defaults)) (kinds_in (entries_in text)) (both (kinds_in (entries_in defaults)) (kinds_in (entries_in mode_defaults)) (kinds_of defaults) (kinds_of mode_defaults)) (kinds_of text)))
+    (subst Are (sym suffixes) (both (suffixes_in (entries_in defaults) ++ suffixes_in (entries_in mode_defaults)) (suffixes_in (entries_in text)) (both (suffixes_in (entries_in defaults)) (suffixes_in (entries_in mode_defaults)) (suffixes_of defaults) (suffixes_of mode_defaults)) (suffixes_of text)))

@@ -5,7 +5,7 @@ use Rattle.std.proofs.lemmas.List.{map-append, take_more}
 use Rattle.std.proofs.lemmas.List.Elements.{filter-append, filter_map-append}
 use Rattle.std.specs.Option.{is_none, option_map}
 use Rattle.seek_colors.specs.Entries.{entries_among, entry_in}
-use Rattle.seek_colors.specs.Palette.{kinds_in, suffix_in, suffixes_in}
+use Rattle.seek_colors.specs.Palette.{Colors, kinds_in, suffix_in, suffixes_in}
 
 -- the kinds of two lists of texts
 pub kinds-append : (xs ys : List (List ℕ)) → kinds_in (entries_among (xs ++ ys)) ≡ kinds_in (entries_among xs) ++ kinds_in (entries_among ys)
@@ -27,3 +27,13 @@ one_more read both old before after parts i part below was is =
     ∙ ap (λ it. it ++ read (last.now ∷ [])) was
     ∙ append_assoc old (read (texts (take i parts))) (read (last.now ∷ []))
     ∙ ap (λ it. old ++ it) (sym (ap (λ it. read (texts it)) (take_more parts i part below) ∙ ap read (map-append (λ it. it.now) (take i parts) (last ∷ [])) ∙ both (texts (take i parts)) (last.now ∷ [])))
+
+-- three texts that are added to nothing
+pub three_added : (none one two three xs ys zs : List (List ℕ × List ℕ)) → none ≡ [] → one ≡ none ++ xs → two ≡ one ++ ys → three ≡ two ++ zs → three ≡ (xs ++ ys) ++ zs
+three_added none one two three xs ys zs is first second third = third ∙ ap (λ it. it ++ zs) (second ∙ ap (λ it. it ++ ys) (first ∙ ap (λ it. it ++ xs) is))
+
+abbrev made : List (List ℕ × List ℕ) → List (List ℕ × List ℕ) → Colors
+made kinds suffixes = record { kinds = kinds; suffixes = suffixes }
+
+pub same_colors : (a b : Colors) → a.kinds ≡ b.kinds → a.suffixes ≡ b.suffixes → a ≡ b
+same_colors a b kinds suffixes = ap (λ it. made it a.suffixes) kinds ∙ ap (λ it. made b.kinds it) suffixes

@@ -3,16 +3,14 @@
 /// What a color is of.
 #[derive(Clone, Copy, Debug, PartialEq, Eq)]
 pub enum Kind {
-    /// A directory.
-    Directory,
+    /// A directory, and its mode, or 0 if that isn't known.
+    Directory(u32),
     /// A link that leads somewhere.
     Link,
     /// A link that leads nowhere.
     BrokenLink,
-    /// A regular file that may be executed.
-    Executable,
-    /// Any other regular file.
-    File,
+    /// A regular file, and its mode, or 0 if that isn't known.
+    File(u32),
     /// A pipe.
     Pipe,
     /// A socket.

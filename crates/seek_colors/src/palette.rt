@@ -2,7 +2,7 @@
 ghost use Rattle.std.specs.Prelude.{◌≡◌, ◌++◌, ◌∷◌, [], IfOk, OnOk};
 ghost use Rattle.std.specs.Option.{option_copied};
 ghost use Rattle.seek_colors.specs.Entries.{entries_among, entries_in};
-ghost use Rattle.seek_colors.specs.Palette.{is_visible, kinds_in, suffix_in, suffixes_in, visible};
+ghost use Rattle.seek_colors.specs.Palette.{has_all, has_any, is_visible, kinds_in, suffix_in, suffixes_in, visible};
 
 use crate::entries::{entry_in, parts_in};
 use crate::kind::Kind;
@@ -13,6 +13,9 @@ use std::alloc::{AllocError, Allocator, Global};
 /// The entries before those of `LS_COLORS`.
 const DEFAULTS: &str =
     "di=01;34:ln=01;36:ex=01;32:pi=40;33:so=01;35:bd=40;33;01:cd=40;33;01:or=40;31;01";
+
+/// Those of kinds that a mode tells.
+const MODE_DEFAULTS: &str = "su=37;41:sg=30;43:tw=30;42:ow=34;42:st=37;44";
 
 /// The colors by the kinds of entries and by the ends of names.
 #[derive(Drop)]
@@ -35,6 +38,18 @@ fn is_visible(color: &str) -> bool
     !color.is_empty() && color != "0" && color != "00"
 }
 
+fn has_all(mode: u32, bits: u32) -> bool
+    ensures { result ≡ has_all mode bits }
+{
+    mode & bits == bits
+}
+
+fn has_any(mode: u32, bits: u32) -> bool
+    ensures { result ≡ has_any mode bits }
+{
+    mode & bits != 0
+}
+
 fn visible(color: Option<&str>) -> Option<&str>
     ensures { option_copied result ≡ visible (option_copied color.entry) }
 {
@@ -43,7 +58,7 @@ fn visible(color: Option<&str>) -> Option<&str>
 }
 
 impl Palette {
-    ghost use Rattle.seek_colors.specs.Palette.{color_of, colored_folder, colored_path, colors_of, file_color, own_color, palette_in, tells_broken, GivesColorsAlone};
+    ghost use Rattle.seek_colors.specs.Palette.{color_of, colored_folder, colored_path, colors_of, directory_color, file_color, marked, name_color, own_color, palette_in, tells_broken, GivesColorsAlone};
 
     fn add_entry(&mut self, alloc: Global, text: &str) -> Result<(), AllocError>
         ensures kinds { OnOk result ((colors_of self.new).kinds ≡ (colors_of self.old).kinds ++ kinds_in (entries_among (text.now ∷ []))) }
@@ -70,11 +85,14 @@ impl Palette {
 
     /// Reads the value of `LS_COLORS`: entries `KEY=COLOR` with a colon between each two. A key is two letters for a
     /// kind, or a `*` and the end of the names of regular files. The letters are `di`, `ln`, `or` for a link that leads
-    /// nowhere, `ex`, `fi`, `pi`, `so`, `bd`, `cd`, and `no` for whatever has no entry.
+    /// nowhere, `ex`, `fi`, `pi`, `so`, `bd`, `cd`, and `no` for whatever has no entry. By the mode, `su` and `sg` are for
+    /// files that run as their user or group, `st` for directories with the sticky bit, `ow` for those that others may
+    /// write to, and `tw` for both.
     ///
     /// If a key has several entries, the last counts. If a name has the ends of several, the last of these counts, and
     /// the case of ASCII letters doesn't count. As with `ls`, a kind that the text doesn't name has a default color:
-    /// `di=01;34:ln=01;36:ex=01;32:pi=40;33:so=01;35:bd=40;33;01:cd=40;33;01:or=40;31;01`.
+    /// `di=01;34:ln=01;36:ex=01;32:pi=40;33:so=01;35:bd=40;33;01:cd=40;33;01:or=40;31;01`, and
+    /// `su=37;41:sg=30;43:tw=30;42:ow=34;42:st=37;44`.
     ///
     /// An entry is skipped if it has no `=`, or if what follows isn't of digits and `;` alone.
     ///
@@ -90,31 +108,58 @@ impl Palette {
             suffixes: Table::new(alloc),
         };
         palette.add(alloc, DEFAULTS)?;
+        palette.add(alloc, MODE_DEFAULTS)?;
         palette.add(alloc, text)?;
         Ok(palette)
     }
 
-    fn file_color(&self, name: &str) -> Option<&str>
-        ensures { option_copied result ≡ file_color (colors_of self.now) name.now }
+    fn name_color(&self, name: &str) -> Option<&str>
+        ensures { option_copied result ≡ name_color (colors_of self.now) name.now }
     {
         self.suffixes
             .suffix_color(name)
             .or_else(|| self.kinds.key_color("fi"))
     }
 
+    /// Returns the color of a key that is for some bits of a mode, if the mode has them and the color is visible.
+    fn marked(&self, has_bits: bool, key: &str) -> Option<&str>
+        ensures { option_copied result ≡ marked (colors_of self.now) has_bits key.now }
+    {
+        if has_bits {
+            visible(self.kinds.key_color(key))
+        } else {
+            None
+        }
+    }
+
+    fn file_color(&self, mode: u32, name: &str) -> Option<&str>
+        ensures { option_copied result ≡ file_color (colors_of self.now) mode name.now }
+    {
+        self.marked(has_all(mode, 0o4000), "su")
+            .or_else(|| self.marked(has_all(mode, 0o2000), "sg"))
+            .or_else(|| self.marked(has_any(mode, 0o111), "ex"))
+            .or_else(|| self.name_color(name))
+    }
+
+    fn directory_color(&self, mode: u32) -> Option<&str>
+        ensures { option_copied result ≡ directory_color (colors_of self.now) mode }
+    {
+        self.marked(has_all(mode, 0o1002), "tw")
+            .or_else(|| self.marked(has_all(mode, 0o0002), "ow"))
+            .or_else(|| self.marked(has_all(mode, 0o1000), "st"))
+            .or_else(|| self.kinds.key_color("di"))
+    }
+
     fn own_color(&self, kind: Kind, name: &str) -> Option<&str>
         ensures { option_copied result ≡ own_color (colors_of self.now) kind name.now }
     {
         match kind {
-            Kind::Directory => self.kinds.key_color("di"),
+            Kind::Directory(mode) => self.directory_color(mode),
             Kind::Link => self.kinds.key_color("ln"),
             Kind::BrokenLink => {
                 visible(self.kinds.key_color("or")).or_else(|| self.kinds.key_color("ln"))
             }
-            Kind::Executable => {
-                visible(self.kinds.key_color("ex")).or_else(|| self.file_color(name))
-            }
-            Kind::File => self.file_color(name),
+            Kind::File(mode) => self.file_color(mode, name),
             Kind::Pipe => self.kinds.key_color("pi"),
             Kind::Socket => self.kinds.key_color("so"),
             Kind::BlockDevice => self.kinds.key_color("bd"),
@@ -127,7 +172,8 @@ impl Palette {
     /// empty, `0` or `00`.
     ///
     /// A link that leads nowhere has the color of links if `or` gives none. A regular file has the color of the end
-    /// of its name, or else that of `fi`. If it may be executed, the color of `ex` comes first.
+    /// of its name, or else that of `fi`. Of the keys for its mode the first that has a color comes before these: `su`,
+    /// `sg`, and `ex` if it may be executed. Of a directory these are `tw`, `ow` and `st`, before `di`.
     pub fn color_of(&self, kind: Kind, name: &str) -> Option<&str>
         ensures { option_copied result ≡ color_of (colors_of self.now) kind name.now }
     {
@@ -154,7 +200,7 @@ impl Palette {
         if folder.is_empty() {
             return Ok(());
         }
-        let color = self.color_of(Kind::Directory, "");
+        let color = self.color_of(Kind::Directory(0), "");
         push_start(color, out)?;
         out.extend_from_slice(folder.as_bytes())?;
         out.extend_from_slice(separator(folder).as_bytes())?;

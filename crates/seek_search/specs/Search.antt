@@ -1,5 +1,5 @@
 -- The walks of a search, and its finds.
-use Rattle.std.specs.Prelude.{ℕ, zero, suc, ◌-◌, ◌^◌, ◌==◌, Bool, true, not, ◌&&◌, List, [], ◌∷◌, bytes_eq, codes, flat_map, length, take, Option, None, Some, Result, Ok, Err, option_map, unwrap_or, if◌then◌else◌}
+use Rattle.std.specs.Prelude.{ℕ, zero, suc, ◌-◌, ◌^◌, ◌==◌, Bool, true, not, ◌&&◌, ◌||◌, List, [], ◌∷◌, bytes_eq, codes, flat_map, length, take, Option, None, Some, Result, Ok, Err, option_map, unwrap_or, if◌then◌else◌}
 use Rattle.std.specs.declared.io.ErrorKind.{ErrorKind}
 use Rattle.jwalk.specs.jwalk_model.Counted.{Worth, blank}
 use Rattle.jwalk.specs.jwalk_model.Entry.{Item}
@@ -104,9 +104,13 @@ unpruned_below fs texts lines asked sought root = unpruned sought (yielded_below
 abbrev pub yielded_by : Functions → Texts → List ℕ → Asked → Sought → List (Item Worth Worth)
 yielded_by fs texts lines asked sought = flat_map (unpruned_below fs texts lines asked sought) (roots_asked asked)
 
+-- whether no path begins with the `./` of the folder that the program runs in: no root is named, and zero bytes behind paths, which other programs read, don't keep it
+abbrev pub hides_here : Asked → Bool
+hides_here asked = (length asked.roots.items == 0) && (asked.strip_cwd_prefix || not asked.print0)
+
 -- the written form of paths, for a terminal or not
 abbrev pub style_asked : Bool → Asked → Style
-style_asked on_terminal asked = record { here = length asked.roots.items == 0; to_terminal = on_terminal; separator = if asked.print0 then 0 else 10 }
+style_asked on_terminal asked = record { here = hides_here asked; to_terminal = on_terminal; separator = if asked.print0 then 0 else 10 }
 
 -- the folder that relative paths begin at, ended by a slash, or nothing if its absolute path isn't found
 abbrev pub front_at : Result (List ℕ) ErrorKind → List ℕ

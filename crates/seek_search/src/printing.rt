@@ -63,7 +63,7 @@ fn style_of(on_terminal: bool, asked: &Asked<'_>) -> Style
     ensures { result ≡ style_asked on_terminal asked.now }
 {
     Style {
-        here: asked.roots.is_empty(),
+        here: asked.roots.is_empty() && (asked.strip_cwd_prefix || !asked.print0),
         to_terminal: on_terminal,
         separator: if asked.print0 { 0 } else { b'\n' },
     }

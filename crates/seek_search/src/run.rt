@@ -42,7 +42,7 @@ fn shared<V: Drop>(alloc: Global, value: V) -> Result<Arc<V>, AllocError>
 }
 
 /// Returns how many threads are asked for: one, if the lists of roots alone are read.
-fn threads_for(asked: &Asked<'_>) -> Option<usize> {
+fn threads_asked(asked: &Asked<'_>) -> Option<usize> {
     match asked.depths.greatest {
         Some(0 | 1) => Some(1),
         _ => asked.threads,
@@ -128,7 +128,7 @@ impl<
             lines: given,
             disk: shared(alloc, kept)?,
             texts: shared(alloc, texts)?,
-            crew: crew_of(rt, alloc, threads_for(asked))?,
+            crew: crew_of(rt, alloc, threads_asked(asked))?,
         };
         let mut printer = printer_of(alloc, screen, asked, sought, &search.texts)?;
         search.print(alloc, &mut printer, out, err)

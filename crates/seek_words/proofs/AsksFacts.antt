@@ -59,6 +59,7 @@ shown_asks rows asked times colored asks = record {
   threads = asks.threads;
   ignore_files = asks.ignore_files;
   no_global = asks.no_global;
+  strip_cwd_prefix = asks.strip_cwd_prefix;
 }
 
 pub shown_ask_for : (words : List Text) (asked : Asked) (times : Times) (colored : Bool) → AskFor words asked → AskFor words (record asked { times = times; colored = colored })

@@ -132,3 +132,4 @@ pub record Asks (rows : List Row) (asked : Asked) : Type 0 where
   pub threads : IsNumberOf (one_of (codes "threads") rows) asked.threads
   pub ignore_files : texts_of asked.ignore_files.items ≡ values_in rows (codes "ignore-file")
   pub no_global : asked.no_global ≡ is_named rows (codes "no-global-ignore-file")
+  pub strip_cwd_prefix : asked.strip_cwd_prefix ≡ is_named rows (codes "strip-cwd-prefix")

@@ -8,8 +8,8 @@ use Rattle.jwalk_model.specs.declared.metadata.Details.{Details}
 use Rattle.jwalk_model.specs.declared.metadata.Metadata.{Metadata}
 use Rattle.seek_colors.specs.Palette.{Colors, colored_path, colors_of, tells_broken}
 use Rattle.seek_colors.specs.declared.kind.Kind.{Kind}
-use Rattle.seek_colors.specs.declared.kind.Kind.TheVariants.{Directory, Link, BrokenLink, Executable, File, Pipe, Socket, BlockDevice, CharDevice, Other}
-use Rattle.seek_words.specs.Kinds.{has_format, is_executable}
+use Rattle.seek_colors.specs.declared.kind.Kind.TheVariants.{Directory, Link, BrokenLink, File, Pipe, Socket, BlockDevice, CharDevice, Other}
+use Rattle.seek_words.specs.Kinds.{has_format}
 use Rattle.seek_words.specs.Seen.{details_seen}
 use Rattle.seek_words.specs.declared.paint.Paint.{Paint}
 
@@ -39,13 +39,13 @@ asks painting = option_map_or asks_links painting false
 abbrev pub IfAsksLinks : Type 0 → Option Painting → Type 0
 IfAsksLinks fixed painting = asks painting ≡ true → fixed
 
-abbrev file_kind_by : Option Details → Kind
-file_kind_by None = File
-file_kind_by (Some details) = if is_executable details.mode then Executable else File
+abbrev mode_in : Option Details → ℕ
+mode_in None = 0
+mode_in (Some details) = details.mode
 
--- the kind of a regular file
-abbrev pub file_kind : Option Metadata → Kind
-file_kind seen = file_kind_by (details_seen seen)
+-- the mode of an entry, or 0 if it isn't known
+abbrev pub mode_seen : Option Metadata → ℕ
+mode_seen seen = mode_in (details_seen seen)
 
 -- the kind of an entry with this mode that is no file, directory or link
 abbrev pub mode_kind : ℕ → Kind
@@ -66,8 +66,8 @@ is_broken painting path = if asks_links painting then painting.broken path else 
 
 -- the kind of an entry at a path
 abbrev pub kind_of : Painting → FileType → Option Metadata → List ℕ → Kind
-kind_of painting Dir seen path = Directory
-kind_of painting Regular seen path = file_kind seen
+kind_of painting Dir seen path = Directory (mode_seen seen)
+kind_of painting Regular seen path = File (mode_seen seen)
 kind_of painting Symlink seen path = if is_broken painting path then BrokenLink else Link
 kind_of painting Special seen path = special_kind seen
 

@@ -84,8 +84,10 @@ pub struct Asked<'w> {
     pub colored: bool,
     /// The text that is printed in place of each slash of a path, if one is named.
     pub path_separator: Option<&'w str>,
-    /// A zero byte follows each path, in place of a line feed.
+    /// A zero byte follows each path, in place of a line feed. A path begins with `./` then, if no root is named.
     pub print0: bool,
+    /// No path begins with a `./` that isn't in a root, also if a zero byte follows each.
+    pub strip_cwd_prefix: bool,
     /// The number of threads that read directories, if that was named.
     pub threads: Option<usize>,
 }

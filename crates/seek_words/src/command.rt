@@ -351,7 +351,7 @@ fn print_options<'a>(alloc: Global) -> Result<Vec<Arg<'a>>, AllocError>
         long_flag(
             alloc,
             "strip-cwd-prefix",
-            "Print no `./` in front, which is so without it too",
+            "Print no `./` in front, also with -0",
         ),
         flag(
             alloc,

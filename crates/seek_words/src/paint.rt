@@ -2,9 +2,9 @@
 ghost use Rattle.std.specs.Prelude.{◌≡◌, ◌≤◌, ◌++◌, length, IfOk, OnOk, Some};
 ghost use Rattle.std.specs.Option.{option_copied};
 ghost use Rattle.jwalk_model.specs.Paths.{join};
-ghost use Rattle.seek_words.specs.Paint.{broken_in, file_kind, special_kind, mode_kind};
+ghost use Rattle.seek_words.specs.Paint.{broken_in, mode_seen, special_kind, mode_kind};
 
-use crate::kinds::{has_format, is_executable};
+use crate::kinds::has_format;
 use crate::seen::details_seen;
 use crate::shown::Shown;
 use jwalk_fs::fault::Fault;
@@ -25,12 +25,12 @@ pub struct Paint {
     pub follow: bool,
 }
 
-fn file_kind(seen: Option<&Metadata>) -> Kind
-    ensures { result ≡ file_kind (option_copied seen.entry) }
+fn mode_seen(seen: Option<&Metadata>) -> u32
+    ensures { result ≡ mode_seen (option_copied seen.entry) }
 {
     match details_seen(seen) {
-        Some(details) if is_executable(details.mode) => Kind::Executable,
-        _ => Kind::File,
+        Some(details) => details.mode,
+        None => 0,
     }
 }
 
@@ -100,8 +100,8 @@ impl Paint {
             (option_copied entry.entry.seen) (join entry.entry.folder.now entry.entry.name.now)) }
     {
         match entry.file_type {
-            FileType::Dir => Ok(Kind::Directory),
-            FileType::File => Ok(file_kind(entry.seen)),
+            FileType::Dir => Ok(Kind::Directory(mode_seen(entry.seen))),
+            FileType::File => Ok(Kind::File(mode_seen(entry.seen))),
             FileType::Symlink => {
                 if self.is_broken(alloc, disk, entry)? {
                     Ok(Kind::BrokenLink)

@@ -298,6 +298,7 @@ fn asked_of<'w>(alloc: Global, found: &ArgMatches<'w>) -> Result<Asked<'w>, Refu
         threads: number_of(found, "threads"),
         ignore_files: values_of(alloc, found, "ignore-file")?,
         no_global: is_named(found, "no-global-ignore-file"),
+        strip_cwd_prefix: is_named(found, "strip-cwd-prefix"),
     })
 }
 

@@ -12,7 +12,7 @@ use std::sync::Arc;
 use test_fixtures::answers::{Answer, are_lines};
 use test_fixtures::builders::Builder;
 use test_fixtures::host::Host;
-use test_fixtures::ways::{Asked, Setting, WAYS, add_in_turn, with_all};
+use test_fixtures::ways::{Setting, add_in_turn, with_all};
 
 /// A walk that has not begun, for which a crew will read.
 pub type CrewWalk<R, S> = WalkDirGeneric<((), ()), Arc<S>, NoProcess, Global, Crew<R>>;
@@ -175,19 +175,5 @@ impl<'a, S: FileSystem + Send + Sync + 'static> ByCrew<'a, S> {
             Ok(found) => are_lines(rt.alloc(), found.as_slice(), wanted),
             Err(_) => false,
         }
-    }
-
-    /// Returns whether the walk yields these lines, read in each way and by a crew of two.
-    pub fn shows_always<R: Host>(&self, rt: &R, wanted: &str) -> bool {
-        let asked = Asked {
-            fs: &*self.fs,
-            root: self.root,
-            settings: self.settings,
-        };
-        let mut are_shown = self.shows(rt, 2, wanted);
-        for way in WAYS {
-            are_shown &= asked.shows(rt, NoProcess, *way, wanted);
-        }
-        are_shown
     }
 }

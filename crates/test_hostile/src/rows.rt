@@ -1,9 +1,10 @@
 //! File systems that fail, change or lie, by worked examples.
 mod descriptors;
+mod disk;
 mod endless;
 mod failing_calls;
 mod identities;
 mod lies;
-mod numbered;
 mod one_file_system;
+mod row;
 mod vanishing;

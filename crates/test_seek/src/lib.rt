@@ -1,15 +1,9 @@
-//! Ignore files, parts of `seek` over plain values, and runs of the program.
+//! Walks that honour ignore files, and runs of `seek` that no files on a disk can tell.
 #![tactic(auto)]
 
 #[cfg(test)]
-mod colors;
-#[cfg(test)]
-mod details;
-#[cfg(test)]
 mod ignore;
 #[cfg(test)]
-mod links;
-#[cfg(test)]
-mod owners;
+mod parts;
 #[cfg(test)]
 mod seek;

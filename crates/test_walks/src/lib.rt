@@ -1,5 +1,5 @@
 //! The answers of walks and of their readings, by worked examples, and the cases of their callers: states, `for` loops,
-//! getters, errors and their texts, sizes of files, walks of size, and totals.
+//! getters, errors and their texts, walks of size, and totals.
 #![tactic(auto)]
 
 #[cfg(test)]
@@ -8,8 +8,6 @@ mod callers;
 mod error_texts;
 #[cfg(test)]
 mod errors;
-#[cfg(test)]
-mod file_sizes;
 #[cfg(test)]
 mod found;
 #[cfg(test)]

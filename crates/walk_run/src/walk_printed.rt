@@ -6,10 +6,11 @@ ghost use Rattle.walk_text.specs.Failure.{status_of};
 ghost use Rattle.jwalk_model.specs.Lines.{lines_of};
 ghost use Rattle.walk_run.specs.Answers.{PrintsAll};
 
-use crate::answers::{print_one, room, write_rest};
+use crate::answers::{print_one, write_rest};
 use jwalk::file_system::FileSystem;
 use jwalk::read_dir::ProcessReadDir;
 use jwalk::{ClientState, DirEntryIter, Readers};
+use program_parts::gathered::Gathered;
 use std::alloc::Allocator;
 use std::io::Write;
 use std::thread::Threads;
@@ -34,7 +35,7 @@ where
         walk.old (W.contents out.old) (W.contents out.new)) }
     ensures status { IfErr result (λ failure. status_of failure ≡ 1) }
 {
-    let mut gathered = room(alloc)?;
+    let mut gathered = Gathered::new(alloc)?;
     let mut clean = true;
     while let Some(answer) = walk.next_on(rt) {
         clean &= print_one(answer, &mut gathered, out)?;

@@ -1,6 +1,7 @@
 //! Walks that threads of their own read ahead.
 ghost use Rattle.std.specs.Prelude.{◌≡◌, ◌<◌, min, None, IfOk, IsSomeAnd};
 
+use crate::crew::threads_for;
 use crate::host::Host;
 use crate::walk_dir::WalkDirGeneric;
 use jwalk_fs::file_system::FileSystem;
@@ -10,21 +11,7 @@ use jwalk_readings::parallelism::Parallelism;
 use jwalk_readings::readers::NoCrew;
 use std::alloc::{AllocError, Allocator};
 use std::sync::Arc;
-use std::thread::{Threads, available_parallelism};
 use tree_crew::crew::Crew;
-
-/// Returns how many threads a count means: 0 means as many as can run side by side, or one where that isn't known.
-fn threads_for<R: Threads>(rt: &R, count: usize) -> usize
-    ensures { 0 < count → result ≡ count }
-{
-    if count > 0 {
-        return count;
-    }
-    match available_parallelism(rt) {
-        Ok(cores) => cores.get(),
-        Err(_) => 1,
-    }
-}
 
 impl<C: ClientState, S: FileSystem, P: ProcessReadDir<C, A>, A: Allocator + Copy> WalkDirGeneric<
     C,

@@ -16,8 +16,8 @@ use std::fmt::Debug;
 /// each list to another callback.
 ///
 /// ```text
-/// let rules = IgnoreFiles::new(RealTexts::new(&rt)).then(WithSizes::new(fs_again));
-/// let walk = WalkDirGeneric::<(RulesState, Size), _, _, _>::new(fs, root);
+/// let rules = IgnoreFiles::new(RealTexts::new(&rt)).then(SkipNames::new(names));
+/// let walk = WalkDirGeneric::<(RulesState, ()), _, _, _>::new(fs, root);
 /// for answer in with_ignore_files(walk, rules).into_iter() { .. }
 /// ```
 ///

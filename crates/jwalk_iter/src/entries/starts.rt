@@ -28,7 +28,7 @@ impl<
     ghost use Rattle.jwalk_job.specs.Options as options;
     ghost use Rattle.jwalk_job.specs.Job.{options_of};
     ghost use Rattle.jwalk_readings.specs.ReadAhead.{BeginsWith};
-    ghost use Rattle.jwalk_readings.specs.Sources.{base_of};
+    ghost use Rattle.jwalk_readings.specs.ReadDirIter.{base_of};
     ghost use Rattle.jwalk_iter.specs.DirEntryIter.{reads_of, by_crew, is_refused, job_of, items_of, unread_of, width_of, frontier_of, read_ahead, held_by, IsWithin, IsSourced, IsRefused};
 
     /// Returns a walk whose start ran out of memory: it yields the error that reports it, and nothing else. The call

@@ -1,9 +1,9 @@
 //! Readings that a crew may make.
 ghost use Rattle.jwalk_job.specs.Job.{callback};
 ghost use Rattle.jwalk_readings.specs.ReadDirIter as reads;
-ghost use Rattle.jwalk_readings.specs.ReadDirIter.{IsSteadyReads};
-ghost use Rattle.jwalk_readings.specs.Sources.{Base, base_of, source_by, AreAhead};
-ghost use Rattle.jwalk_readings.specs.SourceFacts.{is_source_by, clones_by};
+ghost use Rattle.jwalk_readings.specs.ReadDirIter.{IsSteadyReads, base_of, AreAhead, clones_by};
+ghost use Rattle.jwalk_readings.specs.Sources.{Base, source_by};
+ghost use Rattle.jwalk_readings.specs.SourceFacts.{is_source_by};
 
 use crate::batch_reads::BatchReads;
 use crate::crew_reads::CrewReads;

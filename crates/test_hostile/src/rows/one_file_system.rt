@@ -1,9 +1,13 @@
 //! Walks that stay on one file system, on disks that tell by numbers which device a directory is on, or that don't.
-use crate::rows::numbered::Told::{Nothing, Numbers};
-use crate::rows::numbered::{At, Row, first_wrong};
+use crate::rows::disk::At;
+use crate::rows::disk::Told::{Nothing, Numbers};
+use crate::rows::row::{ROW, Row};
 use test_fixtures::ways::Setting;
 
-const STAY: &[Setting] = &[Setting::SameFileSystem, Setting::Max(6)];
+const ONE: Row = Row {
+    settings: &[Setting::SameFileSystem, Setting::Max(6)],
+    ..ROW
+};
 
 const STAY_AND_FOLLOW: &[Setting] = &[Setting::SameFileSystem, Setting::Follow, Setting::Max(6)];
 
@@ -18,7 +22,7 @@ const ROOT_LINK: &[At] = &[
 ];
 
 /// Directories on one device or another, or on none that is known.
-const ROWS: &[Row] = &[
+pub const ROWS: &[Row] = &[
     Row {
         name: "a directory on another device is yielded and not read",
         places: &[
@@ -28,11 +32,10 @@ const ROWS: &[Row] = &[
             At::Dir("/r/b", Numbers(1, 2)),
             At::File("/r/b/x"),
         ],
-        root: "/r",
-        settings: STAY,
         answers: "0 d /r; 1 d /r/a; 1 d /r/b; 2 f /r/b/x",
         // Once for each directory that is read.
         asked: 2,
+        ..ONE
     },
     Row {
         name: "a directory on another device is read if the walk may leave",
@@ -41,10 +44,10 @@ const ROWS: &[Row] = &[
             At::Dir("/r/a", Numbers(2, 1)),
             At::File("/r/a/x"),
         ],
-        root: "/r",
         settings: &[],
         answers: "0 d /r; 1 d /r/a; 2 f /r/a/x",
         asked: 0,
+        ..ONE
     },
     Row {
         name: "a directory on no known device is read and what is known decides below",
@@ -58,11 +61,10 @@ const ROWS: &[Row] = &[
             At::Dir("/r/a/u/x/z", Numbers(2, 2)),
             At::File("/r/a/u/x/z/f"),
         ],
-        root: "/r",
-        settings: STAY,
         answers: "0 d /r; 1 d /r/a; 2 d /r/a/u; 3 d /r/a/u/x; 4 d /r/a/u/x/y; 4 d /r/a/u/x/z; \
                   5 f /r/a/u/x/z/f",
         asked: 5,
+        ..ONE
     },
     Row {
         name: "a root on no known device is read",
@@ -71,10 +73,9 @@ const ROWS: &[Row] = &[
             At::Dir("/r/a", Numbers(2, 1)),
             At::File("/r/a/x"),
         ],
-        root: "/r",
-        settings: STAY,
         answers: "0 d /r; 1 d /r/a; 2 f /r/a/x",
         asked: 2,
+        ..ONE
     },
     Row {
         name: "a root that is a followed link to another device is read",
@@ -83,14 +84,15 @@ const ROWS: &[Row] = &[
         settings: STAY_AND_FOLLOW,
         answers: "0 D /l; 1 d /l/a; 2 f /l/a/x; 1 d /l/b",
         asked: 3,
+        ..ONE
     },
     Row {
         name: "a root that is a link to another device is read",
         places: ROOT_LINK,
         root: "/l",
-        settings: STAY,
         answers: "0 L /l; 1 d /l/a; 2 f /l/a/x; 1 d /l/b",
         asked: 3,
+        ..ONE
     },
     Row {
         name: "a followed link to another device is yielded and not read",
@@ -101,14 +103,9 @@ const ROWS: &[Row] = &[
             At::Link("/r/m", "/t", Numbers(1, 2)),
             At::File("/r/m/x"),
         ],
-        root: "/r",
         settings: STAY_AND_FOLLOW,
         answers: "0 d /r; 1 D /r/l; 1 D /r/m; 2 f /r/m/x",
         asked: 5,
+        ..ONE
     },
 ];
-
-#[test]
-fn which_directories_are_on_the_file_system(rt: HostRuntime) {
-    assert_eq!(rt; first_wrong(&rt, ROWS), None);
-}

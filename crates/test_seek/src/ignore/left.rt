@@ -1,5 +1,5 @@
-//! What walks yield.
-use jwalk::ClientState;
+//! What walks yield, as texts.
+use crate::ignore::planted::Rules;
 use std::alloc::{AllocError, Global};
 use test_fixtures::answers::Answer;
 
@@ -9,7 +9,7 @@ fn push_path(text: &mut String, path: &str) -> Result<(), AllocError> {
 }
 
 /// An entry has its path, an error a mark, its depth and its path.
-fn push_item<C: ClientState>(text: &mut String, answer: &Answer<C>) -> Result<(), AllocError> {
+fn push_item(text: &mut String, answer: &Answer<Rules>) -> Result<(), AllocError> {
     match answer {
         Ok(entry) => push_path(text, entry.path()?.as_str())?,
         Err(error) => {
@@ -22,7 +22,7 @@ fn push_item<C: ClientState>(text: &mut String, answer: &Answer<C>) -> Result<()
 }
 
 /// Leaves out the root. Each item is on a line.
-fn text_of<C: ClientState>(alloc: Global, answers: &[Answer<C>]) -> Result<String, AllocError> {
+pub(crate) fn text_of(alloc: Global, answers: &[Answer<Rules>]) -> Result<String, AllocError> {
     let mut text = String::new(alloc);
     for answer in answers {
         match answer {
@@ -33,54 +33,9 @@ fn text_of<C: ClientState>(alloc: Global, answers: &[Answer<C>]) -> Result<Strin
     Ok(text)
 }
 
-/// The numbers of answers.
-#[derive(Clone, Copy, PartialEq, Eq)]
-pub(crate) struct Numbers {
-    /// All of them.
-    pub(crate) all: usize,
-    /// Links that are yielded as links.
-    pub(crate) links: usize,
-    /// Errors of links that lead back to `/r`.
-    pub(crate) loops: usize,
-}
-
-fn is_loop<C: ClientState>(answer: &Answer<C>) -> bool {
-    matches!(answer, Err(error) if error.loop_ancestor() == Some("/r"))
-}
-
-fn is_link<C: ClientState>(answer: &Answer<C>) -> bool {
-    matches!(answer, Ok(entry) if entry.file_type.is_symlink())
-}
-
-fn numbers_of<C: ClientState>(found: &[Answer<C>]) -> Numbers {
-    Numbers {
-        all: found.len(),
-        links: found.iter().filter(|answer| is_link(*answer)).count(),
-        loops: found.iter().filter(|answer| is_loop(*answer)).count(),
-    }
-}
-
-/// What a walk must yield.
-#[derive(Clone, Copy)]
-pub(crate) enum Wanted<'w> {
-    /// These items, each on a line, but for the root. An entry is its path, and an error `! DEPTH PATH`. Paths that begin
-    /// with `/r/` have no such beginning here.
-    Items(&'w str),
-    Numbers(Numbers),
-}
-
-impl Wanted<'_> {
-    /// Returns the items if they aren't what is wanted.
-    pub(crate) fn wrong<C: ClientState>(
-        self,
-        alloc: Global,
-        found: &[Answer<C>],
-    ) -> Result<Option<String>, AllocError> {
-        let items = text_of(alloc, found)?;
-        let is_right = match self {
-            Wanted::Items(wanted) => items.as_str() == wanted,
-            Wanted::Numbers(wanted) => numbers_of(found) == wanted,
-        };
-        Ok(if is_right { None } else { Some(items) })
-    }
+/// Returns the numbers of entries, without the root, and of errors.
+pub(crate) fn counts_of(answers: &[Answer<Rules>]) -> (usize, usize) {
+    let errors = answers.iter().filter(|answer| answer.is_err()).count();
+    let entries = answers.len().saturating_sub(errors);
+    (entries.saturating_sub(1), errors)
 }

@@ -64,13 +64,13 @@ impl Planted {
         }
         Ok(())
     }
-}
 
-/// The tree is below `/r`.
-pub(crate) fn tree_of(alloc: Global, lines: &str) -> Result<Planted, BuildError> {
-    let mut planted = Planted::new(alloc)?;
-    for line in lines.lines() {
-        planted.add(line)?;
+    /// Adds links to `/r` in it, whose names have numbers.
+    pub(crate) fn add_links(&mut self, count: usize) -> Result<(), BuildError> {
+        for number in 0..count {
+            let path = format!(in self.alloc; "/r/l{number}")?;
+            self.fs.add_link(path.as_str(), ".")?;
+        }
+        Ok(())
     }
-    Ok(planted)
 }

@@ -1,13 +1,13 @@
 //! Walks with rules, where each request for memory is refused, or all from each on.
-use crate::ignore::planted::{Planted, tree_of};
-use jwalk::file_system::{BuildError, FileSystem, MemoryFs};
+use crate::ignore::planted::Planted;
+use crate::ignore::table::{Row, read_table};
+use jwalk::file_system::{FileSystem, MemoryFs};
 use jwalk::read_dir::ProcessReadDir;
 use jwalk::{ClientState, WalkDirGeneric};
 use jwalk_ignore::chain::Chain;
 use jwalk_ignore::ignore_files::IgnoreFiles;
 use jwalk_ignore::memory_texts::MemoryTexts;
-use std::alloc::{Allocator, Global};
-use std::io::ErrorKind;
+use std::alloc::{AllocError, Allocator, Global};
 use std::sync::atomic::{AtomicUsize, Ordering};
 use test_fixtures::refused::counting::Counting;
 use test_fixtures::refused::outcome::{Call, Outcome, WAYS, comes};
@@ -15,62 +15,49 @@ use test_fixtures::refused::turns::{MOST, Repeated, first_wrong};
 use test_fixtures::refusing_alloc::Refusing;
 use test_fixtures::width::Width;
 
-/// A walk by name, and its answers.
-#[derive(Clone, Copy)]
-struct Row {
-    root: &'static str,
-    /// A file of rules that can't be read.
-    denied: Option<&'static str>,
-    lines: &'static [&'static str],
-}
-
-const WHOLE: Row = Row {
-    root: "/r",
-    denied: None,
-    lines: &[
-        "0 d /r",
-        "1 f /r/c",
-        "1 d /r/s",
-        "2 f /r/s/e",
-        "2 f /r/s/k.o",
-    ],
-};
-
-/// The whole tree, the tree below a directory with rules from above, and the tree without the rules of a file.
-const ROWS: &[Row] = &[
-    WHOLE,
-    Row {
-        root: "/r/s",
-        denied: None,
-        lines: &["0 d /r/s", "1 f /r/s/e", "1 f /r/s/k.o"],
-    },
-    Row {
-        root: "/r",
-        denied: Some("/r/s/.gitignore"),
-        lines: &[
-            "0 d /r",
-            "1 f /r/c",
-            "1 d /r/s",
-            "! 2 /r/s/.gitignore PermissionDenied",
-            "2 f /r/s/d",
-            "2 f /r/s/e",
-        ],
-    },
-];
-
-/// A tree with each kind of rules.
-const TREE: &str = ".git/\n.git/info/exclude=x|\n.ignore=b|\n.gitignore=*.o|\na.o\nb\nc\ns/\n\
-                    s/.gitignore=d|!k.o|\ns/d\ns/e\ns/j.o\ns/k.o\nx";
-
-/// The texts have `.git`, as the walk may begin further down.
-fn planted_for(alloc: Global, row: &Row) -> Result<Planted, BuildError> {
-    let mut planted = tree_of(alloc, TREE)?;
-    planted.texts.add("/r/.git", b"")?;
-    if let Some(denied) = row.denied {
-        planted.texts.deny(denied, ErrorKind::PermissionDenied)?;
-    }
-    Ok(planted)
-}
+/// Walks over a tree with each kind of rules. The texts have `.git`, as a walk may begin further down.
+const TABLE: &str = "\
+# the whole tree
+repository
+  .git/info/exclude=x|
+  .ignore=b|
+  .gitignore=*.o|
+  a.o
+  b
+  c
+  s/
+  s/.gitignore=d|!k.o|
+  s/d
+  s/e
+  s/j.o
+  s/k.o
+  x
+rules /r/.git=
+$ walk /r
+  0 d /r
+  1 f /r/c
+  1 d /r/s
+  2 f /r/s/e
+  2 f /r/s/k.o
+# below a directory with rules from above
+$ walk /r/s
+  0 d /r/s
+  1 f /r/s/e
+  1 f /r/s/k.o
+# without the rules of a file
+repository
+  .ignore=b|
+  b
+  s/
+  s/.gitignore=d|
+  s/d
+denied /r/s/.gitignore
+$ walk /r
+  0 d /r
+  1 d /r/s
+  ! 2 /r/s/.gitignore PermissionDenied
+  2 f /r/s/d
+";
 
 /// A walk that has not begun and has rules.
 type Walk<'f, A> = WalkDirGeneric<
@@ -80,11 +67,12 @@ type Walk<'f, A> = WalkDirGeneric<
     A,
 >;
 
-/// The walk of a row over its tree, with how many directories are read together and how its answers are taken.
+/// The walk of a row, with how many directories are read together and how its answers are taken.
 #[derive(Clone, Copy)]
 struct Play<'f> {
     planted: &'f Planted,
-    row: &'f Row,
+    root: &'f str,
+    lines: &'f [&'f str],
     width: Width,
     call: Call,
     /// The number of times that the rules ran out of memory.
@@ -108,7 +96,7 @@ fn by_name<C: ClientState, S: FileSystem, P: ProcessReadDir<C, A>, A: Allocator 
 impl<'f> Play<'f> {
     /// Returns `None` if there is no memory for the root.
     fn builder<A: Allocator + Copy>(&self, memory: A) -> Option<Walk<'f, A>> {
-        let root = String::from_str(memory, self.row.root).ok()?;
+        let root = String::from_str(memory, self.root).ok()?;
         let rules = Counting::new(IgnoreFiles::new(&self.planted.texts), self.within);
         Some(by_name(&self.planted.fs, root, self.width, rules))
     }
@@ -118,7 +106,7 @@ impl<'f> Play<'f> {
 impl Repeated for Play<'_> {
     fn comes(&self, alloc: Global, memory: &Refusing<Global>) -> Outcome {
         match self.builder(memory) {
-            Some(walk) => comes(alloc, memory, walk, self.call, self.row.lines),
+            Some(walk) => comes(alloc, memory, walk, self.call, self.lines),
             None => Outcome::Refused(0),
         }
     }
@@ -128,44 +116,26 @@ impl Repeated for Play<'_> {
     }
 }
 
-/// Walks in each way.
-fn is_right(alloc: Global, row: &Row, many: usize) -> bool {
-    let Ok(planted) = planted_for(alloc, row) else {
-        return false;
-    };
-    let within = AtomicUsize::new(0);
+/// Walks in each way, with one request refused, and with all from each on.
+fn is_right(alloc: Global, play: Play<'_>) -> bool {
     for (width, call) in WAYS {
-        let play = Play {
-            planted: &planted,
-            row,
-            width: *width,
-            call: *call,
-            within: &within,
-        };
-        if first_wrong(alloc, many, &play).is_some() {
-            return false;
+        for many in [1, usize::MAX] {
+            let play = Play {
+                width: *width,
+                call: *call,
+                ..play
+            };
+            if first_wrong(alloc, many, &play).is_some() {
+                return false;
+            }
         }
     }
     true
 }
 
-#[test]
-fn each_request_of_a_walk_with_rules_in_turn(rt: HostRuntime) {
-    for row in ROWS {
-        assert!(rt; is_right(rt.alloc(), row, 1), "from {}", row.root);
-    }
-}
-
-#[test]
-fn all_requests_of_a_walk_with_rules_from_each_on(rt: HostRuntime) {
-    for row in ROWS {
-        assert!(rt; is_right(rt.alloc(), row, usize::MAX), "from {}", row.root);
-    }
-}
-
-/// Returns how many requests of the rules were refused, one at a time, after no answer and after two answers. Returns
-/// `None` if one was reported elsewhere, as the lists are read for the first and for the third answer.
-fn refused_within(alloc: Global, play: Play<'_>) -> Option<(usize, usize)> {
+/// Returns whether the rules run out of memory in the lists that are read for the first and for the third answer, more
+/// than ten times in each, and in no other. One request is refused at a time.
+fn is_reported_in_place(alloc: Global, play: Play<'_>) -> bool {
     let memory = Refusing::new(alloc);
     let (mut at_first, mut at_third): (usize, usize) = (0, 0);
     for number in 1..MOST {
@@ -174,33 +144,41 @@ fn refused_within(alloc: Global, play: Play<'_>) -> Option<(usize, usize)> {
         let came = play.comes(alloc, &memory);
         let is_within = play.within.load(Ordering::SeqCst) != before;
         match came {
-            _ if memory.pieces() != 0 => return None,
-            Outcome::Whole => return Some((at_first, at_third)),
+            _ if memory.pieces() != 0 => return false,
+            Outcome::Whole => return at_first > 10 && at_third > 10,
             Outcome::Refused(0) if is_within => at_first = at_first.saturating_add(1),
             Outcome::Refused(2) if is_within => at_third = at_third.saturating_add(1),
             Outcome::Refused(_) if !is_within => {}
-            _ => return None,
+            _ => return false,
         }
     }
-    None
+    false
 }
 
-/// The walk reads one directory at a time.
-fn refused_of_rules(alloc: Global) -> Option<(usize, usize)> {
-    let planted = planted_for(alloc, &WHOLE).ok()?;
+/// Walks over the tree of a row by itself, and looks where the memory of rules runs out, if the row is of the whole tree.
+fn is_right_row(alloc: Global, planted: &Planted, row: &Row<'_>) -> Result<bool, AllocError> {
+    let lines: Vec<&str> = row.items.as_str().lines().collect(alloc)?;
     let within = AtomicUsize::new(0);
     let play = Play {
-        planted: &planted,
-        row: &WHOLE,
+        planted,
+        root: row.root,
+        lines: lines.as_slice(),
         width: Width::Serial,
         call: Call::IntoIter,
         within: &within,
     };
-    refused_within(alloc, play)
+    let is_whole = row.name == "the whole tree";
+    Ok(is_right(alloc, play) && (!is_whole || is_reported_in_place(alloc, play)))
 }
 
 #[test]
-fn requests_of_rules_are_refused_and_reported_where_the_list_is_read(rt: HostRuntime) {
-    let refused = refused_of_rules(rt.alloc());
-    assert!(rt; matches!(refused, Some((at_first, at_third)) if at_first > 10 && at_third > 10));
+fn requests_of_walks_with_rules_are_refused(rt: HostRuntime) {
+    let scenes = read_table(rt.alloc(), TABLE).unwrap_or(Vec::new(rt.alloc()));
+    assert_eq!(rt; scenes.len(), 2);
+    for scene in &scenes {
+        for row in &scene.rows {
+            let is_right = is_right_row(rt.alloc(), &scene.planted, row);
+            assert!(rt; is_right == Ok(true), "{}", row.name);
+        }
+    }
 }

@@ -1,86 +1,195 @@
-//! Ignore files and paths, with the decisions of git 2.39. `bench/ignore.py` makes such rows.
-use jwalk_ignore::decision::Decision;
+//! Walks with rules that rows of `seek` can't show, or that are read in other ways there.
 
-/// An ignore file, a path, whether the path is that of a directory, and git's decision.
-pub(crate) type Row = (&'static [u8], &'static [u8], bool, Decision);
+/// Which files of rules count, and which of them decides.
+const FORCE: &str = "\
+# the kinds decide in order
+repository
+  .git/info/exclude=a|c|d|
+  .gitignore=!a|b|!d|
+  .ignore=!b|d|
+  a
+  b
+  c
+  d
+$ walk /r
+  .gitignore
+  .ignore
+  a
+  b
+# a nested repository ends the outer rules
+repository
+  .git/info/exclude=c|
+  .gitignore=a|
+  .ignore=b|
+  s/
+  s/.git/
+  s/a
+  s/b
+  s/c
+  s/t/
+  s/t/a
+$ walk /r
+  .gitignore
+  .ignore
+  s
+  s/a
+  s/c
+  s/t
+  s/t/a
+# git as a file, where the texts have an exclude all the same
+tree
+  .git/info/exclude=a|
+  .git
+  .gitignore=b|
+  a
+  b
+$ walk /r
+  .gitignore
+# outside repositories, and without version control
+tree
+  .gitignore=a|
+  .ignore=b|
+  a
+  b
+$ walk /r
+  .gitignore
+  .ignore
+  a
+$ walk /r anywhere
+  .gitignore
+  .ignore
+$ walk /r no-git anywhere
+  .gitignore
+  .ignore
+  a
+# rules above the root are in force, which may be a file, or a relative path
+repository
+  .gitignore=a|s/|s/b|
+  .ignore=c|
+  s/
+  s/a
+  s/b
+  s/c
+  s/t/
+  s/t/b
+rules /r/.git=
+$ walk /r/s/
+  s/t
+  s/t/b
+$ walk r/s
+  r/s/t
+  r/s/t/b
+$ walk /r/s/a
+# fdignore counts where it is asked for; without rules from above those below count
+repository
+  .git/info/exclude=c|
+  .gitignore=a|
+  .ignore=b|
+  .fdignore=f|
+  s/
+  s/.gitignore=d|
+  s/.ignore=e|
+  s/.fdignore=!b|g|
+  s/a
+  s/b
+  s/c
+  s/d
+  s/e
+  s/f
+  s/g
+rules /r/.git=
+$ walk /r/s
+  s/.fdignore
+  s/.gitignore
+  s/.ignore
+  s/f
+  s/g
+$ walk /r/s fdignore
+  s/.fdignore
+  s/.gitignore
+  s/.ignore
+  s/b
+$ walk /r/s no-above
+  s/.fdignore
+  s/.gitignore
+  s/.ignore
+  s/a
+  s/b
+  s/c
+  s/f
+  s/g
+";
 
-/// Comments, escapes, examples of git's documentation, and odd forms.
-pub(crate) const ROWS: &[Row] = &[
-    (b"", b"a", false, Decision::Unsaid),
-    (b"# a\n\n  \n", b"# a", false, Decision::Unsaid),
-    (b"# a\n\n  \n", b"a", false, Decision::Unsaid),
-    (b"\\#a\n\\!b\n", b"#a", false, Decision::Ignored),
-    (b"\\#a\n\\!b\n", b"!b", false, Decision::Ignored),
-    (b"\\#a\n\\!b\n", b"a", false, Decision::Unsaid),
-    (b"hello.*\n", b"hello.txt", false, Decision::Ignored),
-    (b"hello.*\n", b"a/hello.java", false, Decision::Ignored),
-    (b"hello.*\n", b"hello", false, Decision::Unsaid),
-    (b"/hello.*\n", b"hello.txt", false, Decision::Ignored),
-    (b"/hello.*\n", b"a/hello.java", false, Decision::Unsaid),
-    (b"foo/\n", b"foo", true, Decision::Ignored),
-    (b"foo/\n", b"a/foo", true, Decision::Ignored),
-    (b"foo/\n", b"b/foo", false, Decision::Unsaid),
-    (b"doc/frotz\n", b"doc/frotz", false, Decision::Ignored),
-    (b"doc/frotz\n", b"a/doc/frotz", false, Decision::Unsaid),
-    (b"/doc/frotz\n", b"doc/frotz", false, Decision::Ignored),
-    (b"/doc/frotz\n", b"a/doc/frotz", false, Decision::Unsaid),
-    (b"foo/*\n", b"foo/test.json", false, Decision::Ignored),
-    (b"foo/*\n", b"foo/bar", true, Decision::Ignored),
-    (b"foo/*\n", b"a/foo/b", false, Decision::Unsaid),
-    (b"**/foo\n", b"foo", false, Decision::Ignored),
-    (b"**/foo\n", b"a/foo", false, Decision::Ignored),
-    (b"**/foo\n", b"a/b/foo", false, Decision::Ignored),
-    (b"**/foo/bar\n", b"foo/bar", false, Decision::Ignored),
-    (b"**/foo/bar\n", b"a/foo/bar", false, Decision::Ignored),
-    (b"**/foo/bar\n", b"a/foo/b/bar", false, Decision::Unsaid),
-    (b"abc/**\n", b"abc", true, Decision::Unsaid),
-    (b"abc/**\n", b"abc/x", false, Decision::Ignored),
-    (b"abc/**\n", b"a/abc/x", false, Decision::Unsaid),
-    (b"a/**/b\n", b"a/b", false, Decision::Ignored),
-    (b"a/**/b\n", b"a/x/b", false, Decision::Ignored),
-    (b"a/**/b\n", b"a/x/y/b", false, Decision::Ignored),
-    (b"a/**/b\n", b"x/a/b", false, Decision::Unsaid),
-    (b"a/***/b\n", b"a/b", false, Decision::Ignored),
-    (b"a/***/b\n", b"a/x/y/b", false, Decision::Ignored),
-    (b"a/x**y/b\n", b"a/xzy/b", false, Decision::Ignored),
-    (b"a/x**y/b\n", b"a/xy/b", false, Decision::Ignored),
-    (b"a/x**y/b\n", b"a/x/y/b", false, Decision::Unsaid),
-    (b"*.o\n!keep.o\n", b"a.o", false, Decision::Ignored),
-    (b"*.o\n!keep.o\n", b"keep.o", false, Decision::Kept),
-    (b"*.o\n!keep.o\n", b"b/keep.o", false, Decision::Kept),
-    (b"*.o\n!keep.o\n", b"o", false, Decision::Unsaid),
-    (b"!keep.o\n*.o\n", b"keep.o", false, Decision::Ignored),
-    (b"a\n!a\na\n", b"a", false, Decision::Ignored),
-    (b"b  \n", b"b", false, Decision::Ignored),
-    (b"b  \n", b"b  ", false, Decision::Unsaid),
-    (b"b\\ \n", b"b", false, Decision::Unsaid),
-    (b"b\\ \n", b"b ", false, Decision::Ignored),
-    (b"b\\  \n", b"b", false, Decision::Unsaid),
-    (b"b\\  \n", b"b ", false, Decision::Ignored),
-    (b"b\\  \n", b"b  ", false, Decision::Unsaid),
-    (b"b\\\\ \n", b"b\\", false, Decision::Ignored),
-    (b"b\\\\ \n", b"b\\ ", false, Decision::Unsaid),
-    (b"b\t\n", b"b", false, Decision::Unsaid),
-    (b"b\t\n", b"b\t", false, Decision::Ignored),
-    (b"b\r\n", b"b", false, Decision::Ignored),
-    (b"b\r\n", b"b\r", false, Decision::Unsaid),
-    (b"b\r", b"b", false, Decision::Ignored),
-    (b"b\r", b"b\r", false, Decision::Unsaid),
-    (b"b \r\n", b"b", false, Decision::Ignored),
-    (b"b\r\r\n", b"b", false, Decision::Unsaid),
-    (b"b\r\r\n", b"b\r", false, Decision::Ignored),
-    (b"b\r \n", b"b", false, Decision::Unsaid),
-    (b"b\r \n", b"b\r", false, Decision::Ignored),
-    (b"\xef\xbb\xbfb\n", b"b", false, Decision::Ignored),
-    (b"a\n\xef\xbb\xbfb\n", b"b", false, Decision::Unsaid),
-    (
-        b"a\n\xef\xbb\xbfb\n",
-        b"\xef\xbb\xbfb",
-        false,
-        Decision::Ignored,
-    ),
-    (b"\xef\xbb\xbf#b\n", b"#b", false, Decision::Unsaid),
-    (b"# caf\xe9\nb\n", b"b", false, Decision::Ignored),
-    (b"caf?\n", b"caf\xe9", false, Decision::Ignored),
-    (b"caf?\n", b"caf\xc3\xa9", false, Decision::Unsaid),
-];
+/// Files of rules that can't be read, or that are none.
+const UNREAD: &str = "\
+# rules that cannot be read are an error behind their entry
+repository
+  .gitignore=a|
+  .h
+  a
+  s/
+  s/.gitignore=b|
+  s/a
+  s/b
+denied /r/.gitignore
+$ walk /r
+  .gitignore
+  ! 1 .gitignore
+  .h
+  a
+  s
+  s/.gitignore
+  s/a
+# the error stands where the entry is hidden
+$ walk /r hide
+  ! 1 .gitignore
+  a
+  s
+  s/a
+# an exclude that cannot be read is an error though git is dropped, and rules above go on
+repository
+  .gitignore=a|
+  s/
+  s/.gitignore=b|
+  s/a
+  s/b
+denied /r/.git/info/exclude
+denied /r/s/.gitignore
+$ walk /r
+  ! 1 .git/info/exclude
+  .gitignore
+  s
+  s/.gitignore
+  ! 2 s/.gitignore
+  s/b
+# a file of rules above the root, and an exclude, are regular files
+tree
+  s/
+  s/a
+rules /r/.git=
+unread link /r/.ignore
+unread other /r/.gitignore
+unread other /r/.git/info/exclude
+$ walk /r/s
+  s/a
+";
+
+/// Many links to the directory that they are in.
+const LINKS: &str = "\
+# links are dropped by name, and not as directories; no rule drops a loop
+repository
+  .gitignore=l1*|l2*/|
+  l2d/
+  l2d/a
+  s/
+  s/l1
+  s/a
+links 300
+$ walk /r
+~ 192 0
+$ walk /r follow
+~ 3 300
+";
+
+/// All of these.
+pub(crate) const TABLES: &[&str] = &[FORCE, UNREAD, LINKS];

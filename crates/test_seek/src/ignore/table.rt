@@ -7,14 +7,15 @@
 //! | `repository` | the same, and the tree has a directory `.git` |
 //! | `rules PATH=RULES` | a file of rules that the tree doesn't show |
 //! | `denied PATH` | a file of rules that can't be read |
-//! | `unread TYPE KIND PATH` | a path of this type, which can't be read as a file of rules for this kind of reason |
-//! | `link PATH TEXT` | a link, which is only in the tree |
+//! | `unread TYPE PATH` | a path of this type, which can't be read as a file of rules |
+//! | `links NUMBER` | this many links in `/r` to `/r` |
 //! | `$ walk ROOT SETTING ..` | a row, which is a walk by name |
 //! | two spaces, `TEXT` | a line of the tree, or an item that the walk must yield |
+//! | `~ ENTRIES ERRORS` | how many items the walk must yield, in place of the items |
 //!
-//! An item is as in [`Wanted`](crate::ignore::left::Wanted). An empty line says nothing.
+//! An item isn't of the root. An entry is its path, and an error `! DEPTH PATH`. Paths that begin with `/r/` have no such
+//! beginning here. An empty line says nothing.
 use crate::ignore::planted::Planted;
-use crate::ignore::settings::Settings;
 use jwalk::file_system::FileType;
 use std::alloc::Global;
 use std::io::ErrorKind;
@@ -24,9 +25,12 @@ use std::io::ErrorKind;
 pub(crate) struct Row<'t> {
     pub(crate) name: &'t str,
     pub(crate) root: &'t str,
-    pub(crate) settings: Settings,
+    /// The settings that differ from those of a walk which is shown hidden names and follows no links.
+    pub(crate) settings: &'t str,
     /// The items, each on a line.
-    pub(crate) wanted: String,
+    pub(crate) items: String,
+    /// The numbers of entries and of errors, in place of the items.
+    pub(crate) counts: Option<(usize, usize)>,
 }
 
 /// A tree, and the rows that walk over it.
@@ -42,14 +46,6 @@ fn type_of(word: &str) -> Option<FileType> {
         "file" => Some(FileType::File),
         "link" => Some(FileType::Symlink),
         "other" => Some(FileType::Other),
-        _ => None,
-    }
-}
-
-fn kind_of(word: &str) -> Option<ErrorKind> {
-    match word {
-        "directory" => Some(ErrorKind::IsADirectory),
-        "other" => Some(ErrorKind::Other),
         _ => None,
     }
 }
@@ -77,15 +73,13 @@ impl<'t> Reader<'t> {
 
     fn begin_row(&mut self, call: &'t str) -> Option<()> {
         let call = call.strip_prefix("walk ")?;
-        let (root, settings) = match call.split_once(' ') {
-            Some((root, words)) => (root, Settings::read(words)?),
-            None => (call, Settings::NONE),
-        };
+        let (root, settings) = call.split_once(' ').unwrap_or((call, ""));
         let row = Row {
             name: self.name,
             root,
             settings,
-            wanted: String::new(self.alloc),
+            items: String::new(self.alloc),
+            counts: None,
         };
         self.scenes.last_mut()?.rows.push(row).ok()
     }
@@ -95,17 +89,35 @@ impl<'t> Reader<'t> {
         let Some(row) = scene.rows.last_mut() else {
             return scene.planted.add(line).ok();
         };
-        row.wanted.push_str(line).ok()?;
-        row.wanted.push_str("\n").ok()
+        row.items.push_str(line).ok()?;
+        row.items.push_str("\n").ok()
     }
 
-    fn add_unread(&mut self, said: &str) -> Option<()> {
-        let (file_type, said) = said.split_once(' ')?;
-        let (kind, path) = said.split_once(' ')?;
-        let texts = &mut self.planted()?.texts;
-        texts
-            .add_unread(path, type_of(file_type)?, kind_of(kind)?)
-            .ok()
+    fn add_counts(&mut self, entries: &str, errors: &str) -> Option<()> {
+        let row = self.scenes.last_mut()?.rows.last_mut()?;
+        row.counts = Some((entries.parse().ok()?, errors.parse().ok()?));
+        Some(())
+    }
+
+    /// Takes a line about what is at a path.
+    fn plant(&mut self, head: &str, said: &str) -> Option<()> {
+        let planted = self.planted()?;
+        let texts = &mut planted.texts;
+        match head {
+            "denied" => texts.deny(said, ErrorKind::PermissionDenied).ok(),
+            "links" => planted.add_links(said.parse().ok()?).ok(),
+            "rules" => {
+                let (path, rules) = said.split_once('=')?;
+                planted.add_text(path, rules).ok()
+            }
+            "unread" => {
+                let (file_type, path) = said.split_once(' ')?;
+                texts
+                    .add_unread(path, type_of(file_type)?, ErrorKind::Other)
+                    .ok()
+            }
+            _ => None,
+        }
     }
 
     /// Returns `None` if a table has no such line, or memory runs out.
@@ -122,21 +134,12 @@ impl<'t> Reader<'t> {
                 self.begin_scene()?;
                 self.planted()?.add(".git/").ok()?;
             }
-            "rules" => {
-                let (path, rules) = rest.split_once('=')?;
-                self.planted()?.add_text(path, rules).ok()?;
-            }
-            "denied" => {
-                let texts = &mut self.planted()?.texts;
-                texts.deny(rest, ErrorKind::PermissionDenied).ok()?;
-            }
-            "unread" => self.add_unread(rest)?,
-            "link" => {
-                let (path, text) = rest.split_once(' ')?;
-                self.planted()?.fs.add_link(path, text).ok()?;
-            }
             "$" => self.begin_row(rest)?,
-            _ => return None,
+            "~" => {
+                let (entries, errors) = rest.split_once(' ')?;
+                self.add_counts(entries, errors)?;
+            }
+            _ => self.plant(head, rest)?,
         }
         Some(())
     }

@@ -1,51 +1,26 @@
 //! Walks that honour ignore files, in each way and over a crew.
-ghost use Rattle.std.specs.Prelude.{IfOk};
-
-use crate::ignore::left::Wanted;
-use crate::ignore::planted::{Planted, Rules};
-use crate::ignore::settings::Settings;
-use jwalk::file_system::{FileSystem, MemoryFs};
+use crate::ignore::left::{counts_of, text_of};
+use crate::ignore::planted::Rules;
+use crate::ignore::table::{Row, Scene, read_table};
+use jwalk::file_system::MemoryFs;
 use jwalk::read_dir::ProcessReadDir;
-use jwalk::{ClientState, Crew, Parallelism, WalkDirGeneric};
+use jwalk::{Crew, Parallelism, WalkDirGeneric};
 use jwalk_ignore::ignore_files::IgnoreFiles;
 use jwalk_ignore::memory_texts::MemoryTexts;
 use jwalk_ignore::states::RulesState;
 use std::alloc::{AllocError, Global};
+use std::process::Abort;
 use std::sync::Arc;
-use std::thread::Threads;
 use test_fixtures::answers::Answer;
 use test_fixtures::by_crew::all_by_crew;
 use test_fixtures::host::Host;
 use test_fixtures::ways::{Asked, Setting, WAYS, Way};
 
-/// The crew serves one walk at a time.
-pub(crate) fn crew_of_two<R: Host>(rt: &R) -> Result<Arc<Crew<R>>, AllocError> {
-    Ok(Arc::new(rt.alloc(), Crew::new(rt.clone()?, 1, 2))?)
-}
-
-/// A callback that can be made again.
-pub(crate) trait Again<C: ClientState>: ProcessReadDir<C, Global> + Send + Sync + 'static {
-    fn again(&self) -> Result<Self, AllocError>
-        ensures { IfOk result (λ it. Self.IsLawful it) };
-}
-
 /// The rules of a tree that a crew's workers share, as a callback. It has a type of its own, since the types of rules
 /// are long, and proofs of functions over any runtime compare them.
 #[derive(Drop)]
 struct SharedRules {
-    texts: Arc<MemoryTexts>,
-    settings: Settings,
     rules: IgnoreFiles<Arc<MemoryTexts>>,
-}
-
-impl SharedRules {
-    fn new(texts: Arc<MemoryTexts>, settings: Settings) -> Result<Self, AllocError> {
-        Ok(SharedRules {
-            rules: settings.rules(texts.clone()?),
-            texts,
-            settings,
-        })
-    }
 }
 
 impl ProcessReadDir<Rules, Global> for SharedRules {
@@ -64,141 +39,135 @@ impl ProcessReadDir<Rules, Global> for SharedRules {
     }
 }
 
-impl Again<Rules> for SharedRules {
-    fn again(&self) -> Result<Self, AllocError> {
-        SharedRules::new(self.texts.clone()?, self.settings)
+/// Returns the rules by the names of settings. Other names change nothing.
+fn rules_by(texts: Arc<MemoryTexts>, settings: &str) -> SharedRules {
+    let mut rules = IgnoreFiles::new(texts).keep_hidden(true);
+    for setting in settings.split(' ') {
+        rules = match setting {
+            "hide" => rules.keep_hidden(false),
+            "anywhere" => rules.outside_repositories(true),
+            "no-git" => rules.version_control(false),
+            "no-above" => rules.above_the_root(false),
+            "fdignore" => rules.fdignore(true),
+            _ => rules,
+        };
     }
+    SharedRules { rules }
 }
 
-/// The walk is by name, and is shown hidden names.
-fn all_by_name<
-    R: Host,
-    C: ClientState + Send + 'static,
-    S: FileSystem + Send + Sync + 'static,
-    P: ProcessReadDir<C, Global> + Send + Sync + 'static,
->(
-    alloc: Global,
-    fs: S,
-    root: &str,
-    follows: bool,
-    process: P,
-    pool: Arc<Crew<R>>,
-) -> Result<Vec<Answer<C>>, AllocError>
-where
-    C::ReadDirState: Send + 'static,
-    C::DirEntryState: Send + 'static,
-    requires { P.IsLawful process }
-{
-    let root = String::from_str(alloc, root)?;
-    let walk = WalkDirGeneric::<C, S, _, _, _>::with_crew(fs, root)
-        .sort(true)
-        .skip_hidden(false)
-        .follow_links(follows)
-        .parallelism(Parallelism::RayonExistingPool {
-            pool,
-            busy_timeout: None,
-        });
-    all_by_crew(alloc, walk.process_read_dir(process))
-}
-
-/// A walk by name, over a tree that a crew's workers share. It is shown hidden names.
+/// A tree with files of rules that a crew's workers share, and a row.
 #[derive(Drop)]
-struct Walk<'w, S, P> {
-    fs: &'w Arc<S>,
-    root: &'w str,
-    follow: bool,
-    process: &'w P,
+struct Play<'p> {
+    fs: &'p Arc<MemoryFs>,
+    texts: &'p Arc<MemoryTexts>,
+    row: &'p Row<'p>,
 }
 
-impl<S: FileSystem + Send + Sync + 'static, P> Walk<'_, S, P> {
-    fn found<R: Threads + AllocGlobal + Sync, C: ClientState + Send>(
-        &self,
-        rt: &R,
-        way: Way,
-    ) -> Result<Vec<Answer<C>>, AllocError>
-    where
-        P: Again<C>,
-        C::ReadDirState: Send,
-        C::DirEntryState: Send,
-    {
+impl Play<'_> {
+    fn follows(&self) -> bool {
+        self.row.settings == "follow"
+    }
+
+    fn rules(&self) -> Result<SharedRules, AllocError> {
+        Ok(rules_by(self.texts.clone()?, self.row.settings))
+    }
+
+    fn found<R: Host>(&self, rt: &R, way: Way) -> Result<Vec<Answer<Rules>>, AllocError> {
         const BY_NAME: &[Setting] = &[Setting::Sort, Setting::Hidden];
         const FOLLOWING: &[Setting] = &[Setting::Sort, Setting::Hidden, Setting::Follow];
         let asked = Asked {
             fs: &**self.fs,
-            root: self.root,
-            settings: if self.follow { FOLLOWING } else { BY_NAME },
+            root: self.row.root,
+            settings: if self.follows() { FOLLOWING } else { BY_NAME },
         };
-        asked.found(rt, self.process.again()?, way)
+        asked.found(rt, self.rules()?, way)
     }
 
-    fn found_by_crew<R: Host, C: ClientState + Send + 'static>(
+    fn found_by_crew<R: Host>(
         &self,
         alloc: Global,
         pool: &Arc<Crew<R>>,
-    ) -> Result<Vec<Answer<C>>, AllocError>
-    where
-        P: Again<C>,
-        C::ReadDirState: Send + 'static,
-        C::DirEntryState: Send + 'static,
-    {
-        let fs = self.fs.clone()?;
-        let process = self.process.again()?;
-        all_by_name(alloc, fs, self.root, self.follow, process, pool.clone()?)
+    ) -> Result<Vec<Answer<Rules>>, AllocError> {
+        let root = String::from_str(alloc, self.row.root)?;
+        let walk = WalkDirGeneric::<Rules, _, _, _, _>::with_crew(self.fs.clone()?, root)
+            .sort(true)
+            .skip_hidden(false)
+            .follow_links(self.follows())
+            .parallelism(Parallelism::RayonExistingPool {
+                pool: pool.clone()?,
+                busy_timeout: None,
+            });
+        all_by_crew(alloc, walk.process_read_dir(self.rules()?))
     }
 
-    /// Walks over a crew and in each way. Returns the items of the first walk that doesn't yield what is wanted.
-    fn wrong<R: Host, C: ClientState + Send + 'static>(
-        &self,
-        rt: &R,
-        pool: &Arc<Crew<R>>,
-        wanted: Wanted<'_>,
-    ) -> Result<Option<String>, AllocError>
-    where
-        P: Again<C>,
-        C::ReadDirState: Send + 'static,
-        C::DirEntryState: Send + 'static,
-    {
-        let alloc = rt.alloc();
-        let mut wrong = wanted.wrong::<C>(alloc, &self.found_by_crew(alloc, pool)?)?;
-        for way in WAYS {
-            if wrong.is_none() {
-                wrong = wanted.wrong::<C>(alloc, &self.found(rt, *way)?)?;
-            }
-        }
-        Ok(wrong)
-    }
-}
-
-/// A tree with files of rules that a crew's workers share.
-#[derive(Drop)]
-pub(crate) struct Shared {
-    fs: Arc<MemoryFs>,
-    texts: Arc<MemoryTexts>,
-}
-
-impl Shared {
-    pub(crate) fn new(alloc: Global, planted: Planted) -> Result<Self, AllocError> {
-        Ok(Shared {
-            fs: Arc::new(alloc, planted.fs)?,
-            texts: Arc::new(alloc, planted.texts)?,
-        })
-    }
-
-    /// Walks over a crew and in each way. Returns the items of the first walk that doesn't yield what is wanted.
-    pub(crate) fn wrong<R: Host>(
-        &self,
-        rt: &R,
-        pool: &Arc<Crew<R>>,
-        (root, settings): (&str, Settings),
-        wanted: Wanted<'_>,
-    ) -> Result<Option<String>, AllocError> {
-        let process = SharedRules::new(self.texts.clone()?, settings)?;
-        let walk = Walk {
-            fs: &self.fs,
-            root,
-            follow: settings.follow,
-            process: &process,
+    /// Appends the items if they aren't those of the row.
+    fn tell_wrong(&self, found: &[Answer<Rules>], told: &mut String) -> Result<(), AllocError> {
+        let items = text_of(*told.allocator(), found)?;
+        let is_right = match self.row.counts {
+            Some(counts) => counts_of(found) == counts,
+            None => items.as_str() == self.row.items.as_str(),
         };
-        walk.wrong::<R, Rules>(rt, pool, wanted)
+        if is_right {
+            return Ok(());
+        }
+        let Row { name, root, .. } = self.row;
+        write!(told, "{name}: walk {root}\n{items}")
+    }
+
+    /// Walks over a crew and in each way. Appends the items of walks that don't yield what the row says.
+    fn tell<R: Host>(
+        &self,
+        rt: &R,
+        pool: &Arc<Crew<R>>,
+        told: &mut String,
+    ) -> Result<(), AllocError> {
+        self.tell_wrong(&self.found_by_crew(rt.alloc(), pool)?, told)?;
+        for way in WAYS {
+            self.tell_wrong(&self.found(rt, *way)?, told)?;
+        }
+        Ok(())
+    }
+}
+
+/// Appends the items of walks that don't yield what their rows say.
+fn tell_scene<R: Host>(
+    rt: &R,
+    pool: &Arc<Crew<R>>,
+    scene: Scene<'_>,
+    told: &mut String,
+) -> Result<(), AllocError> {
+    let fs = Arc::new(rt.alloc(), scene.planted.fs)?;
+    let texts = Arc::new(rt.alloc(), scene.planted.texts)?;
+    for row in &scene.rows {
+        let play = Play {
+            fs: &fs,
+            texts: &texts,
+            row,
+        };
+        play.tell(rt, pool, told)?;
+    }
+    Ok(())
+}
+
+/// Returns the items of walks that don't yield what their rows say, or a line that no table has.
+fn wrong_in<R: Host>(rt: &R, table: &str) -> Result<String, AllocError> {
+    let scenes = match read_table(rt.alloc(), table) {
+        Ok(scenes) => scenes,
+        Err(line) => return String::from_str(rt.alloc(), line),
+    };
+    // The crew serves one walk at a time.
+    let pool = Arc::new(rt.alloc(), Crew::new(rt.clone()?, 1, 2))?;
+    let mut told = String::new(rt.alloc());
+    for scene in scenes {
+        tell_scene(rt, &pool, scene, &mut told)?;
+    }
+    Ok(told)
+}
+
+/// Asserts that each walk yields what its row says, in each way and over a crew of two.
+pub(crate) fn assert_left(rt: &(impl Abort + Host), table: &str) {
+    match wrong_in(rt, table) {
+        Ok(told) => assert_eq!(rt; told.as_str(), ""),
+        Err(AllocError) => panic!(rt; "no memory"),
     }
 }

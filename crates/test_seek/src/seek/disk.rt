@@ -1,108 +1,221 @@
-//! Runs over the disk. Only a test itself names a runtime whose threads may reach the disk.
-use crate::seek::come::wrong_below;
-use crate::seek::kept;
-use jwalk::file_system::RealFs;
-use jwalk_ignore::real_texts::RealTexts;
+//! A disk with files of rules, which counts its questions, and may fail at one of them.
+ghost use Rattle.jwalk.specs.jwalk_model.Tree.{functions_of, only_root};
+ghost use Rattle.jwalk_ignore.specs.Rules.Texts.{no_texts};
+
+use jwalk::file_system::{Fault, FileSystem, FileType, Listed, MemoryFs, Metadata, Seen};
+use jwalk_ignore::memory_texts::MemoryTexts;
+use jwalk_ignore::texts::Texts;
+use std::alloc::Allocator;
 use std::io;
-use std::sync::Arc;
-use test_fixtures::folder::{Step, make, remove};
+use std::io::ErrorKind;
+use std::sync::atomic::{AtomicUsize, Ordering};
 
-const RULED: &[Step] = &[
-    Step::Dir("/.git"),
-    Step::Dir("/.git/info"),
-    Step::File("/d\n", "/.git/info/exclude"),
-    Step::File("*.o\n!k.o\n", "/.gitignore"),
-    Step::File("", "/a.c"),
-    Step::File("", "/a.o"),
-    Step::File("", "/k.o"),
-    Step::Dir("/d"),
-    Step::File("", "/d/x"),
-    Step::Dir("/e"),
-    Step::File("y\n", "/e/.ignore"),
-    Step::File("", "/e/x"),
-    Step::File("", "/e/y"),
-    Step::Link("a.c", "/l"),
-    Step::File("", "/new\nline"),
-];
+/// What is asked about a path.
+#[derive(Clone, Copy, PartialEq, Eq)]
+pub(crate) enum Question {
+    /// What is in a directory.
+    List,
+    /// The metadata of the path itself.
+    Look,
+    /// What a link leads to.
+    Follow,
+    /// The bytes of a file of rules.
+    Read,
+    /// A type or an absolute path, for rules.
+    Place,
+}
 
-const RULES: &str = "\
-# rules
-$ seek --sort . %
-  %/a.c
-  %/e
-  %/e/x
-  %/k.o
-  %/l
-  %/new
-  line
-$ seek -H --sort ignore %
-  %/.gitignore
-  %/e/.ignore
-$ seek -I --sort [ox]$ %
-  %/a.o
-  %/d/x
-  %/e/x
-  %/k.o
-$ seek --type=l . %
-  %/l
-# what is neither file nor directory nor link
-$ seek -t o -d1 ^null$ /dev
-  /dev/null
-# a root that is missing
-$ seek . %/none
-!~ seek: %/none:
-= 1
-# one file system
-$ seek --one-file-system ^ptmx$ /dev
-  /dev/ptmx
-$ seek --mount ^ptmx$ /dev
-  /dev/ptmx
-$ seek --xdev ^ptmx$ /dev
-  /dev/ptmx
-";
+/// A failing answer.
+#[derive(Clone, Copy)]
+pub(crate) enum Failure {
+    Memory,
+    Io(ErrorKind),
+}
 
-/// A folder above `s` in which no file of rules is a regular file, and `.git` is a link that leads nowhere.
-const ABOVE: &[Step] = &[
-    Step::Link("nowhere", "/.git"),
-    Step::Dir("/.gitignore"),
-    Step::File("a\n", "/rules"),
-    Step::Link("rules", "/.ignore"),
-    Step::Dir("/s"),
-    Step::File("", "/s/a"),
-    Step::Link("../rules", "/s/.ignore"),
-];
+/// The question that fails.
+#[derive(Drop)]
+pub(crate) enum Failing {
+    Never,
+    /// This question about this path.
+    At(Question, String, Failure),
+    /// The question with this number, counted from 0.
+    Turn(usize, Failure),
+}
 
-const BELOW: &str = "\
-# rules are regular files
-$ seek . %/s
-  %/s/a
-";
-
-const FEEDS: &[Step] = &[Step::File("", "/a\nb"), Step::File("", "/\n")];
-
-const FED: &str = "\
-# a name with a line feed
-$ seek --sort . %
-  %/\n  \n  %/a\n  b
-";
-
-/// Names of folders, the steps that fill them, and tables of calls over them.
-const FOLDERS: &[(&str, &[Step], &str)] = &[
-    ("rules", RULED, RULES),
-    ("above", ABOVE, BELOW),
-    ("feeds", FEEDS, FED),
-    ("kept", kept::STEPS, kept::FOUND),
-];
-
-#[test]
-fn calls_over_the_disk(rt: HostRuntime) -> io::Result<()> {
-    for (name, steps, table) in FOLDERS {
-        let folder = make(&rt, name, steps)?;
-        let disk = Arc::new(rt.alloc(), RealFs::new(rt.clone()?))?;
-        let texts = Arc::new(rt.alloc(), RealTexts::new(rt.clone()?))?;
-        let wrong = wrong_below(&rt, disk, texts, folder.as_str(), table)?;
-        assert_eq!(rt; wrong, None);
-        remove(&rt, folder.as_str())?;
+impl Failing {
+    fn failure(&self, question: Question, path: &str, turn: usize) -> Option<Failure> {
+        match self {
+            Failing::At(at, of, failure) if *at == question && of.as_str() == path => {
+                Some(*failure)
+            }
+            Failing::Turn(at, failure) if *at == turn => Some(*failure),
+            _ => None,
+        }
     }
-    Ok(())
+}
+
+/// What a list says of a path.
+pub(crate) type Told = Result<Seen, ErrorKind>;
+
+/// How often a disk was asked for a list, for the metadata of a path itself, for what a link leads to, and for rules.
+pub(crate) type Asked = [usize; 4];
+
+pub(crate) fn sum(asked: Asked) -> usize {
+    let [lists, looks, follows, rules] = asked;
+    lists
+        .wrapping_add(looks)
+        .wrapping_add(follows)
+        .wrapping_add(rules)
+}
+
+/// A tree and files of rules in memory.
+#[derive(Drop)]
+pub(crate) struct Disk {
+    tree: MemoryFs,
+    texts: MemoryTexts,
+    /// Paths, with what lists say of them in place of the tree.
+    seen: Vec<(String, Told)>,
+    failing: Failing,
+    lists: AtomicUsize,
+    looks: AtomicUsize,
+    follows: AtomicUsize,
+    rules: AtomicUsize,
+}
+
+impl Disk {
+    pub(crate) fn new(
+        tree: MemoryFs,
+        texts: MemoryTexts,
+        seen: Vec<(String, Told)>,
+        failing: Failing,
+    ) -> Self {
+        Disk {
+            tree,
+            texts,
+            seen,
+            failing,
+            lists: AtomicUsize::new(0),
+            looks: AtomicUsize::new(0),
+            follows: AtomicUsize::new(0),
+            rules: AtomicUsize::new(0),
+        }
+    }
+
+    pub(crate) fn asked(&self) -> Asked {
+        [
+            self.lists.load(Ordering::SeqCst),
+            self.looks.load(Ordering::SeqCst),
+            self.follows.load(Ordering::SeqCst),
+            self.rules.load(Ordering::SeqCst),
+        ]
+    }
+
+    fn count(&self, question: Question) -> &AtomicUsize {
+        match question {
+            Question::List => &self.lists,
+            Question::Look => &self.looks,
+            Question::Follow => &self.follows,
+            Question::Read | Question::Place => &self.rules,
+        }
+    }
+
+    /// Fails if this is the question that does.
+    fn ask(&self, question: Question, path: &str) -> Result<(), Fault> {
+        let turn = sum(self.asked());
+        self.count(question).fetch_add(1, Ordering::SeqCst);
+        match self.failing.failure(question, path, turn) {
+            Some(Failure::Memory) => Err(Fault::Memory),
+            Some(Failure::Io(kind)) => Err(Fault::Io(io::Error::from(kind))),
+            None => Ok(()),
+        }
+    }
+
+    fn metadata_told(&self, path: &str) -> Option<Metadata> {
+        for (at, told) in &self.seen {
+            if at.as_str() == path {
+                return told.as_ref().ok()?.metadata();
+            }
+        }
+        None
+    }
+
+    /// Gives an item of a list what is told of its path.
+    fn tell<A: Allocator + Copy>(&self, folder: &str, item: &mut Listed<A>) {
+        for (at, told) in &self.seen {
+            let Some(rest) = at.as_str().strip_prefix(folder) else {
+                continue;
+            };
+            if rest.strip_prefix("/") == Some(item.name.as_str()) {
+                item.seen = match told {
+                    Ok(seen) => Ok(*seen),
+                    Err(kind) => Err(io::Error::from(*kind)),
+                };
+            }
+        }
+    }
+}
+
+impl FileSystem for Disk {
+    ghost IsFixed = { λ _. ⊥ };
+
+    ghost functions = { λ _. functions_of only_root };
+
+    fn read_dir<A: Allocator + Copy>(
+        &self,
+        alloc: A,
+        path: &str,
+    ) -> Result<Vec<io::Result<Listed<A>>, A>, Fault> {
+        self.ask(Question::List, path)?;
+        let mut items = self.tree.read_dir(alloc, path)?;
+        for item in &mut items {
+            if let Ok(item) = item {
+                self.tell(path, item);
+            }
+        }
+        Ok(items)
+    }
+
+    fn metadata(&self, path: &str) -> Result<Metadata, Fault> {
+        self.ask(Question::Follow, path)?;
+        self.tree.metadata(path)
+    }
+
+    fn symlink_metadata(&self, path: &str) -> Result<Metadata, Fault> {
+        self.ask(Question::Look, path)?;
+        match self.metadata_told(path) {
+            Some(metadata) => Ok(metadata),
+            None => self.tree.symlink_metadata(path),
+        }
+    }
+
+    fn read_link<A: Allocator + Copy>(&self, alloc: A, path: &str) -> Result<String<A>, Fault> {
+        self.ask(Question::Follow, path)?;
+        self.tree.read_link(alloc, path)
+    }
+}
+
+impl Texts for Disk {
+    ghost IsFixed = { λ _. ⊥ };
+
+    ghost functions = { λ _. no_texts };
+
+    fn read<A: Allocator + Copy>(&self, alloc: A, path: &str) -> Result<Vec<u8, A>, Fault> {
+        self.ask(Question::Read, path)?;
+        self.texts.read(alloc, path)
+    }
+
+    fn file_type(&self, path: &str) -> Result<FileType, Fault> {
+        self.ask(Question::Place, path)?;
+        self.texts.file_type(path)
+    }
+
+    fn target_type(&self, path: &str) -> Result<FileType, Fault> {
+        self.ask(Question::Place, path)?;
+        self.texts.target_type(path)
+    }
+
+    fn absolute<A: Allocator + Copy>(&self, alloc: A, path: &str) -> Result<String<A>, Fault> {
+        self.ask(Question::Place, path)?;
+        self.texts.absolute(alloc, path)
+    }
 }

@@ -1,5 +1,5 @@
 //! Walks whose callback uses the states of directories and entries.
-use example_proofs::marked::walk_marked;
+use jwalk::WalkDirGeneric;
 use jwalk::file_system::{BuildError, FileSystem};
 use jwalk::read_dir::ByFn;
 use std::alloc::{AllocError, Global};
@@ -7,7 +7,7 @@ use std::cmp::Ordering;
 use std::thread::Threads;
 use test_fixtures::answers::Answer;
 use test_fixtures::trees::{GROUPED, tree};
-use test_fixtures::ways::{Asked, Setting, WAYS, Way};
+use test_fixtures::ways::{Asked, Setting, WAYS, Way, all_of};
 
 /// The state of a directory counts lists on the way down, that of an entry is its mark.
 type Marks = (usize, bool);
@@ -27,6 +27,46 @@ fn marks_of(alloc: Global, found: &[Answer<Marks>]) -> Result<String, AllocError
 
 const MARKS: &str = "/t true;/t/a.txt true;/t/b.txt false;/t/c.txt false;/t/group 1 false;\
                      /t/group 1/d.txt true;/t/group 2 false;/t/group 2/e.txt true;";
+
+/// Returns all that a walk yields with a closure as its callback. The closure sorts each list by name, and drops hidden
+/// names and errors. It leaves unread what is below depth 2, counts lists on the way down, and marks the first entry of
+/// each.
+fn walk_marked<S: FileSystem>(
+    alloc: Global,
+    fs: S,
+    root: String,
+) -> Result<Vec<Answer<Marks>>, AllocError> {
+    // begin closure
+    let walk = WalkDirGeneric::<(usize, bool), _, _, _>::new(fs, root)
+        .skip_hidden(false)
+        .root_read_dir_state(0)
+        .process_read_dir_by(|_depth, _path, state, children| {
+            children.sort_by(|a, b| match (a, b) {
+                (Ok(a), Ok(b)) => a.file_name.cmp(&b.file_name),
+                (Ok(_), Err(_)) => Ordering::Less,
+                (Err(_), Ok(_)) => Ordering::Greater,
+                (Err(_), Err(_)) => Ordering::Equal,
+            })?;
+            children.retain(|found| match found {
+                Ok(entry) => !entry.file_name.as_str().starts_with("."),
+                Err(_) => false,
+            });
+            for found in children.iter_mut() {
+                if let Ok(entry) = found {
+                    if entry.depth == 2 {
+                        entry.read_children = None;
+                    }
+                }
+            }
+            *state = state.saturating_add(1);
+            if let Some(Ok(first)) = children.first_mut() {
+                first.client_state = true;
+            }
+            Ok(())
+        });
+    // end closure
+    all_of(alloc, walk.into_iter())
+}
 
 fn has_marks(alloc: Global, wanted: &str) -> Result<bool, BuildError> {
     let root = String::from_str(alloc, "/t")?;

@@ -5,3 +5,4 @@ mod closures;
 mod ready;
 mod refusals;
 mod rows;
+mod table;

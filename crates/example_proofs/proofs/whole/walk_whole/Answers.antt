@@ -1,12 +1,13 @@
-use Rattle.std.proofs.Common.{refl}
-use Rattle.std.proofs.lemmas.Result.{IfOk-weaker}
+use Rattle.std.proofs.Common.{◌-◌, ◌^◌, arith, refl}
+use Rattle.jwalk.proofs.WholeFacts.{whole_filled}
 use Rattle.jwalk.specs.WalkDir.{stateless}
 use Rattle.example_proofs.proofs.whole.walk_whole.Goals as goal
 
+-- a vector holds fewer than `usize::MAX`, so all that was to come is filled in
 pub returns : goal.returns
-returns g c =
-    IfOk-weaker c.walk_given.result _ _
-    (λ found told fixed none. told stateless
+returns g c = λ fixed none.
+    let found = c.fill.new.out in
+    let begun = c.into_iter.ensures in
+    whole_filled _ _ _ _ _ stateless c.args.walk c.into_iter.result c.fill.new.self (2 ^ 64 - 1) c.in_ok-fill.field-0 c.new-found.result.items found.items begun.own begun.starts begun.holds
     (record { file_system = fixed; callback = λ depth path state list. refl; clones = λ x y is. refl; default = λ x is. refl })
-    none)
-    c.walk_given.ensures
+    c.in_ok-fill.ensures c.new-found.ensures.items (omega (arith, found.ok.0, found.ok.1, found.small)) none

@@ -36,4 +36,5 @@ returns-clause-asked c = record {
   threads = c.number_of.ensures;
   ignore_files = c.in_ok-values_of-4.ensures;
   no_global = c.is_named-8.ensures;
+  strip_cwd_prefix = c.is_named-9.ensures;
 }

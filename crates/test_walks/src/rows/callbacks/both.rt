@@ -1,15 +1,13 @@
-//! Walks with two callbacks, one after the other.
+//! Changes to lists by two callbacks, one after the other.
 ghost use Rattle.std.specs.Prelude.{◌<◌, ◌^◌, OnOk, map};
 ghost use Rattle.jwalk.specs.jwalk_model.Entry.{AtDepth};
 ghost use Rattle.jwalk.specs.jwalk_model.ReadDir.{list_depth};
 ghost use Rattle.jwalk.specs.jwalk_job.Entry.{item};
 
 use crate::rows::callbacks::called::called;
-use crate::rows::callbacks::rows::{Callback, Row, all_hold};
 use jwalk::read_dir::{Both, ByFn, FilterEntry};
 use std::alloc::AllocError;
 use test_fixtures::answers::Answer;
-use test_fixtures::trees::GROUPED;
 
 type Items = Vec<Answer>;
 
@@ -52,23 +50,4 @@ pub fn cuts_then_drops(
     });
     let drops = FilterEntry::new(|_depth, name, _file_type| name != "a.txt");
     called(&Both::new(cuts, drops), depth, path, state, list)
-}
-
-#[test]
-fn the_second_callback_is_given_what_the_first_left(rt: HostRuntime) {
-    const ROWS: &[Row] = &[
-        Row {
-            callback: Callback::DropsThenCuts,
-            steps: GROUPED,
-            root: "/t",
-            answers: "0 d /t; 1 f /t/b.txt; 1 f /t/c.txt",
-        },
-        Row {
-            callback: Callback::CutsThenDrops,
-            steps: GROUPED,
-            root: "/t",
-            answers: "0 d /t; 1 f /t/b.txt",
-        },
-    ];
-    all_hold(&rt, ROWS);
 }

@@ -1,17 +1,15 @@
-//! Walks whose callbacks are closures.
+//! Changes to lists by closures.
 ghost use Rattle.std.specs.Prelude.{◌<◌, ◌^◌, OnOk, map};
 ghost use Rattle.jwalk.specs.jwalk_model.Entry.{AtDepth};
 ghost use Rattle.jwalk.specs.jwalk_model.ReadDir.{list_depth};
 ghost use Rattle.jwalk.specs.jwalk_job.Entry.{item};
 
 use crate::rows::callbacks::called::called;
-use crate::rows::callbacks::rows::{Callback, Row, all_hold};
 use jwalk::read_dir::ByFn;
 use jwalk::{DirEntry, Error};
 use std::alloc::AllocError;
 use test_fixtures::answers::Answer;
 use test_fixtures::moving::move_directory;
-use test_fixtures::trees::{GROUPED, Step};
 
 /// A closure's change to each list.
 #[derive(Clone, Copy)]
@@ -89,62 +87,4 @@ fn clear_groups(list: &mut Vec<Answer>) {
             entry.read_children = None;
         }
     }
-}
-
-#[test]
-fn directories_that_are_not_entered(rt: HostRuntime) {
-    const ROWS: &[Row] = &[Row {
-        callback: Callback::Changes(Change::ClearGroups),
-        steps: GROUPED,
-        root: "/t",
-        answers: "0 d /t; 1 f /t/a.txt; 1 f /t/b.txt; 1 f /t/c.txt; 1 d /t/group 1; 1 d /t/group 2",
-    }];
-    all_hold(&rt, ROWS);
-}
-
-#[test]
-fn entries_that_are_dropped(rt: HostRuntime) {
-    const ROWS: &[Row] = &[Row {
-        callback: Callback::Changes(Change::DropGroups),
-        steps: GROUPED,
-        root: "/t",
-        answers: "0 d /t; 1 f /t/a.txt; 1 f /t/b.txt; 1 f /t/c.txt",
-    }];
-    all_hold(&rt, ROWS);
-}
-
-#[test]
-fn a_directory_that_was_moved_to_a_file(rt: HostRuntime) {
-    const ROWS: &[Row] = &[Row {
-        callback: Callback::Changes(Change::MoveGroup),
-        steps: GROUPED,
-        root: "/t",
-        answers: "0 d /t; 1 f /t/a.txt; 1 f /t/b.txt; 1 f /t/c.txt; 2 f /t/group 1/d.txt; 1 d /t/group 1; \
-                  1 d /t/group 2; 2 f /t/group 2/e.txt",
-    }];
-    all_hold(&rt, ROWS);
-}
-
-#[test]
-fn lists_that_are_turned_round(rt: HostRuntime) {
-    const ROWS: &[Row] = &[Row {
-        callback: Callback::Changes(Change::Turn),
-        steps: GROUPED,
-        root: "/t",
-        answers: "0 d /t; 1 d /t/group 2; 2 f /t/group 2/e.txt; 1 d /t/group 1; 2 f /t/group 1/d.txt; \
-                  1 f /t/c.txt; 1 f /t/b.txt; 1 f /t/a.txt",
-    }];
-    all_hold(&rt, ROWS);
-}
-
-// The callback is called once, with the path of the link's parent.
-#[test]
-fn a_broken_root_link_is_given_with_its_parent(rt: HostRuntime) {
-    const ROWS: &[Row] = &[Row {
-        callback: Callback::Changes(Change::NoteRoot),
-        steps: &[Step::Link("/nowhere", "/x")],
-        root: "/x",
-        answers: "! 0 /x NotFound; ! 0 - none",
-    }];
-    all_hold(&rt, ROWS);
 }

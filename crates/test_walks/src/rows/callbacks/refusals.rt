@@ -1,36 +1,11 @@
-//! Walks whose callback runs out of memory.
+//! Walks that don't begin, as their callback runs out of memory.
 use crate::rows::callbacks::closures::Change;
-use crate::rows::callbacks::rows::{Callback, Row, all_hold};
+use crate::rows::callbacks::rows::Callback;
 use jwalk::file_system::{BuildError, FileSystem};
 use jwalk::read_dir::ProcessReadDir;
 use std::alloc::{AllocError, Global};
 use test_fixtures::builders::{Builder, builder};
 use test_fixtures::trees::{GROUPED, tree};
-
-#[test]
-fn a_callback_that_is_refused_memory(rt: HostRuntime) {
-    const ROWS: &[Row] = &[
-        Row {
-            callback: Callback::Changes(Change::RefuseAt(None)),
-            steps: GROUPED,
-            root: "/t",
-            answers: "! 0 - memory",
-        },
-        Row {
-            callback: Callback::Changes(Change::RefuseAt(Some(0))),
-            steps: GROUPED,
-            root: "/t",
-            answers: "! 0 - memory",
-        },
-        Row {
-            callback: Callback::Changes(Change::RefuseAt(Some(1))),
-            steps: GROUPED,
-            root: "/t",
-            answers: "0 d /t; 1 f /t/a.txt; 1 f /t/b.txt; 1 f /t/c.txt; ! 0 - memory",
-        },
-    ];
-    all_hold(&rt, ROWS);
-}
 
 /// The error must be that memory ran out.
 fn is_not_begun<S: FileSystem, P: ProcessReadDir<((), ()), Global>>(

@@ -4,11 +4,10 @@ use crate::rows::callbacks::closures::{Change, by_closure};
 use crate::rows::callbacks::ready::{keep_files, leave_out_target, skip_three};
 use jwalk::read_dir::ProcessReadDir;
 use std::alloc::{AllocError, Global};
-use std::process::Abort;
 use std::thread::Threads;
 use test_fixtures::answers::Answer;
 use test_fixtures::trees::{Step, tree};
-use test_fixtures::ways::{Asked, Setting, WAYS, Way};
+use test_fixtures::ways::{Asked, Setting, Way};
 
 /// A callback's change to each list.
 #[derive(Clone, Copy)]
@@ -60,7 +59,8 @@ pub struct Row {
 }
 
 impl Row {
-    fn holds<R: Threads + AllocGlobal + Sync>(&self, rt: &R, way: Way) -> bool {
+    /// Returns whether the walk yields these answers.
+    pub fn holds<R: Threads + AllocGlobal + Sync>(&self, rt: &R, way: Way) -> bool {
         let Ok(fs) = tree(rt.alloc(), self.steps) else {
             return false;
         };
@@ -70,14 +70,5 @@ impl Row {
             settings: &[Setting::Sort],
         };
         asked.shows(rt, self.callback, way, self.answers)
-    }
-}
-
-/// Asserts that each walk yields the answers of its row, in each way to read.
-pub fn all_hold<R: Abort + Threads + AllocGlobal + Sync>(rt: &R, rows: &[Row]) {
-    for row in rows {
-        for way in WAYS {
-            assert!(rt; row.holds(rt, *way), "{}", row.answers);
-        }
     }
 }

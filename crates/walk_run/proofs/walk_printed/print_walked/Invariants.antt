@@ -8,7 +8,7 @@ abbrev pub invariant-loop-answer : goal.invariant-loop-answer
 invariant-loop-answer g l =
     record {
       lawful : g.P.ProcessReadDir.IsLawful (callback (job_of l.walk));
-      so_far : PrintsSoFar (Answers g.S.FileSystem g.P.ProcessReadDir g.C.ReadDirState.Clone g.C.DirEntryState.Default g.L.Readers) l.fn.walk l.walk (g.W.Write.contents l.fn.out) (append_known (g.W.Write.contents l.out) l.gathered.items) l.clean;
+      so_far : PrintsSoFar (Answers g.S.FileSystem g.P.ProcessReadDir g.C.ReadDirState.Clone g.C.DirEntryState.Default g.L.Readers) l.fn.walk l.walk (g.W.Write.contents l.fn.out) (append_known (g.W.Write.contents l.out) l.gathered.bytes.items) l.clean;
     }
 
 abbrev pub decreases-loop-answer : goal.decreases-loop-answer

@@ -1,6 +1,6 @@
 use Rattle.std.proofs.Common.{Ok, refl}
 use Rattle.jwalk_job.specs.Entry.{entry}
-use Rattle.jwalk_readings.specs.ReadingsBy.{readings_by}
+use Rattle.jwalk_readings.specs.ReadDirIter.{readings_by}
 use Rattle.jwalk_readings.proofs.GivesFacts.{gives_asked, lost_asked}
 use Rattle.jwalk_readings.proofs.read_dir_iter.ReadDirIter.next_of_on.Goals as goal
 

@@ -1,4 +1,4 @@
-use Rattle.jwalk_readings.specs.ReadingsBy.{readings_by}
+use Rattle.jwalk_readings.specs.ReadDirIter.{readings_by}
 use Rattle.jwalk_readings.proofs.PreparedReadFacts.{prepared_gives, not_prepared_gives}
 use Rattle.jwalk_readings.proofs.read_dir_iter.ReadDirIter.next_on.Goals as goal
 

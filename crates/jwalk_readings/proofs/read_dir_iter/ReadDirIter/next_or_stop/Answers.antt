@@ -1,7 +1,7 @@
 use Rattle.std.proofs.Common.{◌≡◌, sym, subst}
 use Rattle.jwalk_model.specs.Error.{memory}
 use Rattle.jwalk_readings.specs.Gives.{source_of}
-use Rattle.jwalk_readings.specs.ReadingsBy.{readings_by}
+use Rattle.jwalk_readings.specs.ReadDirIter.{readings_by}
 use Rattle.jwalk_readings.proofs.KnownFacts.{told_refused}
 use Rattle.jwalk_readings.proofs.GivesFacts.{gives_read, gives_stopped}
 use Rattle.jwalk_readings.proofs.read_dir_iter.ReadDirIter.next_or_stop.Goals as goal

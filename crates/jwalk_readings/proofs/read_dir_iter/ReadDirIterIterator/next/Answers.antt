@@ -4,8 +4,7 @@ use Rattle.jwalk_model.specs.Held.{spec_weight}
 use Rattle.jwalk_job.specs.ReadDir.{outcome}
 use Rattle.jwalk_job.specs.Job.{callback, greatest_depth}
 use Rattle.jwalk_readings.specs.Gives.{source_of, Known}
-use Rattle.jwalk_readings.specs.ReadingsBy.{readings_by}
-use Rattle.jwalk_readings.specs.ReadDirIter.{job_of, to_read}
+use Rattle.jwalk_readings.specs.ReadDirIter.{readings_by, job_of, to_read}
 use Rattle.jwalk_readings.proofs.ResultFacts.{goes_on}
 use Rattle.jwalk_readings.proofs.GivesFacts.{gives_fewer, some_of}
 use Rattle.jwalk_readings.proofs.read_dir_iter.ReadDirIterIterator.next.Goals as goal

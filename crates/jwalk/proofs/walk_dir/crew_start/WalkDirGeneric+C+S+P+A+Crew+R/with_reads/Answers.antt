@@ -2,7 +2,7 @@ use Rattle.std.proofs.Common.{◌∙◌, sym, ap, subst}
 use Rattle.jwalk_job.specs.ReadDir.{reading}
 use Rattle.jwalk_readings.specs.ReadDirIter as readings
 use Rattle.jwalk_readings.specs.CrewReads as reads_by
-use Rattle.jwalk_readings.specs.Sources.{base_of}
+use Rattle.jwalk_readings.specs.ReadDirIter.{base_of}
 use Rattle.jwalk_iter.specs.DirEntryIter.{reads_of}
 use Rattle.jwalk.specs.CrewStart.{IsToRead}
 use Rattle.jwalk.proofs.CrewStartFacts.{left_placed, left_to_read, left_most, left_steady}

@@ -1,5 +1,5 @@
 use Rattle.std.proofs.Common.{sym, ap, subst, arith}
-use Rattle.jwalk_readings.specs.ReadingsBy.{readings_by}
+use Rattle.jwalk_readings.specs.ReadDirIter.{readings_by}
 use Rattle.jwalk_iter.proofs.FillFacts.{Filled, none_filled, one_filled, fills_up, fills_in_part, fills_all}
 use Rattle.jwalk_iter.proofs.entries.on_threads.DirEntryIter+C+S+P+A+L.fill_on.Goals as goal
 

@@ -1,7 +1,7 @@
 use Rattle.std.proofs.Common.{◌-◌}
 use Rattle.jwalk_job.specs.Job.{callback}
 use Rattle.jwalk_iter.specs.DirEntryIter.{job_of}
-use Rattle.jwalk_readings.specs.ReadingsBy.{readings_by}
+use Rattle.jwalk_readings.specs.ReadDirIter.{readings_by}
 use Rattle.jwalk_iter.proofs.FillFacts.{Filled}
 use Rattle.jwalk_iter.proofs.entries.on_threads.DirEntryIter+C+S+P+A+L.fill_on.Given as goal
 

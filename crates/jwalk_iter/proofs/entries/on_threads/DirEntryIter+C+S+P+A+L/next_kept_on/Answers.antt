@@ -1,4 +1,4 @@
-use Rattle.jwalk_readings.specs.ReadingsBy.{readings_by}
+use Rattle.jwalk_readings.specs.ReadDirIter.{readings_by}
 use Rattle.jwalk_iter.proofs.PassFacts.{none_passed_over, one_passed_over, passes_lighter, goes_to_answer, goes_to_end, goes_to_missed}
 use Rattle.jwalk_iter.proofs.entries.on_threads.DirEntryIter+C+S+P+A+L.next_kept_on.Goals as goal
 

@@ -1,6 +1,6 @@
 use Rattle.jwalk_model.specs.Held.{pair_up, weight}
 use Rattle.jwalk_iter.specs.Entries.{items_of, unread_of, max_depth_of}
-use Rattle.jwalk_readings.specs.ReadingsBy.{readings_by}
+use Rattle.jwalk_readings.specs.ReadDirIter.{readings_by}
 use Rattle.jwalk_iter.proofs.PassFacts.{PassedOver}
 use Rattle.jwalk_iter.proofs.entries.on_threads.DirEntryIter+C+S+P+A+L.next_kept_on.Given as goal
 

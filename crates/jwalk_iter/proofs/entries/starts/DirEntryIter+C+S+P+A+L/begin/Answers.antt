@@ -1,7 +1,7 @@
 use Rattle.std.proofs.Common.{◌∙◌, refl, sym, ap, subst}
 use Rattle.jwalk_readings.specs.ReadAhead.{BeginsWith}
 use Rattle.jwalk_readings.specs.ReadDirIter as readings
-use Rattle.jwalk_readings.specs.Sources.{base_of}
+use Rattle.jwalk_readings.specs.ReadDirIter.{base_of}
 use Rattle.jwalk_readings.proofs.ResultFacts.{none_on_ok}
 use Rattle.jwalk_iter.proofs.entries.starts.DirEntryIter+C+S+P+A+L.begin.Goals as goal
 

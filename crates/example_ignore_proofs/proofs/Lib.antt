@@ -1,2 +1,0 @@
-mod PackageFacts
-mod YieldedFacts

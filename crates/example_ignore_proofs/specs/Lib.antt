@@ -1,4 +1,0 @@
-pub mod Given
-pub mod Sized
-pub mod Packages
-pub mod Starts

@@ -1,0 +1,3 @@
+pub mod Callbacks
+pub mod Numbers
+pub mod OwnReaders

@@ -1,0 +1,7 @@
+//! Premises of the library's promises that no other crate meets, each met by a function that is as small as it can be.
+#![tactic(auto)]
+
+pub mod bound;
+pub mod callbacks;
+pub mod numbers;
+pub mod own_readers;

@@ -1,0 +1,54 @@
+-- What a call leaves out: by its words, and by files of rules.
+
+# lines leave out what they name
+tree
+  d /r
+  d /r/.git
+  f 100 /r/.git/index
+  f 11 /r/.gitignore
+  f 1 /r/a.o
+  f 2 /r/a.c
+  d /r/build
+  f 3 /r/build/x.c
+  d /r/lib
+  f 20 /r/lib/.gitignore
+  f 4 /r/lib/keep.o
+  f 5 /r/lib/b.o
+rules /r/.gitignore
+  *.o
+  build/
+rules /r/lib/.gitignore
+  !keep.o
+$ tally --plain -b --apparent -E build -E .git /r
+  29+{folders /r/lib}	/r/lib
+  43+{folders /r}-{folders /r/build}-{folders /r/.git}	/r
+$ tally --plain -b --apparent -E *.o -E !b.o -s /r
+  141+{folders /r}	/r
+$ tally --plain -b --apparent --exclude=/lib -s /r /r/lib
+  117+{folders /r}-{folders /r/lib}	/r
+! tally: /r/lib: left out, below an earlier root
+
+# a root counts whatever names it
+$ tally --plain -b --apparent --exclude=/lib -s /r/lib /r
+  29+{folders /r/lib}	/r/lib
+  117+{folders /r}-{folders /r/lib}	/r
+$ tally --plain -b --apparent --exclude=lib -s /r/lib
+  29+{folders /r/lib}	/r/lib
+
+# ignore files leave out what they name if that is asked for
+$ tally --plain -b --apparent -s /r
+  146+{folders /r}	/r
+$ tally --plain -b --apparent -a --ignore /r
+  11	/r/.gitignore
+  2	/r/a.c
+  20	/r/lib/.gitignore
+  4	/r/lib/keep.o
+  24+{folders /r/lib}	/r/lib
+  37+{folders /r}-{folders /r/build}-{folders /r/.git}	/r
+$ tally --plain -b --apparent --ignore --exclude-hidden /r
+  4+{folders /r/lib}	/r/lib
+  6+{folders /r}-{folders /r/build}-{folders /r/.git}	/r
+$ tally --plain -b --apparent --ignore -E lib /r
+  13+{folders /r}-{folders /r/build}-{folders /r/.git}-{folders /r/lib}	/r
+$ tally --plain -b --apparent --ignore /r/lib
+  24+{folders /r/lib}	/r/lib
