@@ -1,5 +1,6 @@
 //! Walks from folders, files, links and other things on the disk.
 use crate::disk::walks::{Walk, Wanted, yields_on_disk, yields_on_disk_in_batches};
+use std::thread::Threads;
 use std::{env, io};
 use test_fixtures::folder::{Step, make, path_in, remove};
 use test_fixtures::ways::Setting;
@@ -191,7 +192,13 @@ fn root_of(rt: &HostRuntime, folder: &str, row: &Row) -> io::Result<String> {
     }
 }
 
-fn holds_in(rt: &HostRuntime, folder: &str, row: &Row) -> io::Result<bool> {
+/// Walks one directory at a time, and then in batches.
+fn holds_in<R: Threads + AllocGlobal + Sync>(
+    rt: &HostRuntime,
+    threads: &R,
+    folder: &str,
+    row: &Row,
+) -> io::Result<bool> {
     let root = root_of(rt, folder, row)?;
     let lines = row.lines.replace(rt.alloc(), "~", folder)?;
     let wanted = if row.in_any_order {
@@ -203,21 +210,32 @@ fn holds_in(rt: &HostRuntime, folder: &str, row: &Row) -> io::Result<bool> {
         root: root.as_str(),
         settings: row.settings,
     };
-    Ok(yields_on_disk(rt, &walk, wanted)? && yields_on_disk_in_batches(rt, &walk, wanted)?)
+    let is_so = yields_on_disk(rt, &walk, wanted)?;
+    Ok(is_so && yields_on_disk_in_batches(rt, threads, &walk, wanted)?)
 }
 
-/// Makes the folder of a row, and removes it after the walk.
-fn holds(rt: &HostRuntime, name: &str, row: &Row) -> io::Result<bool> {
+/// Makes the folder of a row, and removes it after the walks.
+fn holds<R: Threads + AllocGlobal + Sync>(
+    rt: &HostRuntime,
+    threads: &R,
+    name: &str,
+    row: &Row,
+) -> io::Result<bool> {
     let folder = make(rt, name, row.steps)?;
-    let is_so = holds_in(rt, folder.as_str(), row);
+    let is_so = holds_in(rt, threads, folder.as_str(), row);
     remove(rt, folder.as_str())?;
     is_so
 }
 
 /// Returns the number of the first row that is wrong, counted from 0.
-fn first_wrong(rt: &HostRuntime, name: &str, rows: &[Row]) -> Option<usize> {
+fn first_wrong<R: Threads + AllocGlobal + Sync>(
+    rt: &HostRuntime,
+    threads: &R,
+    name: &str,
+    rows: &[Row],
+) -> Option<usize> {
     for (number, row) in rows.iter().enumerate() {
-        if !matches!(holds(rt, name, row), Ok(true)) {
+        if !matches!(holds(rt, threads, name, row), Ok(true)) {
             return Some(number);
         }
     }
@@ -226,17 +244,17 @@ fn first_wrong(rt: &HostRuntime, name: &str, rows: &[Row]) -> Option<usize> {
 
 #[test]
 fn folders_files_and_links(rt: HostRuntime) {
-    assert_eq!(rt; first_wrong(&rt, "folders", ROWS), None);
+    assert_eq!(rt; first_wrong(&rt, &rt, "folders", ROWS), None);
 }
 
 #[test]
 fn links_to_directories_above_are_loops(rt: HostRuntime) {
-    assert_eq!(rt; first_wrong(&rt, "loops", LOOPS), None);
+    assert_eq!(rt; first_wrong(&rt, &rt, "loops", LOOPS), None);
 }
 
 #[test]
 fn roots_from_where_the_process_stands(rt: HostRuntime) {
-    assert_eq!(rt; first_wrong(&rt, "relative", RELATIVE), None);
+    assert_eq!(rt; first_wrong(&rt, &rt, "relative", RELATIVE), None);
 }
 
 #[test]

@@ -96,11 +96,12 @@ pub(super) fn yields_on_disk(
     yields(rt.alloc(), RealFs::new(*rt), asked, wanted)
 }
 
-/// Returns whether a walk over the disk yields what it must, in batches.
-pub(super) fn yields_on_disk_in_batches(
+/// Returns whether a walk over the disk yields what it must, in batches that these threads read.
+pub(super) fn yields_on_disk_in_batches<R: Threads + AllocGlobal + Sync>(
     rt: &HostRuntime,
+    threads: &R,
     asked: &Walk<'_>,
     wanted: Wanted<'_>,
 ) -> Result<bool, AllocError> {
-    yields_in_batches(rt, RealFs::new(*rt), asked, wanted)
+    yields_in_batches(threads, RealFs::new(*rt), asked, wanted)
 }
