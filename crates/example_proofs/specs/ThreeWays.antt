@@ -7,13 +7,10 @@ use Rattle.jwalk.specs.WalkDir.{stateless, NoneBusy}
 use Rattle.jwalk.specs.DirEntryIter.{NoneRefused}
 
 module _ {C A R E : Type 0} where
-  abbrev pub Found : Type 0
-  Found = List (Result (DirEntry C A R E) (Error A))
-
   -- None of the answers reports that memory ran out, or that the crew was busy.
-  abbrev pub IsWhole : Found → Type 0
+  abbrev pub IsWhole : List (Result (DirEntry C A R E) (Error A)) → Type 0
   IsWhole found = NoneRefused found × NoneBusy found
 
   -- Two lists of answers are the same, if both are whole.
-  abbrev pub AreSame : Found → Found → Type 0
+  abbrev pub AreSame : List (Result (DirEntry C A R E) (Error A)) → List (Result (DirEntry C A R E) (Error A)) → Type 0
   AreSame one other = IsWhole one → IsWhole other → counted_list stateless other ≡ counted_list stateless one

@@ -1,4 +1,4 @@
-//! A callback of one's own, with its law and its value, and what it makes of a walk.
+//! A callback of one's own, with its law and its value.
 //!
 //! A callback is a type with the trait `ProcessReadDir`. Its method `process` is called with each list before the walk
 //! goes on with it. Its two ghost lines say what a proof may rely on.
@@ -16,16 +16,16 @@
 //!
 //! A callback of which nothing is to be said has `ghost Makes = { λ _ _. ⊥ };`. It owes the depths alone. Of its walk
 //! is known what holds with every callback: order, depths, and what is read.
-ghost use Rattle.std.specs.Prelude.{◌≡◌, IfOk, OnOk, map, string_bytes};
+ghost use Rattle.std.specs.Prelude.{◌≡◌, IfOk, OnOk, map, filter, string_bytes};
+ghost use Rattle.jwalk.specs.jwalk_model.Entry.{has_directory};
 ghost use Rattle.jwalk.specs.jwalk_model.Counted.{blank};
-ghost use Rattle.jwalk.specs.jwalk_model.Options.{defaults};
-ghost use Rattle.jwalk.specs.jwalk_model.States.{bare_item};
-ghost use Rattle.jwalk.specs.jwalk_model.Walk.{stateless_walk, whole_walk};
+ghost use Rattle.jwalk.specs.jwalk_model.Walk.{whole_walk};
 ghost use Rattle.jwalk.specs.jwalk_job.Entry.{entry, item};
 ghost use Rattle.jwalk.specs.jwalk_job.Given.{counted_entry, counted_item, counted_list};
 ghost use Rattle.jwalk.specs.DirEntryIter.{NoneRefused};
 ghost use Rattle.example_proofs.specs.HandsOnNames.{worth_of, handed, with_states, names_handed_on, job_handing_on};
 
+use crate::whole::walk_given;
 use jwalk::error::Result as Answer;
 use jwalk::file_system::FileSystem;
 use jwalk::read_dir::ProcessReadDir;
@@ -38,11 +38,26 @@ pub type Texts = (Option<String>, Option<String>);
 /// An item of a list, and an answer of a walk.
 pub type Found = Answer<DirEntry<Texts>>;
 
-/// The callback: each entry of a list gets a copy of the list's state as its own, and its name as the state that the list
-/// below it begins with. So an entry's state is the name of the directory above it, and the root has the state that the
-/// walk begins with.
+/// The callback: of each list it keeps the directories alone. Each gets a copy of the list's state as its own, and its
+/// name as the state that the list below it begins with. So an entry's state is the name of the directory above it, and
+/// the root has the state that the walk begins with.
 #[derive(Clone, Copy, Debug)]
 pub struct HandsOnNames;
+
+fn leads_on(found: &Found) -> bool
+    ensures { result ≡ has_directory (item found.now) }
+{
+    match found {
+        Ok(entry) => entry.read_children.is_some(),
+        Err(_) => false,
+    }
+}
+
+fn keep_directories(list: &mut Vec<Found>)
+    ensures { list.new.items ≡ filter (λ x. has_directory (item x)) list.old.items }
+{
+    list.retain(|found| leads_on(found));
+}
 
 /// Gives an entry its list's state, and its name to its directory.
 fn hand_on(found: &mut DirEntry<Texts>, state: &Option<String>) -> Result<(), AllocError>
@@ -89,17 +104,18 @@ impl ProcessReadDir<Texts, Global> for HandsOnNames {
         state: &mut Option<String>,
         list: &mut Vec<Found>,
     ) -> Result<(), AllocError> {
+        keep_directories(list);
         hand_on_all(list, state)
     }
 }
 // end process
 
-/// Returns all that a walk with this callback yields from a root, where the root has no state. Over a file system that
-/// always answers the same it is the whole walk of the definition, with its states, unless one of the answers reports that
-/// memory ran out. States aside, it is the walk without the callback.
+/// Returns all that a walk with this callback yields from a root, in the order of names, where the root has no state.
+/// Over a file system that always answers the same it is the whole walk of the definition, with its states, unless one
+/// of the answers reports that memory ran out. A `MemoryFs` is such a file system.
 ///
-/// Its proof shows what a promise on values takes as given. Besides the file system and the callback, that is that a clone
-/// of a text counts as that text, and that an entry begins with no text.
+/// Its proof shows what `walk_given` takes as given. Besides the file system and the callback, that is that a clone of
+/// a text counts as that text, and that an entry begins with no text.
 ///
 /// # Errors
 ///
@@ -109,15 +125,12 @@ pub fn walk_handing_on_names<S: FileSystem>(
     fs: S,
     root: String,
 ) -> Result<Vec<Found>, AllocError>
-    ensures names { IfOk result (λ found. S.IsFixed fs → NoneRefused found.items
+    ensures { IfOk result (λ found. S.IsFixed fs → NoneRefused found.items
         → counted_list names_handed_on found.items
         ≡ whole_walk (job_handing_on (S.functions fs)) (string_bytes root) blank) }
-    ensures items { IfOk result (λ found. S.IsFixed fs → NoneRefused found.items
-        → map bare_item (counted_list names_handed_on found.items)
-        ≡ stateless_walk (S.functions fs) defaults (string_bytes root)) }
 {
-    let walk = WalkDirGeneric::<Texts, _, _, _>::new(fs, root).process_read_dir(HandsOnNames);
-    let mut found = Vec::new(alloc);
-    walk.into_iter().fill(usize::MAX, &mut found)?;
-    Ok(found)
+    let walk = WalkDirGeneric::<Texts, _, _, _>::new(fs, root)
+        .sort(true)
+        .process_read_dir(HandsOnNames);
+    walk_given(alloc, walk)
 }

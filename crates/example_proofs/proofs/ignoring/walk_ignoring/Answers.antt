@@ -1,8 +1,11 @@
-use Rattle.std.proofs.Common.{◌-◌, ◌^◌, ap, arith, refl}
+use Rattle.std.proofs.Common.{◌-◌, ◌^◌, ◌∙◌, false, ap, arith, refl}
+use Rattle.jwalk.specs.jwalk_model.Options.{with_skip_hidden}
+use Rattle.jwalk.specs.jwalk_model.Walk.{whole_walk}
+use Rattle.jwalk.specs.WalkDir.{file_system_of, options_of, root_of, state_of}
 use Rattle.jwalk.specs.jwalk_model.Counted.{blank, both}
 use Rattle.jwalk.proofs.WholeFacts.{whole_filled}
 use Rattle.jwalk_ignore.specs.Rules.ChainWorth.{chain_worth}
-use Rattle.jwalk_ignore.specs.Callback.Given.{ignoring_alone, lists_kept}
+use Rattle.jwalk_ignore.specs.Callback.Given.{ignoring_alone, job_ignoring, lists_kept, rules_alone}
 use Rattle.jwalk_ignore.specs.Callback.IgnoreViews.{settings_of, texts_of}
 use Rattle.jwalk_ignore.specs.Callback.States.{rules_held}
 use Rattle.example_proofs.proofs.ignoring.walk_ignoring.Goals as goal
@@ -13,7 +16,10 @@ returns g c = λ fixed texts_fixed none.
     let set = c.with_ignore_files.ensures in
     let begun = c.into_iter.ensures in
     let found = c.fill.new.out in
-    let given = ignoring_alone rules_held (settings_of c.args.rules) (g.X.Texts.functions (texts_of c.args.rules)) in
+    let ruled = c.with_ignore_files.result in
+    let settings = settings_of c.args.rules in
+    let texts = g.X.Texts.functions (texts_of c.args.rules) in
+    let given = ignoring_alone rules_held settings texts in
     let whole = whole_filled _ _ _ _ _ given c.with_ignore_files.result c.into_iter.result c.fill.new.self (2 ^ 64 - 1) c.in_ok-fill.field-0 c.new-found.result.items found.items begun.own begun.starts begun.holds
     (record {
       file_system = rw set.file_system fixed;
@@ -22,4 +28,8 @@ returns g c = λ fixed texts_fixed none.
       default = λ x is. refl;
     })
     c.in_ok-fill.ensures c.new-found.ensures.items (omega (arith, found.ok.0, found.ok.1, found.small)) none in
-    rw (set.file_system, set.options, set.root, set.state) at whole
+    whole
+    ∙ ap (λ fs. whole_walk (job_ignoring settings texts (g.S.FileSystem.functions fs) (options_of ruled)) (root_of ruled) (rules_alone rules_held (state_of ruled))) set.file_system
+    ∙ ap (λ options. whole_walk (job_ignoring settings texts (g.S.FileSystem.functions (file_system_of c.args.walk)) options) (root_of ruled) (rules_alone rules_held (state_of ruled))) set.options
+    ∙ ap (λ root. whole_walk (job_ignoring settings texts (g.S.FileSystem.functions (file_system_of c.args.walk)) (with_skip_hidden false (options_of c.args.walk))) root (rules_alone rules_held (state_of ruled))) set.root
+    ∙ ap (λ state. whole_walk (job_ignoring settings texts (g.S.FileSystem.functions (file_system_of c.args.walk)) (with_skip_hidden false (options_of c.args.walk))) (root_of c.args.walk) (rules_alone rules_held state)) set.state

@@ -19,10 +19,10 @@ returns g c = λ fixed none free.
     let made = c.with_crew.ensures in
     let by = parallelism_value c.args.parallelism in
     let over : file_system_of walk ≡ c.args.fs = set.file_system ∙ made.file_system in
-    let steady = record { file_system = subst (λ fs. g.S.FileSystem.IsFixed (arc_value fs)) (sym over) fixed; callback = λ depth path state list. refl; clones = λ x y is. refl; default = λ x is. refl } in
+    let over_fixed = subst (λ fs. g.S.FileSystem.IsFixed (arc_value fs)) (sym over) fixed in
     filled_unless_busy _ _ _ _ _ stateless walk c.into_iter.result found.items begun.begins.0 c.fill.new.self (2 ^ 64 - 1) c.in_ok-fill.field-0 c.new-found.result.items begun.begins.1.holds
-    (steady_begun _ _ _ _ _ stateless walk c.into_iter.result begun.steady begun.starts steady)
-    begun.starts steady
+    (steady_begun _ _ _ _ _ stateless walk c.into_iter.result begun.steady begun.starts (record { file_system = over_fixed; callback = λ depth path state list. refl; clones = λ x y is. refl; default = λ x is. refl }))
+    begun.starts (record { file_system = over_fixed; callback = λ depth path state list. refl; clones = λ x y is. refl; default = λ x is. refl })
     c.in_ok-fill.ensures c.new-found.ensures.items (omega (arith, found.ok.0, found.ok.1, found.small)) none free
     ∙ stateless_of (λ fs. g.S.FileSystem.functions (arc_value fs)) walk c.args.fs (with_parallelism by defaults) _ over (set.options ∙ ap (with_parallelism by) made.options) (set.root ∙ made.root ∙ c.in_ok-root.ensures.ok)
     ∙ stateless_however_read by (g.S.FileSystem.functions (arc_value c.args.fs)) defaults _
