@@ -1,1 +1,2 @@
-pub mod OwnReadersFacts
+mod CallbackFacts
+mod OwnReadersFacts

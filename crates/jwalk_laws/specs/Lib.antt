@@ -1,3 +1,3 @@
 pub mod Callbacks
-pub mod Numbers
 pub mod OwnReaders
+pub mod States

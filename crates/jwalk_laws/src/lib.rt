@@ -3,5 +3,5 @@
 
 pub mod bound;
 pub mod callbacks;
-pub mod numbers;
 pub mod own_readers;
+pub mod states;
