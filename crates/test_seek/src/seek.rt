@@ -43,7 +43,7 @@ seen /t/a file
 seen /t/b denied
 seen /t/o other
 $ seek -l . /t
-  -?????????   ?     ?     ?          ?                   ? /t/a
+  ??????????   ?     ?     ?          ?                   ? /t/a
   ??????????   ?     ?     ?          ?                   ? /t/o
 ! seek: /t/b: permission denied
 = 1
@@ -206,7 +206,7 @@ takes 3 -
   /r/b
   /r/c
 = 1
-tty$ seek -j1 . /r /r
+tty$ seek . /r /r
 takes 1 -
   /r/a
 = 1
@@ -341,9 +341,11 @@ $ seek -I -q x /t
 fails list denied /t/d
 ! seek: /t/d: permission denied
 = 1
-$ seek -I . /t /t/d
+$ seek . /t /t/d
 fails list memory /t/d
-  /t/.ignore
+  /t/a
+! seek: memory refused for the walk
+! seek: memory refused for the walk
 = 1
 # links that fail
 $ seek -L . /t
@@ -357,6 +359,7 @@ fails follow denied /t/l
   /t/a
   /t/d
   /t/d/x
+! seek: /t/l: permission denied
 = 1
 $ seek --color=always ^l /t
 fails follow denied /t/l
@@ -364,6 +367,7 @@ colors or=31
   \x1b[01;34m/t/\x1b[0m\x1b[31ml\x1b[0m
 $ seek --color=always ^l /t
 fails follow memory /t/l
+! seek: memory refused
 = 1
 # a time that fails
 $ seek --newer-than-file=/t/a . /t
@@ -377,30 +381,43 @@ fails look memory /t/a
 # rules that fail
 $ seek . /t
 fails read gone /t/.ignore
+  /t/a
+  /t/d
+  /t/d/x
+  /t/z
+  /t/l
+! seek: /t/.ignore: entity not found
 = 1
-$ seek . /t
-fails read denied /home/u/.config/git/ignore
+$ seek ^a /t
+fails place denied /t
+  /t/a
+! seek: /t: permission denied
 = 1
-$ seek . /t
-fails read denied /home/u/.gitconfig
-$ seek --ignore-file=/n . /t
-fails read denied /n
-! seek: /n: permission denied
-$ seek . /t
-fails place denied /t/.git
-$ seek . /t
+$ seek ^a /t
 fails place denied /.ignore
-$ seek . t
-fails place denied t
-$ seek -a ^x t
+  /t/a
+! seek: /.ignore: permission denied
+= 1
+# a user's files that fail: a configuration names none then
+$ seek ^a /t
+fails read denied /home/u/.config/git/ignore
+  /t/a
+! seek: /home/u/.config/git/ignore: permission denied
+= 1
+$ seek ^a /t
+fails read denied /home/u/.gitconfig
+  /t/a
+# a folder that isn't known is in front of no path
+$ seek -I -a ^x t
 fails place denied
+  t/d/x
 # a base that fails
 $ seek --base-directory=/t a
-fails follow denied /t
+fails follow denied /t/
 ! seek: /t: permission denied
 = 1
 $ seek --base-directory=/t a
-fails follow memory /t
+fails follow memory /t/
 ! seek: memory refused
 = 1
 ";

@@ -136,9 +136,10 @@ fn tell_scene<R: Host>(
     scene: Scene<'_>,
     told: &mut String,
 ) -> Result<(), AllocError> {
-    let fs = Arc::new(rt.alloc(), scene.planted.fs)?;
-    let texts = Arc::new(rt.alloc(), scene.planted.texts)?;
-    for row in &scene.rows {
+    let Scene { planted, rows } = scene;
+    let fs = Arc::new(rt.alloc(), planted.fs)?;
+    let texts = Arc::new(rt.alloc(), planted.texts)?;
+    for row in &rows {
         let play = Play {
             fs: &fs,
             texts: &texts,

@@ -175,7 +175,7 @@ fn words_of(alloc: Global, front: &str, call: &str) -> Result<Vec<String>, Alloc
 }
 
 /// Calls the program, with a word in front of those of the row.
-fn outcome(
+fn called(
     rt: &impl Host,
     front: &str,
     row: &Row<'_>,
@@ -263,7 +263,7 @@ impl Play<'_, '_> {
     fn try_by(self, rt: &impl Host, front: &str, told: &mut String) -> Result<(), AllocError> {
         let failing = failing_of(rt.alloc(), self.row)?;
         let disk = disk_of(rt.alloc(), self.scene, failing)?;
-        let came = outcome(rt, front, self.row, &disk)?;
+        let came = called(rt, front, self.row, &disk)?;
         if came.is(self.row) {
             return Ok(());
         }
@@ -289,7 +289,7 @@ impl Play<'_, '_> {
     ) -> Result<(), AllocError> {
         for turn in 0..MOST {
             let disk = disk_of(rt.alloc(), self.scene, Failing::Turn(turn, failure))?;
-            let came = outcome(rt, "-j1", self.row, &disk)?;
+            let came = called(rt, "-j1", self.row, &disk)?;
             let has_failed = turn < sum(came.asked);
             let is_right = if has_failed {
                 came.tells(self.row, failure)
