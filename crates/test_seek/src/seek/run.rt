@@ -174,6 +174,37 @@ fn words_of(alloc: Global, front: &str, call: &str) -> Result<Vec<String>, Alloc
     Ok(words)
 }
 
+/// Returns the status of a call over a disk, by a clock.
+fn status_by<'a>(
+    rt: &'a impl Host,
+    clock: &'a Watch,
+    colors: &'a str,
+    on_terminal: bool,
+    disk: &Arc<Disk>,
+    words: &[String],
+    out: &mut Output,
+    err: &mut Output,
+) -> Result<u8, AllocError> {
+    let seek = Seek {
+        rt,
+        clock,
+        alloc: rt.alloc(),
+        disk: disk.clone()?,
+        texts: disk.clone()?,
+        home: Home {
+            home: "/home/u",
+            config: "",
+        },
+        screen: Screen {
+            is_terminal: on_terminal,
+            no_color: true,
+            ls_colors: colors,
+            columns: None,
+        },
+    };
+    Ok(seek.run(words, out, err))
+}
+
 /// Calls the program, with a word in front of those of the row.
 fn called(
     rt: &impl Host,
@@ -190,24 +221,17 @@ fn called(
     };
     let mut out = Output::taking(alloc, row.takes.0);
     let mut err = Output::taking(alloc, row.takes.1);
-    let seek = Seek {
+    let colors = String::from_str(alloc, row.colors)?;
+    let status = status_by(
         rt,
-        clock: &clock,
-        alloc,
-        disk: disk.clone()?,
-        texts: disk.clone()?,
-        home: Home {
-            home: "/home/u",
-            config: "",
-        },
-        screen: Screen {
-            is_terminal: row.on_terminal,
-            no_color: true,
-            ls_colors: row.colors,
-            columns: None,
-        },
-    };
-    let status = seek.run(words.as_slice(), &mut out, &mut err);
+        &clock,
+        colors.as_str(),
+        row.on_terminal,
+        disk,
+        words.as_slice(),
+        &mut out,
+        &mut err,
+    )?;
     let asked = disk.asked();
     Ok(Outcome {
         out,
