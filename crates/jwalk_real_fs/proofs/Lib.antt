@@ -1,2 +1,3 @@
 mod FaultFacts
 mod ListingFacts
+mod ReadFacts

@@ -9,6 +9,8 @@ use Rattle.jwalk_model.specs.Metadata.{type_of, len_of}
 use Rattle.jwalk_model.specs.declared.file_type.FileType.{FileType}
 use Rattle.jwalk_model.specs.declared.file_type.FileType.TheVariants.{Dir, File, Symlink, Other}
 use Rattle.jwalk_model.specs.declared.metadata.Metadata.{Metadata}
+use Rattle.jwalk_model.specs.declared.seen.Seen.{Seen}
+use Rattle.jwalk_model.specs.declared.seen.Seen.TheVariants.{Whole}
 use Rattle.jwalk_fs.specs.declared.fault.Fault.{Fault}
 use Rattle.jwalk_fs.specs.declared.fault.Fault.TheVariants.{Io, Memory}
 
@@ -34,3 +36,9 @@ abbrev pub IsSeen : Result found.Metadata Error → Result Metadata Fault → Ty
 IsSeen (Ok m) (Ok seen) = IsFound m seen
 IsSeen (Err e) (Err f) = IsFault e f
 IsSeen _ _ = ⊥
+
+-- A listing has what was found, whole, or the error itself.
+abbrev pub IsListed : Result found.Metadata Error → Result Seen Error → Type 0
+IsListed (Ok m) (Ok (Whole seen)) = IsFound m seen
+IsListed (Err e) (Err other) = other ≡ e
+IsListed _ _ = ⊥

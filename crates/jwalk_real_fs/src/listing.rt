@@ -1,15 +1,15 @@
 //! The listing of one directory.
-ghost use Rattle.std.specs.Prelude.{◌≡◌, ◌≢◌, ◌≤◌, ◌+◌, List, [], ◌∷◌, length, Err, IfOk, IfErr, OnOk};
+ghost use Rattle.std.specs.Prelude.{◌≡◌, ◌≤◌, ◌+◌, List, [], ◌∷◌, length, Err, IfOk, IfErr, OnOk};
 ghost use Rattle.std.specs.IoError.{error_kind};
 ghost use Rattle.jwalk_model.specs.FileSystem as value;
 ghost use Rattle.jwalk_fs.specs.Views.{IfIo, TakesAll};
+ghost use Rattle.jwalk_real_fs.specs.Listing.{is_interrupted, AreReadOf};
 ghost use Rattle.jwalk_real_fs.specs.Texts.{children};
 
-use crate::seen::{fault, whole};
+use crate::seen::{fault, listed};
 use crate::texts::{is_child, slash_ended, split_name};
 use jwalk_fs::fault::Fault;
 use jwalk_fs::sink::Sink;
-use jwalk_model::seen::Seen;
 use std::alloc::{AllocError, Allocator};
 use std::io::{ErrorKind, Read};
 use std::rt::Files;
@@ -27,18 +27,10 @@ struct Listing<A: Allocator + Copy> {
     path: String<A>,
 }
 
-/// Returns what is known of a path, no link followed. Fails only if memory runs out: any other error is returned
-/// as the answer.
-fn seen_at<R: Files>(rt: &R, path: &str) -> Result<io::Result<Seen>, AllocError>
-    ensures { IfOk result (λ found. IfErr found (λ e. error_kind e ≢ ErrorKind.OutOfMemory)) }
+fn is_interrupted(error: &io::Error) -> bool
+    ensures { result ≡ is_interrupted (error_kind error.now) }
 {
-    match rt.symlink_metadata(path) {
-        Ok(found) => Ok(Ok(Seen::Whole(whole(&found)))),
-        Err(error) => match fault(error) {
-            Fault::Io(error) => Ok(Err(error)),
-            Fault::Memory => Err(AllocError),
-        },
-    }
+    matches!(error.kind(), ErrorKind::Interrupted)
 }
 
 /// Gives an error that ended the reading. Fails if the error is that memory ran out.
@@ -77,7 +69,7 @@ impl<A: Allocator + Copy> Listing<A> {
         self.path.clear();
         self.path.push_str(dir)?;
         self.path.push_str(name)?;
-        let seen = seen_at(rt, self.path.as_str())?;
+        let seen = listed(rt.symlink_metadata(self.path.as_str()))?;
         sink.take_seen(name, seen)
     }
 
@@ -121,7 +113,7 @@ impl<A: Allocator + Copy> Listing<A> {
                 self.add_all(rt, sink, dir, &names[..count])?;
                 Ok(count > 0)
             }
-            Err(error) if error.kind() == ErrorKind::Interrupted => Ok(true),
+            Err(error) if is_interrupted(&error) => Ok(true),
             Err(error) => {
                 end(sink, error)?;
                 Ok(false)
@@ -139,7 +131,7 @@ impl<A: Allocator + Copy> Listing<A> {
         names: &mut R::Dir,
     ) -> Result<(), AllocError>
         ensures { OnOk result ((items : List value.Listed)
-            × TakesAll K.Took items sink.old sink.new) }
+            × AreReadOf (R.Dir.remaining names.old) items × TakesAll K.Took items sink.old sink.new) }
     {
         let mut buffer = [0; BUFFER];
         for _ in 0..u64::MAX {
@@ -156,7 +148,7 @@ impl<A: Allocator + Copy> Listing<A> {
 fn open<R: Files>(rt: &R, dir: &str) -> io::Result<R::Dir> {
     for _ in 1..MOST_OPENS {
         match rt.open_dir(dir) {
-            Err(error) if error.kind() == ErrorKind::Interrupted => {}
+            Err(error) if is_interrupted(&error) => {}
             opened => return opened,
         }
     }
@@ -170,7 +162,8 @@ pub fn read_dir_into<R: Files, A: Allocator + Copy, K: Sink>(
     path: &str,
     sink: &mut K,
 ) -> Result<(), Fault>
-    ensures taken { OnOk result ((items : List value.Listed) × TakesAll K.Took items sink.old sink.new) }
+    ensures taken { OnOk result ((opened : R.Dir) × (items : List value.Listed)
+        × AreReadOf (R.Dir.remaining opened) items × TakesAll K.Took items sink.old sink.new) }
     ensures unchanged { IfErr result (λ fault. IfIo fault (sink.new ≡ sink.old)) }
 {
     let dir = slash_ended(alloc, path)?;

@@ -1,10 +1,13 @@
 //! What the standard library returns, as a walk sees it.
-ghost use Rattle.std.specs.Prelude.{◌≡◌};
-ghost use Rattle.jwalk_real_fs.specs.Seen.{type_seen, IsFault, IsFound, IsSeen};
+ghost use Rattle.std.specs.Prelude.{◌≡◌, ◌≢◌, IfErr, IfOk};
+ghost use Rattle.std.specs.IoError.{error_kind};
+ghost use Rattle.jwalk_real_fs.specs.Seen.{type_seen, IsFault, IsFound, IsListed, IsSeen};
 
 use jwalk_fs::fault::Fault;
 use jwalk_model::file_type::FileType;
 use jwalk_model::metadata::{Details, Identity, Metadata, Moment};
+use jwalk_model::seen::Seen;
+use std::alloc::AllocError;
 use std::io::ErrorKind;
 use std::os::unix::fs::MetadataExt;
 use std::time::UNIX_EPOCH;
@@ -95,5 +98,19 @@ pub fn metadata(found: io::Result<fs::Metadata>) -> Result<Metadata, Fault>
     match found {
         Ok(found) => Ok(whole(&found)),
         Err(error) => Err(fault(error)),
+    }
+}
+
+/// Returns what was found, or the error in its place, as a listing has it. Fails only if memory ran out.
+pub fn listed(found: io::Result<fs::Metadata>) -> Result<io::Result<Seen>, AllocError>
+    ensures same { IfOk result (λ seen. IsListed found seen) }
+    ensures lasts { IfOk result (λ seen. IfErr seen (λ e. error_kind e ≢ ErrorKind.OutOfMemory)) }
+{
+    match found {
+        Ok(found) => Ok(Ok(Seen::Whole(whole(&found)))),
+        Err(error) => match fault(error) {
+            Fault::Io(error) => Ok(Err(error)),
+            Fault::Memory => Err(AllocError),
+        },
     }
 }

@@ -1,4 +1,4 @@
-use Rattle.std.proofs.Common.{[], ◌∷◌, Ok, Err, ap, sym, ◌∙◌}
+use Rattle.std.proofs.Common.{Ok, Err, ap, sym, ◌∙◌}
 use Rattle.jwalk_real_fs.proofs.ListingFacts.{told_is, told_not, adds_one_if, takes_if}
 use Rattle.jwalk_real_fs.proofs.listing.Listing.add.Goals as goal
 

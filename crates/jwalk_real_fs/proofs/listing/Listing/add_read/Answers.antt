@@ -1,10 +1,10 @@
-use Rattle.std.proofs.Common.{◌≡◌, ◌≢◌, ◌==◌, ℕ, Bool, true, false, not, nat_lt, [], ◌∷◌, Err, refl, arith, eqb-true, rules}
+use Rattle.std.proofs.Common.{◌≡◌, ◌==◌, ℕ, Bool, true, false, not, nat_lt, [], ◌∷◌, refl, arith, eqb-true, rules}
 use Rattle.std.proofs.lemmas.Bool.{ltb-true, ltb-false, eqb-false}
 use Rattle.std.specs.IoError.{error_kind}
-use Rattle.std.specs.declared.io.ErrorKind.TheVariants.{Interrupted}
 use Rattle.jwalk_fs.proofs.SinkFacts.{takes_none}
-use Rattle.jwalk_real_fs.specs.Listing.{IsReadError}
+use Rattle.jwalk_real_fs.specs.Listing.{is_interrupted}
 use Rattle.jwalk_real_fs.proofs.FaultFacts.{if_ok_at_err}
+use Rattle.jwalk_real_fs.proofs.ReadFacts.{failed_read, interrupted_read}
 use Rattle.jwalk_real_fs.proofs.listing.Listing.add_read.Goals as goal
 
 -- a read gave something unless it gave nothing
@@ -27,15 +27,13 @@ returns-in_err-add_all-in-Ok g c = if_ok_at_err c.from_residual.result _ _ c.fro
 
 pub returns-in-Err : goal.returns-in-Err
 returns-in-Err g c =
-    let kind : error_kind c.in-Err.error ≡ Interrupted = search rules in
-    let told : IsReadError c.in-Err.error true [] = record { interrupted = λ _. (refl, refl); ended = λ other. absurd (other kind) } in
-    ([], rw c.in-Err.is told, takes_none g.K.Sink.Took c.args.sink.now)
+    let interrupted : is_interrupted (error_kind c.in-Err.error) ≡ true = search rules in
+    ([], rw c.in-Err.is (interrupted_read c.in-Err.error c.args.names.now interrupted), takes_none g.K.Sink.Took c.args.sink.now)
 
 pub returns-in_ok-end-in-Err-2 : goal.returns-in_ok-end-in-Err-2
 returns-in_ok-end-in-Err-2 g c =
-    let other : error_kind c.in-Err-2.error ≢ Interrupted = search rules in
-    let told : IsReadError c.in-Err-2.error false (Err (error_kind c.in-Err-2.error) ∷ []) = record { interrupted = λ is. absurd (other is); ended = λ _. (refl, refl) } in
-    (_ ∷ [], rw c.in-Err-2.is told, c.in_ok-end-in-Err-2.ensures)
+    let other : is_interrupted (error_kind c.in-Err-2.error) ≡ false = search rules in
+    (_ ∷ [], rw c.in-Err-2.is (failed_read c.in-Err-2.error c.args.names.now other), c.in_ok-end-in-Err-2.ensures)
 
 pub returns-in_err-end-in-Err-2 : goal.returns-in_err-end-in-Err-2
 returns-in_err-end-in-Err-2 g c =

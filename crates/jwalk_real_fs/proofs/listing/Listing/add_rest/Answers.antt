@@ -1,14 +1,18 @@
-use Rattle.std.proofs.Common.{◌++◌}
-use Rattle.jwalk_fs.proofs.SinkFacts.{takes_on}
-use Rattle.jwalk_real_fs.proofs.ListingFacts.{takes_on_if}
+use Rattle.std.proofs.Common.{◌++◌, [], arith}
+use Rattle.jwalk_fs.proofs.SinkFacts.{takes_none, takes_on}
+use Rattle.jwalk_real_fs.proofs.ReadFacts.{begins, ends_if, reads_last, reads_on}
 use Rattle.jwalk_real_fs.proofs.listing.Listing.add_rest.Goals as goal
+
+pub loop-init : goal.loop-init
+loop-init g c = ([], begins (g.R.Dir.Read.remaining c.args.names.now), takes_none g.K.Sink.Took c.args.sink.now)
 
 pub returns-then-not-branch : goal.returns-then-not-branch
 returns-then-not-branch g c =
     let so_far = c.loop.invariant in
     let read = c.in_ok-add_read.ensures in (
       so_far.0 ++ read.0,
-      takes_on g.K.Sink.Took so_far.0 read.0 c.args.sink.now c.loop.sink c.add_read.new.sink so_far.1 read.2,
+      reads_last (g.R.Dir.Read.remaining c.args.names.now) (g.R.Dir.Read.remaining c.loop.names) (g.R.Dir.Read.remaining c.read-read.new.self) c.read-read.result c.read-read.new.buf so_far.0 read.0 _ (omega (arith, c.read-read.auto.buf)) so_far.1 c.read-read.ensures.bytes read.1 c.if-not-branch.true,
+      takes_on g.K.Sink.Took so_far.0 read.0 c.args.sink.now c.loop.sink c.add_read.new.sink so_far.2 read.2,
     )
 
 pub loop-preserved : goal.loop-preserved
@@ -16,10 +20,11 @@ loop-preserved g c =
     let so_far = c.loop.invariant in
     let read = c.in_ok-add_read.ensures in (
       so_far.0 ++ read.0,
-      takes_on g.K.Sink.Took so_far.0 read.0 c.args.sink.now c.loop.sink c.add_read.new.sink so_far.1 read.2,
+      reads_on (g.R.Dir.Read.remaining c.args.names.now) (g.R.Dir.Read.remaining c.loop.names) (g.R.Dir.Read.remaining c.read-read.new.self) c.read-read.result c.read-read.new.buf so_far.0 read.0 _ so_far.1 c.read-read.ensures.bytes read.1 c.if-not-branch.false,
+      takes_on g.K.Sink.Took so_far.0 read.0 c.args.sink.now c.loop.sink c.add_read.new.sink so_far.2 read.2,
     )
 
 pub returns : goal.returns
 returns g c =
     let so_far = c.loop.invariant in
-    takes_on_if g.K.Sink.Took c.end.result so_far.0 _ c.args.sink.now c.loop.sink c.end.new.sink so_far.1 c.end.ensures
+    ends_if g.K.Sink.Took c.end.result (g.R.Dir.Read.remaining c.args.names.now) (g.R.Dir.Read.remaining c.loop.names) so_far.0 _ c.args.sink.now c.loop.sink c.end.new.sink so_far.1 so_far.2 c.end.ensures
