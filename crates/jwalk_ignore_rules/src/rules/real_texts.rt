@@ -1,4 +1,6 @@
 //! The files that a runtime reaches, as texts.
+ghost use Rattle.std.specs.Prelude.{◌≡◌, IfOk, IfSome};
+
 use crate::rules::texts::Texts;
 use jwalk_fs::fault::Fault;
 use jwalk_model::file_type::FileType;
@@ -56,11 +58,14 @@ fn type_found(found: io::Result<fs::Metadata>) -> Result<FileType, Fault> {
     }
 }
 
+/// Returns the bytes of the file that is opened at a path, all of them.
 fn read_file<R: Files, A: Allocator + Copy>(
     rt: &R,
     alloc: A,
     path: &str,
-) -> io::Result<Vec<u8, A>> {
+) -> io::Result<Vec<u8, A>>
+    ensures { IfOk result (λ bytes. (opened : R.File) × IfSome (R.File.Read.remaining opened) (λ all. bytes.items ≡ all)) }
+{
     let mut file = fs::open(rt, path)?;
     let mut bytes = Vec::new(alloc);
     file.read_to_end(&mut bytes)?;
