@@ -59,11 +59,7 @@ fn type_found(found: io::Result<fs::Metadata>) -> Result<FileType, Fault> {
 }
 
 /// Returns the bytes of the file that is opened at a path, all of them.
-fn read_file<R: Files, A: Allocator + Copy>(
-    rt: &R,
-    alloc: A,
-    path: &str,
-) -> io::Result<Vec<u8, A>>
+fn read_file<R: Files, A: Allocator + Copy>(rt: &R, alloc: A, path: &str) -> io::Result<Vec<u8, A>>
     ensures { IfOk result (λ bytes. (opened : R.File) × IfSome (R.File.Read.remaining opened) (λ all. bytes.items ≡ all)) }
 {
     let mut file = fs::open(rt, path)?;
