@@ -56,24 +56,37 @@ class Terminal:
         return self.kept
 
 
-def called(program, words, terminal, given, **how):
+def taking_nothing(goal):
+    """Returns an end that takes nothing: a pipe that nobody reads, or a full device."""
+    if goal == "full":
+        return os.open("/dev/full", os.O_WRONLY)
+    ours, end = os.pipe()
+    os.close(ours)
+    return end
+
+
+def called(program, words, goal, given, **how):
     """Returns the outcome of a call. One that takes too long is killed."""
-    screen = Terminal() if terminal else None
+    screen = Terminal() if goal in MARKS else None
     ends = {"out": subprocess.PIPE, "err": subprocess.PIPE}
     if screen:
-        ends[terminal] = screen.end
+        ends[goal] = screen.end
+    elif goal:
+        ends["out"] = taking_nothing(goal)
     how |= {"stdin": subprocess.PIPE, "stdout": ends["out"], "stderr": ends["err"]}
     process = subprocess.Popen(words, executable=program, **how)
     if screen:
         screen.handed_over()
+    elif goal:
+        os.close(ends["out"])
     try:
         out, err = process.communicate(given, SECONDS)
     except subprocess.TimeoutExpired:
         process.kill()
         out, err = process.communicate()
-    texts = {"out": out, "err": err}
+    texts = {"out": out or b"", "err": err}
     if screen:
-        texts[terminal] = screen.text()
+        texts[goal] = screen.text()
     return Outcome(**texts, status=process.returncode)
 
 
@@ -89,7 +102,7 @@ def outcome(program, row, scene, folder, way):
     own = row.words if takes_lines else map(folder.placed, row.words)
     given = text_of(scene.lines) if takes_lines else b""
     words = [row.program.encode(), *way.front, *own]
-    came = called(program, words, row.terminal, given, **how_of(row, scene, folder))
+    came = called(program, words, row.goal, given, **how_of(row, scene, folder))
     return Outcome(folder.cut(came.out), folder.cut(came.err), came.status)
 
 

@@ -7,7 +7,8 @@ from runner.texts import decoded, spread, unescaped, words_of
 SCENES = (b"tree", b"disk", b"input")
 # A line of a tree: its letter, what it says, which may be nothing, and its path.
 TREE_LINE = re.compile(rb"([dpsx]) ()(.+)|([lh]) ([^\t]*)\t(.+)|([fbctom]) (\S+) (.+)", re.S)
-TERMINALS = {b"$": "", b"tty$": "out", b"ttyerr$": "err"}
+# Where a row's outputs go: an output that is a terminal, or what takes nothing.
+GOALS = {b"$": "", b"tty$": "out", b"ttyerr$": "err", b"full$": "full", b"closed$": "closed"}
 PARTS = {b"~": "out", b"!~": "err"}
 VARIABLE = re.compile(rb"[A-Z_]+=")
 
@@ -32,7 +33,7 @@ class Row:
     line: int
     name: str
     call: bytes
-    terminal: str
+    goal: str
     variables: dict
     program: str
     words: list
@@ -82,14 +83,14 @@ class Reader:
     def begin_rules(self, path):
         self.lines = self.scene().rules.setdefault(unescaped(path), [])
 
-    def begin_row(self, call, terminal):
+    def begin_row(self, call, goal):
         words = words_of(call) or self.refuse("no call")
         variables = {}
         while words and VARIABLE.match(words[0]):
             name, _, value = words.pop(0).partition(b"=")
             variables[name.decode()] = value
         program = words[0].decode() if words else self.refuse("no program")
-        row = Row(self.file, self.number, self.name, call, terminal, variables, program, words[1:])
+        row = Row(self.file, self.number, self.name, call, goal, variables, program, words[1:])
         self.scene().rows.append(row)
         self.lines = row.out.lines
 
@@ -114,8 +115,8 @@ class Reader:
             self.begin_rules(rest)
         elif line == b"nobody":
             self.scene().nobody = True
-        elif head in TERMINALS:
-            self.begin_row(rest, TERMINALS[head])
+        elif head in GOALS:
+            self.begin_row(rest, GOALS[head])
         elif line and head != b"--":
             self.take_outcome(line, head, rest)
 

@@ -28,3 +28,21 @@ tree
   f 1 /r/<<a file of a long name *4>>{0000..1499}
 $ seek . /r
   /r/<<a file of a long name *4>>{0000..1499}
+
+# an output that can't be written
+tree
+  f 1 /r/a
+full$ seek . /r
+! seek: cannot write: No space left on device (os error 28)
+= 1
+full$ seek --help
+! seek: cannot write: No space left on device (os error 28)
+= 1
+
+# a pipe that nobody reads
+tree
+  f 1 /r/a
+closed$ seek . /r
+= 1
+closed$ seek --help
+= 1

@@ -14,7 +14,13 @@ tree
   l a.txt	/t/link
   l sub	/t/down
 $ seek --hiden
-!~ '--hiden'
+! seek: unknown option '--hiden' (see seek --help)
+= 2
+$ seek -qz
+! seek: unknown option '-z' (see seek --help)
+= 2
+$ seek --quiet=yes
+! seek: unexpected value 'yes' for '--quiet' found; no more were expected (see seek --help)
 = 2
 $ seek -x
 !~ `seek -0 .. | xargs -0 COMMAND`

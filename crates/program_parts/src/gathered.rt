@@ -49,8 +49,8 @@ impl<A: Allocator> Gathered<A> {
         ensures written { OnOk result (Appends (W.contents out.old) (W.contents out.new) self.old.bytes.items) }
         ensures empty { OnOk result (self.new.bytes.items ≡ []) }
     {
-        if out.write_all(self.bytes.as_slice()).is_err() {
-            return Err(Halt::Output);
+        if let Err(error) = out.write_all(self.bytes.as_slice()) {
+            return Err(Halt::Output(error));
         }
         self.bytes.clear();
         Ok(())
@@ -65,9 +65,9 @@ impl<A: Allocator> Gathered<A> {
         ensures { OnOk result (Appends (W.contents out.old) (W.contents out.new) self.old.bytes.items) }
     {
         self.write(out)?;
-        if out.flush().is_err() {
-            return Err(Halt::Output);
+        match out.flush() {
+            Ok(()) => Ok(()),
+            Err(error) => Err(Halt::Output(error)),
         }
-        Ok(())
     }
 }

@@ -2,23 +2,26 @@
 ghost use Rattle.std.specs.Prelude.{◌≡◌};
 
 use std::alloc::AllocError;
-use std::io::Write;
+use std::io;
+use std::io::{ErrorKind, Write};
 
 /// The reason why a program ends early.
-#[derive(Clone, Copy, Debug, PartialEq, Eq)]
+#[derive(Debug, Drop)]
 pub enum Halt {
     /// Memory ran out.
     Memory,
-    /// Standard output can't be written.
-    Output,
+    /// Standard output can't be written, for this reason.
+    Output(io::Error),
 }
 
 impl Halt {
-    /// Reports the reason on standard error, in the name of the program, unless the output can't be written.
+    /// Reports the reason on standard error, in the name of the program. A pipe that its reader closed isn't reported.
     pub fn report<E: Write>(self, program: &str, err: &mut E) {
-        if self == Halt::Memory {
-            let _ = writeln!(err, "{program}: memory refused");
-        }
+        let _ = match self {
+            Halt::Memory => writeln!(err, "{program}: memory refused"),
+            Halt::Output(error) if error.kind() == ErrorKind::BrokenPipe => Ok(()),
+            Halt::Output(error) => writeln!(err, "{program}: cannot write: {error}"),
+        };
     }
 }
 

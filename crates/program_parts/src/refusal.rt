@@ -2,6 +2,7 @@
 ghost use Rattle.std.specs.Prelude.{◌≡◌, ◌<◌, ◌≤◌};
 ghost use Rattle.program_parts.specs.Status.{status_of_kind};
 
+use crate::gathered::Gathered;
 use crate::halt::Halt;
 use crate::help::help_text;
 use clap::Error;
@@ -102,9 +103,41 @@ fn print_text<R: Display, W: Write>(
 ) -> Result<(), Halt> {
     let text = format!(in alloc; "{text}")?;
     let text = help_text(alloc, columns, text.as_str())?;
-    if out.write_all(text.as_slice()).is_err() || out.flush().is_err() {
-        return Err(Halt::Output);
-    }
+    Gathered { bytes: text }.finish(out)
+}
+
+/// Returns what the parser says of bad words, without its hints, if the text is the parser's.
+fn complaint(text: &str) -> Option<&str> {
+    let (line, _) = text.strip_prefix("error: ")?.split_once('\n')?;
+    Some(line)
+}
+
+/// Returns the option in quotes, if the parser says that it doesn't know one.
+fn unknown_option(complaint: &str) -> Option<&str> {
+    complaint
+        .strip_prefix("unexpected argument ")?
+        .strip_suffix(" found")
+}
+
+/// Reports why words are refused: in one line, if the parser refuses them.
+fn report<R: Display, E: Write>(
+    alloc: Global,
+    program: &str,
+    refusal: &R,
+    err: &mut E,
+) -> Result<(), AllocError> {
+    let text = format!(in alloc; "{refusal}")?;
+    let Some(line) = complaint(text.as_str()) else {
+        let _ = write!(err, "{text}");
+        return Ok(());
+    };
+    let _ = match unknown_option(line) {
+        Some(option) => writeln!(
+            err,
+            "{program}: unknown option {option} (see {program} --help)"
+        ),
+        None => writeln!(err, "{program}: {line} (see {program} --help)"),
+    };
     Ok(())
 }
 
@@ -124,7 +157,9 @@ pub fn refuse<R: Display, W: Write, E: Write>(
     ensures untouched { result ≡ 2 → W.contents out.new ≡ W.contents out.old }
 {
     if status > 0 {
-        let _ = write!(err, "{refusal}");
+        if report(alloc, program, refusal, err).is_err() {
+            Halt::Memory.report(program, err);
+        }
         return status;
     }
     let Err(halt) = print_text(alloc, columns, refusal, out) else {

@@ -6,7 +6,7 @@ use std::alloc::AllocError;
 use std::io::Write;
 
 /// What ends a call before its end.
-#[derive(Clone, Copy, Debug, PartialEq, Eq)]
+#[derive(Debug, Drop)]
 pub(crate) enum Failure {
     /// A number passes the greatest `u128`.
     TooMany,
@@ -17,7 +17,7 @@ pub(crate) enum Failure {
 }
 
 impl Failure {
-    /// Reports it on standard error, unless it was reported, or is that the output can't be written.
+    /// Reports it on standard error, unless it was reported.
     pub(crate) fn report<E: Write>(self, err: &mut E) {
         match self {
             Failure::TooMany => {

@@ -19,7 +19,7 @@ fn failure_of(halt: Halt) -> Failure
 {
     match halt {
         Halt::Memory => Failure::Memory,
-        Halt::Output => Failure::Output,
+        Halt::Output(_) => Failure::Output,
     }
 }
 
