@@ -295,7 +295,10 @@ $ seek --threads=9 txt /t
   /t/B.TXT
   /t/a.txt
 $ seek -j0 txt /t
-!~ '0'
+  /t/B.TXT
+  /t/a.txt
+$ seek -j -1 txt /t
+!~ '-1'
 = 2
 
 # short options in one word

@@ -12,3 +12,7 @@ $ tally -sz /t
 $ tally -d one /t
 ! tally: invalid value 'one' for '--max-depth <N>': invalid digit found in string (see tally --help)
 = 2
+
+# threads
+$ tally --plain -b --apparent -j0 /t
+  1+{folders /t}	/t

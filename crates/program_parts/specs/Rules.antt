@@ -34,7 +34,7 @@ number_rule id = record (valued_rule id) { parser = Some (Unsigned 0 18446744073
 
 -- the number of threads
 abbrev pub threads_rule : Rule
-threads_rule = record (valued_rule (codes "threads")) { short = Some 106; parser = Some (Unsigned 1 18446744073709551615) }
+threads_rule = record (number_rule (codes "threads")) { short = Some 106 }
 
 -- the roots, which are words that aren't options
 abbrev pub root_rule : Rule

@@ -59,19 +59,17 @@ pub fn number<'a>(alloc: Global, id: &'a str, help: &'a str) -> Arg<'a>
     valued(alloc, id, "N", help).value_parser(clap::value_parser!(usize))
 }
 
-/// Returns the option for the number of threads.
+/// Returns the option for the number of threads. None, or 0, is as many as can run at a time.
 pub fn threads_option<'a>(alloc: Global) -> Arg<'a>
     ensures rule { rule_of result ≡ threads_rule }
     ensures local { result.global ≡ false }
 {
-    valued(
+    number(
         alloc,
         "threads",
-        "N",
-        "Threads that read directories [default: as many as can run at a time]",
+        "Threads that read directories, or 0 for as many as can run at a time [default: 0]",
     )
     .short('j')
-    .value_parser(clap::value_parser!(usize).range(1..))
 }
 
 /// Returns the words that are no options: the roots.
