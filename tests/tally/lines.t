@@ -98,5 +98,53 @@ $ tally --plain -b --apparent /r/l
   8	/r/l
 
 # no dots behind options that take nothing
-$ tally -h
+$ tally --help
 ~   -s, --summarize   \x20
+
+# units of sizes
+tree
+  f 1048577 /t/a
+$ tally --plain --apparent /t/a
+  1025	/t/a
+$ tally --plain --apparent -k /t/a
+  1025	/t/a
+$ tally --plain --apparent -m /t/a
+  2	/t/a
+$ tally --plain --apparent -b /t/a
+  1048577	/t/a
+$ tally --plain --apparent -sh /t/a
+  1.1 MiB	/t/a
+$ tally --plain --apparent --si /t/a
+  1.1 MB	/t/a
+$ tally --plain --apparent --human-readable /t/a
+  1.1 MiB	/t/a
+$ tally --plain --apparent --kibibytes /t/a
+  1025	/t/a
+$ tally --plain --apparent --mebibytes /t/a
+  2	/t/a
+$ tally --apparent -h /t/a
+  1.1 MiB  /t/a
+$ tally --apparent -m /t/a
+        2  /t/a
+$ tally --json --apparent -h /t/a
+~ 1048577
+
+# two units exclude each other
+$ tally -hb /t/a
+! tally: the options --human-readable and --bytes exclude each other
+= 2
+$ tally -h --si /t/a
+! tally: the options --human-readable and --si exclude each other
+= 2
+$ tally --si -m /t/a
+! tally: the options --si and --mebibytes exclude each other
+= 2
+$ tally -kb /t/a
+! tally: the options --kibibytes and --bytes exclude each other
+= 2
+$ tally -mk /t/a
+! tally: the options --kibibytes and --mebibytes exclude each other
+= 2
+$ tally -mb /t/a
+! tally: the options --mebibytes and --bytes exclude each other
+= 2

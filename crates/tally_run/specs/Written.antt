@@ -10,10 +10,12 @@ use Rattle.tally_text.specs.Nodes.{largest_of, trees_of}
 use Rattle.tally_text.specs.Table.{layout_for, table_text}
 use Rattle.tally_text.specs.declared.node.Node.{Node}
 use Rattle.tally_text.specs.declared.scale.Scale.{Scale}
-use Rattle.tally_text.specs.declared.scale.Scale.TheVariants.{Human, Kibibytes, Bytes}
+use Rattle.tally_text.specs.declared.scale.Scale.TheVariants.{Human, Decimal, Kibibytes, Mebibytes, Bytes}
 use Rattle.tally_words.specs.declared.asked.Asked.{Asked}
 use Rattle.tally_words.specs.declared.form.Form.{Form}
 use Rattle.tally_words.specs.declared.form.Form.TheVariants as form
+use Rattle.tally_words.specs.declared.unit.Unit.{Unit}
+use Rattle.tally_words.specs.declared.unit.Unit.TheVariants as unit
 use Rattle.tally_run.specs.Results.{ArePushed, Row, gathered_of, lines_text, scale_of, style_of}
 use Rattle.tally_run.specs.declared.results.Results.{Results}
 use Rattle.tally_run.specs.declared.results.Results.TheVariants as results
@@ -26,9 +28,21 @@ are_lines form.Lines = true
 are_lines form.ZeroLines = true
 are_lines form.Json = false
 
--- how sizes are written
+-- the scale of a unit
+abbrev scale_in : Unit → Scale
+scale_in unit.Binary = Human
+scale_in unit.Decimal = Decimal
+scale_in unit.Kibibyte = Kibibytes
+scale_in unit.Mebibyte = Mebibytes
+scale_in unit.Byte = Bytes
+
+-- how sizes are written: in a unit that is named, or else as suits a form
+abbrev scale_by : Form → Option Unit → Scale
+scale_by form None = if are_lines form then Kibibytes else Human
+scale_by form (Some unit) = scale_in unit
+
 abbrev pub scale_asked : Asked → Scale
-scale_asked asked = if asked.bytes then Bytes else (if are_lines asked.form then Kibibytes else Human)
+scale_asked asked = scale_by asked.form asked.unit
 
 -- what ends a line
 abbrev pub separator_of : Form → ℕ

@@ -28,6 +28,7 @@ use tally_text::scale::Scale;
 use tally_text::table::push_table;
 use tally_words::asked::Asked;
 use tally_words::form::Form;
+use tally_words::unit::Unit;
 use tally_words::words::read_words;
 
 fn are_lines(form: Form) -> bool
@@ -39,17 +40,19 @@ fn are_lines(form: Form) -> bool
     }
 }
 
-/// Returns how sizes are written: in bytes if that is asked for, in lines in units of 1,024 bytes, and else as people
-/// read them.
+/// Returns how sizes are written: in the unit that is asked for, or else in lines in units of 1,024 bytes, and in the
+/// binary unit that suits each in other forms.
 fn scale_of(asked: &Asked<'_>) -> Scale
     ensures { result ≡ scale_asked asked.now }
 {
-    if asked.bytes {
-        Scale::Bytes
-    } else if are_lines(asked.form) {
-        Scale::Kibibytes
-    } else {
-        Scale::Human
+    match asked.unit {
+        Some(Unit::Binary) => Scale::Human,
+        Some(Unit::Decimal) => Scale::Decimal,
+        Some(Unit::Kibibyte) => Scale::Kibibytes,
+        Some(Unit::Mebibyte) => Scale::Mebibytes,
+        Some(Unit::Byte) => Scale::Bytes,
+        None if are_lines(asked.form) => Scale::Kibibytes,
+        None => Scale::Human,
     }
 }
 

@@ -1,8 +1,9 @@
 -- Powers of 1,024, and sizes in units.
-use Rattle.std.proofs.Common.{◌≡◌, ◌∙◌, ℕ, zero, suc, ◌+◌, ◌*◌, ◌/◌, ◌^◌, ◌≤◌, ◌<◌, Bool, true, false, nat_le, List, [], ◌∷◌, Some, unwrap_or, refl, ap, arith, subst, inl, inr}
+use Rattle.std.proofs.Common.{◌≡◌, ◌∙◌, ℕ, zero, suc, ◌+◌, ◌*◌, ◌/◌, ◌^◌, ◌≤◌, ◌<◌, Bool, true, false, nat_le, List, [], ◌∷◌, Some, unwrap_or, refl, ap, arith, subst, inl, inr, pow-add, pow-suc, le_refl, le_trans, mul-le-mul}
 use Rattle.std.specs.Prelude.{find, if◌then◌else◌}
 use Rattle.std.proofs.lemmas.Bool.{cases_lt}
 use Rattle.std.proofs.Math.Pow.{pow_mono}
+use Rattle.std.proofs.lemmas.Grind.{common_steps}
 
 -- numbers that follow one another, from this one on
 abbrev pub numbers_from : ℕ → ℕ → List ℕ
@@ -38,6 +39,23 @@ first_in test (suc n) k p low high none some =
 pub within : (unit bytes : ℕ) → nat_le bytes (99 * unit / 10) ≡ true → nat_le (10 * bytes) (99 * unit) ≡ true
 within unit bytes most = grind arith
 
--- the greatest power of 1,024
-pub unit_most : (power : ℕ) → power ≤ 10 → 2 ^ (10 * power) ≤ 2 ^ 100
-unit_most power most = let below : 10 * power ≤ 100 = omega (arith, most) in pow_mono below
+-- a power of at most 1,024
+below_two : (step power : ℕ) → step ≤ 1024 → step ^ power ≤ 2 ^ (10 * power)
+below_two step zero most = simp common_steps (le_refl 1)
+below_two step (suc power) most =
+    let less : step ^ power ≤ 2 ^ (10 * power) = below_two step power most in
+    let next : 2 ^ (10 * suc power) ≡ 2 ^ (10 * power) * 2 ^ 10 = ap (λ n. 2 ^ n) (omega arith) ∙ pow-add 2 (10 * power) 10 in
+    rw (next, pow-suc step power) (mul-le-mul less most)
+
+-- the greatest of these
+pub unit_most : (step power : ℕ) → step ≤ 1024 → power ≤ 10 → step ^ power ≤ 2 ^ 100
+unit_most step power most few = let below : 10 * power ≤ 100 = omega (arith, few) in le_trans (below_two step power most) (pow_mono below)
+
+-- it fits a number of 128 bits
+pub unit_fits : (step power : ℕ) → step ≤ 1024 → power ≤ 10 → step ^ power < 2 ^ 128
+unit_fits step power most few = let least : step ^ power ≤ 2 ^ 100 = unit_most step power most few in omega (arith, least)
+
+-- it is at least one
+pub unit_some : (step power : ℕ) → 1 ≤ step → 1 ≤ step ^ power
+unit_some step zero some = simp common_steps (le_refl 1)
+unit_some step (suc power) some = rw (pow-suc step power) (mul-le-mul (unit_some step power some) some)

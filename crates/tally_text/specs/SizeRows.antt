@@ -1,8 +1,9 @@
--- Sizes as `du -h`, `du -k` and `du -b` write them, row by row. Where `du -h` writes K here is KiB, and B behind bytes.
+-- Sizes as `du -h`, `du --si`, `du -k`, `du -m` and `du -b` write them, row by row. Where these write K or k here is KiB or
+-- kB, and B behind bytes.
 use Rattle.std.specs.Prelude.{◌≡◌, codes, refl}
 use Rattle.std.specs.Fmt.{digits}
 use Rattle.tally_text.specs.Scale.{size_text}
-use Rattle.tally_text.specs.declared.scale.Scale.TheVariants.{Human, Kibibytes, Bytes}
+use Rattle.tally_text.specs.declared.scale.Scale.TheVariants.{Human, Decimal, Kibibytes, Mebibytes, Bytes}
 
 nothing : size_text Human 0 ≡ codes "0 B"
 unfolding digits
@@ -71,3 +72,43 @@ one_and_a_part = refl
 all_bytes : size_text Bytes 1047553 ≡ codes "1047553"
 unfolding digits
 all_bytes = refl
+
+most_decimal_bytes : size_text Decimal 999 ≡ codes "999 B"
+unfolding digits
+most_decimal_bytes = refl
+
+one_decimal_unit : size_text Decimal 1000 ≡ codes "1.0 kB"
+unfolding digits
+one_decimal_unit = refl
+
+decimal_tenths : size_text Decimal 1024 ≡ codes "1.1 kB"
+unfolding digits
+decimal_tenths = refl
+
+most_decimal_units : size_text Decimal 999000 ≡ codes "999 kB"
+unfolding digits
+most_decimal_units = refl
+
+next_decimal_unit : size_text Decimal 999001 ≡ codes "1.0 MB"
+unfolding digits
+next_decimal_unit = refl
+
+decimal_gigabytes : size_text Decimal 1503238554 ≡ codes "1.6 GB"
+unfolding digits
+decimal_gigabytes = refl
+
+no_mebibyte : size_text Mebibytes 0 ≡ codes "0"
+unfolding digits
+no_mebibyte = refl
+
+part_of_a_mebibyte : size_text Mebibytes 1 ≡ codes "1"
+unfolding digits
+part_of_a_mebibyte = refl
+
+one_mebibyte : size_text Mebibytes 1048576 ≡ codes "1"
+unfolding digits
+one_mebibyte = refl
+
+more_than_a_mebibyte : size_text Mebibytes 1048577 ≡ codes "2"
+unfolding digits
+more_than_a_mebibyte = refl

@@ -1,10 +1,12 @@
 -- What words ask for, by the values that options were given.
-use Rattle.std.specs.Prelude.{◌≡◌, ℕ, List, codes, Option, Some, if◌then◌else◌}
+use Rattle.std.specs.Prelude.{◌≡◌, ℕ, List, codes, Option, Some, None, if◌then◌else◌}
 use Rattle.clap.specs.Words.{Row, one_of}
 use Rattle.program_parts.specs.Values.{is_named, values_in, texts_of, IsNumberOf}
 use Rattle.tally_words.specs.declared.asked.Asked.{Asked}
 use Rattle.tally_words.specs.declared.form.Form.{Form}
 use Rattle.tally_words.specs.declared.form.Form.TheVariants.{Table, Lines, ZeroLines, Json}
+use Rattle.tally_words.specs.declared.unit.Unit.{Unit}
+use Rattle.tally_words.specs.declared.unit.Unit.TheVariants.{Binary, Decimal, Kibibyte, Mebibyte, Byte}
 
 -- The greatest depth that is named: 0 where the totals alone are asked for.
 abbrev pub IsDepthIn : List Row → Option ℕ → Type 0
@@ -16,6 +18,13 @@ abbrev pub form_in : List Row → Form
 form_in rows =
     if is_named rows (codes "json") then Json else if is_named rows (codes "print0") then ZeroLines else if is_named rows (codes "plain") then Lines else Table
 
+-- the unit of sizes
+abbrev pub unit_in : List Row → Option Unit
+unit_in rows =
+    if is_named rows (codes "human-readable") then Some Binary else if is_named rows (codes "si") then Some Decimal
+    else if is_named rows (codes "kibibytes") then Some Kibibyte else if is_named rows (codes "mebibytes") then Some Mebibyte
+    else if is_named rows (codes "bytes") then Some Byte else None
+
 -- What is asked for by the values that options were given.
 pub record Asks (rows : List Row) (asked : Asked) : Type 0 where
   pub roots : texts_of asked.roots.items ≡ values_in rows (codes "root")
@@ -23,7 +32,7 @@ pub record Asks (rows : List Row) (asked : Asked) : Type 0 where
   pub depth : IsDepthIn rows asked.depth
   pub all : asked.all ≡ is_named rows (codes "all")
   pub largest : IsNumberOf (one_of (codes "largest") rows) asked.largest
-  pub bytes : asked.bytes ≡ is_named rows (codes "bytes")
+  pub unit : asked.unit ≡ unit_in rows
   pub apparent : asked.apparent ≡ is_named rows (codes "apparent")
   pub each_name : asked.each_name ≡ is_named rows (codes "count-links")
   pub one_file_system : asked.one_file_system ≡ is_named rows (codes "one-file-system")

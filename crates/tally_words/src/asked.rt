@@ -1,5 +1,6 @@
 //! What a call asks for.
 use crate::form::Form;
+use crate::unit::Unit;
 use std::alloc::Global;
 
 /// What a call asks for.
@@ -15,8 +16,8 @@ pub struct Asked<'w> {
     pub all: bool,
     /// How many entries of each directory are written, the largest ones, if a number was named.
     pub largest: Option<usize>,
-    /// Sizes are in bytes.
-    pub bytes: bool,
+    /// The unit of sizes, if one was named.
+    pub unit: Option<Unit>,
     /// The length of an entry counts, and not what is allocated for it.
     pub apparent: bool,
     /// Each name of a file counts.

@@ -1,10 +1,10 @@
 //! The command line.
-ghost use Rattle.std.specs.Prelude.{◌≡◌, ◌∷◌, [], IfOk};
-ghost use Rattle.clap.specs.Words.{app_of};
+ghost use Rattle.std.specs.Prelude.{◌≡◌, ◌∷◌, [], false, IfOk};
+ghost use Rattle.clap.specs.Words.{app_of, rule_of};
 ghost use Rattle.program_parts.specs.Rules.{root_rule, with_rules, HaveRules};
-ghost use Rattle.tally_words.specs.Command.{named_app, shown_rules, form_rules, counted_rules, walked_rules, tally_app};
+ghost use Rattle.tally_words.specs.Command.{named_app, shown_rules, form_rules, unit_rules, counted_rules, walked_rules, help_rule, tally_app};
 
-use clap::{Arg, Command};
+use clap::{Arg, ArgAction, Command};
 use program_parts::options::{flag, listed, long_flag, number, root_option, threads_option};
 use std::alloc::{AllocError, Global};
 
@@ -43,7 +43,6 @@ fn form_options<'a>(alloc: Global) -> Result<Vec<Arg<'a>>, AllocError>
     ensures { IfOk result (λ options. HaveRules options.items form_rules) }
 {
     Ok(vec![in alloc;
-        flag(alloc, "bytes", 'b', "Write sizes in bytes"),
         long_flag(
             alloc,
             "plain",
@@ -56,6 +55,37 @@ fn form_options<'a>(alloc: Global) -> Result<Vec<Arg<'a>>, AllocError>
             "Write such lines with a zero byte behind each, in place of a line feed"
         ),
         long_flag(alloc, "json", "Write one JSON document"),
+    ]?)
+}
+
+fn unit_options<'a>(alloc: Global) -> Result<Vec<Arg<'a>>, AllocError>
+    ensures { IfOk result (λ options. HaveRules options.items unit_rules) }
+{
+    Ok(vec![in alloc;
+        flag(
+            alloc,
+            "human-readable",
+            'h',
+            "Write sizes in the binary unit that suits each [default, but for lines]"
+        ),
+        long_flag(
+            alloc,
+            "si",
+            "Write sizes in the decimal unit that suits each"
+        ),
+        flag(
+            alloc,
+            "kibibytes",
+            'k',
+            "Write sizes in units of 1,024 bytes, rounded up [default for lines]"
+        ),
+        flag(
+            alloc,
+            "mebibytes",
+            'm',
+            "Write sizes in units of 1,048,576 bytes, rounded up"
+        ),
+        flag(alloc, "bytes", 'b', "Write sizes in bytes"),
     ]?)
 }
 
@@ -85,6 +115,17 @@ fn counted_options<'a>(alloc: Global) -> Result<Vec<Arg<'a>>, AllocError>
     ]?)
 }
 
+/// Returns the option for help. It has no letter: `-h` is a unit.
+fn help_option<'a>(alloc: Global) -> Arg<'a>
+    ensures rule { rule_of result ≡ help_rule }
+    ensures local { result.global ≡ false }
+{
+    Arg::new(alloc, "help")
+        .long("help")
+        .action(ArgAction::Help)
+        .help("Print help")
+}
+
 fn walked_options<'a>(alloc: Global) -> Result<Vec<Arg<'a>>, AllocError>
     ensures { IfOk result (λ options. HaveRules options.items walked_rules) }
 {
@@ -102,6 +143,7 @@ fn walked_options<'a>(alloc: Global) -> Result<Vec<Arg<'a>>, AllocError>
             "Read the entries of a directory in the order of their names"
         ),
         threads_option(alloc),
+        help_option(alloc),
     ]?)
 }
 
@@ -111,6 +153,7 @@ fn named<'a>(alloc: Global) -> Result<Command<'a>, AllocError>
     Command::new(alloc, "tally")
         .version("1.0")
         .about("Prints how much is below each directory")
+        .disable_help_flag(true)
         .arg(root_option(alloc, "What to count [default: the folder that it runs in]"))
 }
 
@@ -119,11 +162,13 @@ pub(crate) fn command<'a>(alloc: Global) -> Result<Command<'a>, AllocError>
 {
     let shown = shown_options(alloc)?;
     let form = form_options(alloc)?;
+    let units = unit_options(alloc)?;
     let counted = counted_options(alloc)?;
     let walked = walked_options(alloc)?;
     named(alloc)?
         .args(shown)?
         .args(form)?
+        .args(units)?
         .args(counted)?
         .args(walked)
 }

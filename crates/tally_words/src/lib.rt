@@ -4,4 +4,5 @@
 pub mod asked;
 mod command;
 pub mod form;
+pub mod unit;
 pub mod words;

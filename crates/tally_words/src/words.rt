@@ -1,14 +1,15 @@
 //! What words ask for.
 ghost use Rattle.std.specs.Prelude.{◌≡◌, is_some, map, IfOk, IfErr};
 ghost use Rattle.clap.specs.Words.{found_of, rows_of};
-ghost use Rattle.tally_words.specs.Asks.{form_in, IsDepthIn, Asks};
+ghost use Rattle.tally_words.specs.Asks.{form_in, unit_in, IsDepthIn, Asks};
 ghost use Rattle.tally_words.specs.AsksFor.{AskFor};
-ghost use Rattle.tally_words.specs.Conflict.{asks_lines, has_form_conflict, has_total_conflict, has_conflict};
+ghost use Rattle.tally_words.specs.Conflict.{asks_fixed_unit, asks_lines, has_fixed_conflict, has_form_conflict, has_total_conflict, has_unit_conflict, has_conflict};
 ghost use Rattle.tally_words.specs.Refusal.{IsRefusedFor};
 
 use crate::asked::Asked;
 use crate::command::command;
 use crate::form::Form;
+use crate::unit::Unit;
 use clap::ArgMatches;
 use program_parts::refusal::CommonRefusal;
 use program_parts::values::{has_value, is_named, matches_of, number_of, values_of};
@@ -41,6 +42,24 @@ fn form_of(found: &ArgMatches<'_>) -> Form
     }
 }
 
+fn unit_of(found: &ArgMatches<'_>) -> Option<Unit>
+    ensures { result ≡ unit_in (rows_of (found_of found.now)) }
+{
+    if is_named(found, "human-readable") {
+        Some(Unit::Binary)
+    } else if is_named(found, "si") {
+        Some(Unit::Decimal)
+    } else if is_named(found, "kibibytes") {
+        Some(Unit::Kibibyte)
+    } else if is_named(found, "mebibytes") {
+        Some(Unit::Mebibyte)
+    } else if is_named(found, "bytes") {
+        Some(Unit::Byte)
+    } else {
+        None
+    }
+}
+
 fn asked_of<'w>(alloc: Global, found: &ArgMatches<'w>) -> Result<Asked<'w>, AllocError>
     ensures { IfOk result (Asks (rows_of (found_of found.now))) }
 {
@@ -52,7 +71,7 @@ fn asked_of<'w>(alloc: Global, found: &ArgMatches<'w>) -> Result<Asked<'w>, Allo
         depth: depth_of(found),
         all: is_named(found, "all"),
         largest: number_of(found, "largest"),
-        bytes: is_named(found, "bytes"),
+        unit: unit_of(found),
         apparent: is_named(found, "apparent"),
         each_name: is_named(found, "count-links"),
         one_file_system: is_named(found, "one-file-system"),
@@ -109,12 +128,65 @@ fn total_conflict(found: &ArgMatches<'_>) -> Option<(&'static str, &'static str)
     }
 }
 
+fn fixed_unit(found: &ArgMatches<'_>) -> Option<&'static str>
+    ensures { is_some result ≡ asks_fixed_unit (rows_of (found_of found.now)) }
+{
+    if is_named(found, "kibibytes") {
+        Some("kibibytes")
+    } else if is_named(found, "mebibytes") {
+        Some("mebibytes")
+    } else if is_named(found, "bytes") {
+        Some("bytes")
+    } else {
+        None
+    }
+}
+
+fn fixed_conflict(found: &ArgMatches<'_>) -> Option<(&'static str, &'static str)>
+    ensures { is_some result ≡ has_fixed_conflict (rows_of (found_of found.now)) }
+{
+    let mebibytes = is_named(found, "mebibytes");
+    let bytes = is_named(found, "bytes");
+    if !is_named(found, "kibibytes") {
+        if mebibytes && bytes {
+            return Some(("mebibytes", "bytes"));
+        }
+        None
+    } else if mebibytes {
+        Some(("kibibytes", "mebibytes"))
+    } else if bytes {
+        Some(("kibibytes", "bytes"))
+    } else {
+        None
+    }
+}
+
+/// Returns two options for units, if more than one is named.
+fn unit_conflict(found: &ArgMatches<'_>) -> Option<(&'static str, &'static str)>
+    ensures { is_some result ≡ has_unit_conflict (rows_of (found_of found.now)) }
+{
+    let si = is_named(found, "si");
+    if is_named(found, "human-readable") {
+        if si {
+            return Some(("human-readable", "si"));
+        }
+        Some(("human-readable", fixed_unit(found)?))
+    } else if si {
+        Some(("si", fixed_unit(found)?))
+    } else {
+        fixed_conflict(found)
+    }
+}
+
 fn conflict_of(found: &ArgMatches<'_>) -> Option<(&'static str, &'static str)>
     ensures { is_some result ≡ has_conflict (rows_of (found_of found.now)) }
 {
-    match form_conflict(found) {
+    if let Some(both) = form_conflict(found) {
+        return Some(both);
+    }
+    match total_conflict(found) {
         Some(both) => Some(both),
-        None => total_conflict(found),
+        None => unit_conflict(found),
     }
 }
 
