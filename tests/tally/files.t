@@ -112,3 +112,12 @@ $ tally --plain -a -L -l -b --apparent /r
   7	/r/l/f
   7+{folders /r/d}	/r/l
   21+{folders /r}+{folders /r/d}	/r
+
+# a link to a directory above it
+tree
+  d /t
+  l .	/t/l
+$ tally -L --plain -b --apparent /t
+~ /t
+! tally: /t/l: a link that leads back to /t
+= 1

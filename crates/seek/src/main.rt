@@ -11,6 +11,9 @@ use std::process::ExitCode;
 use std::{env, io};
 use user_excludes::home::Home;
 
+/// How many characters a line of help has where `COLUMNS` doesn't say.
+const WIDTH: usize = 80;
+
 /// The disk, where a directory is opened again after a moment if no descriptor was left; and the files of rules on it.
 type Disk = (Patient<RealFs, HostRuntime>, RealTexts);
 
@@ -40,7 +43,7 @@ fn main(rt: HostRuntime) -> ExitCode {
         is_terminal: rt.stdout().is_terminal(),
         no_color: !no_color.is_empty(),
         ls_colors: ls_colors.as_str(),
-        columns: columns.as_str().parse::<usize>().ok(),
+        columns: Some(columns.as_str().parse().unwrap_or(WIDTH)),
     };
     let (home, config) = (variable(&rt, "HOME"), variable(&rt, "XDG_CONFIG_HOME"));
     let status = match call_of(&rt) {

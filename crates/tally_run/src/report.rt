@@ -24,6 +24,18 @@ fn write_line<E: Write>(
     Ok(())
 }
 
+/// Returns the line of an error at a path that the disk didn't give.
+fn looped_line<A: Allocator + Copy>(
+    alloc: Global,
+    path: &str,
+    error: &Error<A>,
+) -> Result<String<Global>, AllocError> {
+    match error.loop_ancestor() {
+        Some(above) => format!(in alloc; "tally: {path}: a link that leads back to {above}"),
+        None => format!(in alloc; "tally: {path}: {error}"),
+    }
+}
+
 /// Returns the line of an error of a walk: with its path, or else with that of the directory that it came in.
 fn line_of<A: Allocator + Copy>(
     alloc: Global,
@@ -31,6 +43,7 @@ fn line_of<A: Allocator + Copy>(
 ) -> Result<String<Global>, AllocError> {
     match (error.path(), error.parent_path(), error.io_error()) {
         (Some(path), _, Some(io)) => format!(in alloc; "tally: {path}: {io}"),
+        (Some(path), _, None) => looped_line(alloc, path, error),
         (None, Some(folder), _) => format!(in alloc; "tally: {folder}: {error}"),
         _ => format!(in alloc; "tally: {error}"),
     }
