@@ -13,6 +13,8 @@ The part is what the file has between its lines `// begin loop` and `// end loop
 `--`. Indentation that all lines of a part have in common is dropped, and so are lines that begin or end any part. A
 block of `sh` (commands) or `text` (output, diagrams) needs no mark, and is compared if it has one.
 
+docs/API.md isn't compared, which bench/api.py writes.
+
 It prints how many blocks it compared. At the first that differs it prints the document, the line, the file and the
 first line that differs, and ends with status 1. So it does at code without a mark, at a mark whose file or part is
 missing, at a block of another language or that isn't closed, and at lines that are indented as code is that isn't
@@ -23,6 +25,8 @@ import os
 import re
 import sys
 import textwrap
+
+from api import PAGE
 
 TOP = os.path.dirname(os.path.dirname(os.path.abspath(__file__)))
 
@@ -97,6 +101,7 @@ def is_compared(language, above, shown):
 def main():
     folders = ["docs", "docs/internals"]
     documents = ["README.md", *sorted(f"{at}/{it}" for at in folders for it in os.listdir(f"{TOP}/{at}") if it.endswith(".md"))]
+    documents.remove(PAGE)
     compared = 0
     for document in documents:
         for number, *block in blocks(read(document)):
