@@ -20,7 +20,7 @@ PAGE = "docs/API.md"
 WIDTH = 120
 
 # The crates that users name. A path that begins with none of these is in the first.
-CRATES = ["jwalk", "jwalk_usage", "jwalk_subtotals", "jwalk_ignore", "jwalk_callbacks"]
+CRATES = ["jwalk", "jwalk_usage", "jwalk_subtotals", "jwalk_ignore", "jwalk_callbacks", "tree_walk", "tree_crew"]
 
 # What each section has, in this order: items, and with `::` at the end all of a path that isn't named elsewhere.
 SECTIONS = {
@@ -40,6 +40,7 @@ SECTIONS = {
     " jwalk_ignore::texts:: jwalk_ignore::real_texts:: jwalk_ignore::with_excludes:: jwalk_ignore::memory_texts::"
     " jwalk_ignore::rules::Rules jwalk_ignore::",
     "Crews": "Crew crew:: NoCrew Readers",
+    "Trees that are no file system": "board::Plan tree_walk:: tree_crew::",
     "Single readings, and the parts of a walk": "read_dir:: read_dir_iter:: readings:: jwalk::",
 }
 
@@ -287,7 +288,7 @@ def main():
     with open(f"{TOP}/{PAGE}", encoding="utf-8") as file:
         if file.read() != made:
             sys.exit(f"{PAGE} isn't what the sources say: run python3 bench/api.py")
-    print(f"{PAGE} has the {made.count(chr(10) + '### ')} names that users of the library write")
+    print(f"{PAGE} has the names of {sum(line.startswith('### ') for line in made.splitlines())} types and groups")
 
 
 if __name__ == "__main__":

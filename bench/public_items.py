@@ -12,7 +12,7 @@ TOKEN = re.compile(
 )
 CLOSES = {"(": ")", "[": "]", "{": "}"}
 # The words that begin a clause of a contract.
-CLAUSES = ("requires", "ensures", "decreases")
+CLAUSES = ("ghost", "requires", "ensures", "decreases")
 KINDS = ("struct", "enum", "trait", "type", "const", "fn", "unsafe")
 
 # A word of a file, and where it is there.
