@@ -6,8 +6,9 @@
 #     ./copy_into.sh --update DIR   replaces an earlier copy by this one
 #
 # DIR is the top of the other repository. A crate goes into DIR/crates, without its wrong bodies (must-fail/), and with
-# what was proved of it (out/) where that is here, so that it isn't proved again. Then the lines are printed that
-# DIR/crates.txt needs. Nothing is copied if one of the crates is there already.
+# what was proved of it (out/) where that is here, so that it isn't proved again. The licence is DIR/crates/LICENSE-jwalk.
+# DIR/HANDLES says what the library may do; where there is one already, the line that it needs is named. Then the lines
+# are printed that DIR/crates.txt needs. Nothing is copied if one of the crates is there already.
 #
 # DIR/crates/jwalk/copied.sha256 lists the files that were copied, with their sums. An update goes by it: a file whose sum
 # is still that is replaced, or taken away if it isn't part of the library any more. A file that was changed since then,
@@ -28,61 +29,97 @@ fi
 to=$(cd "$1" && pwd)
 cd "$(dirname "$0")"
 list=crates/jwalk/copied.sha256
+licence=crates/LICENSE-jwalk
 
-# The crates that a crate uses, by its line of crates.txt; those of the toolchain have none.
-uses() { sed -n "s/^$1://p" crates.txt; }
+# What each crate of this repository uses.
+declare -A uses=()
+while IFS=: read -r name needs; do uses[$name]=$needs; done < <(grep '^[a-z].*:' crates.txt)
 
+# The crates of the library. Those of the toolchain aren't listed.
 wanted=(jwalk jwalk_usage jwalk_subtotals jwalk_ignore)
 for ((at = 0; at < ${#wanted[@]}; at++)); do
-    for name in $(uses "${wanted[at]}"); do
-        if grep -q "^$name:" crates.txt && [[ " ${wanted[*]} " != *" $name "* ]]; then
-            wanted+=("$name")
-        fi
+    for name in ${uses[${wanted[at]}]}; do
+        if [ -n "${uses[$name]+listed}" ] && [[ " ${wanted[*]} " != *" $name "* ]]; then wanted+=("$name"); fi
     done
 done
 
-# The files of the library below this folder or the other, one a line.
-files_in() {
-    for name in "${wanted[@]}"; do
-        (cd "$1" && find "crates/$name" \( -path "crates/$name/out" -o -path "crates/$name/must-fail" \) -prune -o \
-            -type f ! -path "$list" -print)
-    done
+# The files of the library, but for the licence, one a line.
+files_here() {
+    find "${wanted[@]/#/crates/}" -regex 'crates/[^/]*/\(out\|must-fail\)' -prune -o -type f ! -path "$list" -print
 }
 
-# The sum of a file, none where it isn't there.
-sum_of() { if [ -f "$1" ]; then sha256sum <"$1" | cut -d' ' -f1; fi; }
+# Of each file that is named on standard input and is there, its sum and its name.
+sums() {
+    local file
+    while IFS= read -r file; do
+        if [ -f "$file" ]; then echo "$file"; fi
+    done | xargs -d '\n' -r sha256sum
+}
 
-copy_file() {
-    mkdir -p "$to/$(dirname "$1")"
-    cp -p "$1" "$to/$1"
+# Reads the lines of such a list into an array of sums by names.
+read_sums() {
+    local -n into=$1
+    local sum file
+    while read -r sum file; do into[$file]=$sum; done
+}
+
+# Copies the files that are named.
+copy_files() {
+    local file others=()
+    for file; do
+        if [ "$file" = "$licence" ]; then
+            mkdir -p "$to/crates"
+            cp -p LICENSE "$to/$licence"
+        else
+            others+=("$file")
+        fi
+    done
+    if [ ${#others[@]} -gt 0 ]; then printf '%s\n' "${others[@]}" | xargs -d '\n' cp -p --parents -t "$to"; fi
 }
 
 copy_proved() {
+    local name proved=()
     for name in "${wanted[@]}"; do
-        if [ -d "crates/$name/out" ]; then
-            rm -rf "$to/crates/$name/out"
-            cp -R "crates/$name/out" "$to/crates/$name/out"
-        fi
+        if [ -d "crates/$name/out" ]; then proved+=("crates/$name/out"); fi
     done
+    if [ ${#proved[@]} -gt 0 ]; then
+        rm -rf "${proved[@]/#/$to/}"
+        cp -R --parents -t "$to" "${proved[@]}"
+    fi
+}
+
+# Writes HANDLES, or says which line is needed, that with the words of both.
+write_handles() {
+    local word ours theirs lacks= all=
+    if [ ! -e "$to/HANDLES" ]; then
+        cp HANDLES "$to/HANDLES"
+        return
+    fi
+    ours=" $(tr ',.' '  ' <HANDLES)" theirs=" $(tr ',.' '  ' <"$to/HANDLES")"
+    for word in Threads Wait Net Processes; do
+        if [[ "$ours$theirs" == *" $word "* ]]; then all+="${all:+, }$word"; fi
+        if [[ "$ours" == *" $word "* && "$theirs" != *" $word "* ]]; then lacks=1; fi
+    done
+    if [ -n "$lacks" ]; then echo "copy_into.sh: the line of $to/HANDLES has to be: Handles allowed: $all." >&2; fi
 }
 
 print_lines() {
+    local name
     echo "Lines for crates.txt:" >&2
-    for name in "${wanted[@]}"; do
-        grep "^$name:" crates.txt
-    done
+    for name in "${wanted[@]}"; do echo "$name:${uses[$name]}"; done
 }
 
 copy_first() {
+    local name files
     for name in "${wanted[@]}"; do
         if [ -e "$to/crates/$name" ]; then
             echo "copy_into.sh: $to/crates/$name is there already" >&2
             exit 1
         fi
     done
-    mkdir -p "$to/crates"
-    files_in . | while IFS= read -r file; do copy_file "$file"; done
-    (cd "$to" && files_in . | LC_ALL=C sort | tr '\n' '\0' | xargs -0 sha256sum >"$list")
+    mapfile -t files < <(files_here; echo "$licence")
+    copy_files "${files[@]}"
+    (cd "$to" && printf '%s\n' "${files[@]}" | LC_ALL=C sort | sums >"$list")
 }
 
 # Names a file that is left as it is.
@@ -91,29 +128,42 @@ leave() {
     left=1
 }
 
-# Replaces a file of the library, unless it was changed, and lists it.
-update_file() {
-    local file=$1 now listed=${copied[$1]:-}
-    now=$(sum_of "$to/$file")
-    if [ "$now" = "$listed" ]; then
-        copy_file "$file"
-        listed=$(sum_of "$file")
-    elif [ "$now" != "$(sum_of "$file")" ]; then
-        leave "$file"
-    else
-        listed=$now
-    fi
-    if [ -n "$listed" ]; then echo "$listed  $file" >>"$new"; fi
+# Replaces the files of the library, unless they were changed, and lists them.
+update_files() {
+    local file replaced=()
+    for file in "${!ours[@]}"; do
+        local now=${theirs[$file]:-} listed=${copied[$file]:-}
+        if [ "$now" = "$listed" ]; then
+            replaced+=("$file")
+            listed=${ours[$file]}
+        elif [ "$now" != "${ours[$file]}" ]; then
+            leave "$file"
+        else
+            listed=$now
+        fi
+        if [ -n "$listed" ]; then lines+=("$listed  $file"); fi
+    done
+    copy_files "${replaced[@]}"
 }
 
-# Takes away a file that isn't part of the library any more, unless it was changed.
-remove_file() {
-    if [ "$(sum_of "$to/$1")" = "${copied[$1]}" ]; then
-        rm "$to/$1"
-        (cd "$to" && rmdir -p --ignore-fail-on-non-empty "$(dirname "$1")")
-    elif [ -e "$to/$1" ]; then
-        leave "$1"
-        echo "${copied[$1]}  $1" >>"$new"
+# Takes away files that aren't part of the library any more, unless they were changed.
+remove_files() {
+    local file gone=()
+    for file in "${!copied[@]}"; do
+        if [ -n "${ours[$file]:-}" ]; then continue; fi
+        if [ "${theirs[$file]:-}" = "${copied[$file]}" ]; then
+            gone+=("$file")
+        elif [ -e "$to/$file" ]; then
+            leave "$file"
+            lines+=("${copied[$file]}  $file")
+        fi
+    done
+    if [ ${#gone[@]} -gt 0 ]; then
+        cd "$to"
+        rm "${gone[@]}"
+        # a folder may be gone already with one in it
+        printf '%s\n' "${gone[@]%/*}" | sort -ru | xargs -d '\n' rmdir -p --ignore-fail-on-non-empty 2>/dev/null || true
+        cd "$OLDPWD"
     fi
 }
 
@@ -122,23 +172,20 @@ copy_again() {
         echo "copy_into.sh: there is no $to/$list, so it isn't known what was copied; nothing was changed" >&2
         exit 1
     fi
-    declare -gA copied=() wanted_files=()
-    left=
-    new=$(mktemp)
-    while read -r sum file; do copied[$file]=$sum; done <"$to/$list"
-    while IFS= read -r file; do
-        wanted_files[$file]=1
-        update_file "$file"
-    done < <(files_in .)
-    for file in "${!copied[@]}"; do
-        if [ -z "${wanted_files[$file]:-}" ]; then remove_file "$file"; fi
-    done
-    LC_ALL=C sort -k2 "$new" >"$to/$list"
-    rm "$new"
+    declare -A ours=() theirs=() copied=()
+    local lines=()
+    read_sums copied <"$to/$list"
+    read_sums ours < <(files_here | sums)
+    ours[$licence]=$(sha256sum <LICENSE | cut -d' ' -f1)
+    read_sums theirs < <(cd "$to" && printf '%s\n' "${!ours[@]}" "${!copied[@]}" | sums)
+    update_files
+    remove_files
+    printf '%s\n' "${lines[@]}" | LC_ALL=C sort -k2 >"$to/$list"
 }
 
 left=
 if [ -n "$update" ]; then copy_again; else copy_first; fi
 copy_proved
+write_handles
 print_lines
 if [ -n "$left" ]; then exit 1; fi

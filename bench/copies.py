@@ -1,10 +1,11 @@
 #!/usr/bin/env python3
 """Tries copy_into.sh on a small library that stands in for this one: a first copy, an update, files that a user changed,
-and a copy without a list.
+a copy without a list, the licence and HANDLES, and what processor time a thousand files take.
 
     python3 bench/copies.py
 """
 import os
+import resource
 import shutil
 import subprocess
 import sys
@@ -13,6 +14,10 @@ import tempfile
 TOP = os.path.dirname(os.path.dirname(os.path.abspath(__file__)))
 LINES = "below:\nabove: jwalk\njwalk: below\njwalk_usage: jwalk\njwalk_subtotals: jwalk_usage\njwalk_ignore: jwalk\n"
 LIST = "crates/jwalk/copied.sha256"
+LICENCE = "crates/LICENSE-jwalk"
+HANDLES = "Handles allowed: Threads, Wait.\n"
+# The processor seconds that a first copy and an update of a thousand files may take.
+FIRST, UPDATE = 2, 3
 
 
 def write(path, text):
@@ -30,6 +35,8 @@ def make_library(folder):
     """A library of four crates, and a crate that isn't part of it."""
     shutil.copy(f"{TOP}/copy_into.sh", folder)
     write(f"{folder}/crates.txt", LINES)
+    write(f"{folder}/LICENSE", "permission\n")
+    write(f"{folder}/HANDLES", HANDLES)
     for name in ["below", "jwalk", "jwalk_usage", "jwalk_subtotals", "jwalk_ignore", "above"]:
         write(f"{folder}/crates/{name}/src/lib.rt", f"//! {name}\n")
     write(f"{folder}/crates/jwalk/must-fail/a.edit", "wrong\n")
@@ -38,7 +45,8 @@ def make_library(folder):
 
 
 def change_library(folder):
-    """One file changes, one comes and one goes."""
+    """One file and the licence change, one file comes and one goes."""
+    write(f"{folder}/LICENSE", "more permission\n")
     write(f"{folder}/crates/below/src/lib.rt", "//! below, newer\n")
     write(f"{folder}/crates/below/src/more.rt", "//! more\n")
     os.remove(f"{folder}/crates/jwalk/specs/Old.antt")
@@ -72,8 +80,10 @@ def first_copy(library, user):
     check("it has the library and what that uses", "crates/below/src/lib.rt" in found and "crates/above/src/lib.rt" not in found)
     check("it has no wrong bodies", not any("must-fail" in path for path in found))
     check("it has what was proved", found["crates/jwalk/out/kept"] == "proved\n")
+    check("it has the licence", found[LICENCE] == "permission\n")
+    check("it has the line of handles", found["HANDLES"] == HANDLES)
     listed = [line.split("  ")[1] for line in found[LIST].splitlines()]
-    check("all other files are listed", sorted(listed) == sorted(set(found) - {LIST, "crates/jwalk/out/kept"}))
+    check("all other files are listed", sorted(listed) == sorted(set(found) - {LIST, "HANDLES", "crates/jwalk/out/kept"}))
     sums = subprocess.run(["sha256sum", "-c", "--quiet", LIST], cwd=user)
     check("with their sums", sums.returncode == 0)
     status, said = copy(library, user)
@@ -87,18 +97,20 @@ def update(library, user):
     check("it adds files", found["crates/below/src/more.rt"] == "//! more\n")
     check("it takes files away, and folders that are empty", not os.path.exists(f"{user}/crates/jwalk/specs"))
     check("it brings what was proved", found["crates/jwalk/out/kept"] == "proved again\n")
+    check("it brings the licence", found[LICENCE] == "more permission\n")
     check("a second one changes nothing", copy(library, "--update", user)[0] == 0 and files_of(user) == found)
 
 
 def update_changed(library, user):
-    """Three files are the user's: one that is newer here, one that went, and one that came."""
-    for path in ["crates/below/src/lib.rt", "crates/jwalk/specs/Old.antt", "crates/below/src/more.rt"]:
+    """Four files are the user's: two that are newer here, one that went, and one that came."""
+    mine = ["crates/below/src/lib.rt", LICENCE, "crates/jwalk/specs/Old.antt", "crates/below/src/more.rt"]
+    for path in mine:
         write(f"{user}/{path}", "mine\n")
     for _ in range(2):
         status, said = copy(library, "--update", user)
         found = files_of(user)
         check("changed files give 1", status == 1)
-        for path in ["crates/below/src/lib.rt", "crates/jwalk/specs/Old.antt", "crates/below/src/more.rt"]:
+        for path in mine:
             check(f"{path} is left and named", found[path] == "mine\n" and f"{path} was changed" in said)
 
 
@@ -107,6 +119,42 @@ def update_unlisted(library, user):
     found = files_of(user)
     status, said = copy(library, "--update", user)
     check("without a list nothing is changed", status == 1 and LIST in said and files_of(user) == found)
+
+
+def handles(library, room):
+    """What is said of a HANDLES that is there, which is left as it is."""
+    for at, (line, wanted) in enumerate(
+        [
+            ("Handles allowed: Threads, Wait, Net.\n", ""),
+            ("Handles allowed: none.\n", "Handles allowed: Threads, Wait."),
+            ("Handles allowed: Wait, Processes.\n", "Handles allowed: Threads, Wait, Processes."),
+        ]
+    ):
+        user = f"{room}/handles{at}"
+        write(f"{user}/HANDLES", line)
+        status, said = copy(library, user)
+        check("a copy beside other handles ends with 0", status == 0 and read(f"{user}/HANDLES") == line)
+        check(f"beside {line.strip()!r} it says {wanted!r}", wanted in said and ("HANDLES" in said) == bool(wanted))
+
+
+def seconds(library, *words):
+    """What a call takes of the processors."""
+    before = resource.getrusage(resource.RUSAGE_CHILDREN)
+    check(f"{' '.join(words)} ends with 0", copy(library, *words)[0] == 0)
+    after = resource.getrusage(resource.RUSAGE_CHILDREN)
+    return after.ru_utime + after.ru_stime - before.ru_utime - before.ru_stime
+
+
+def times(library, user):
+    """No process is started for each file: a thousand would take more."""
+    os.mkdir(user)
+    for at in range(1000):
+        write(f"{library}/crates/below/specs/Number{at}.antt", f"{at}\n")
+    check(f"a first copy of 1,000 files takes {FIRST} seconds", seconds(library, user) <= FIRST)
+    for at in range(0, 1000, 2):
+        write(f"{library}/crates/below/specs/Number{at}.antt", f"{at + 1}\n")
+    check(f"an update of 1,000 files takes {UPDATE} seconds", seconds(library, "--update", user) <= UPDATE)
+    check("it replaces each that changed", read(f"{user}/crates/below/specs/Number998.antt") == "999\n")
 
 
 def main():
@@ -121,7 +169,9 @@ def main():
         update(library, user)
         update_changed(library, other)
         update_unlisted(library, user)
-    print("copy_into.sh: a first copy, an update, changed files and a copy without a list are as they should be")
+        handles(library, room)
+        times(library, f"{room}/large")
+    print("copy_into.sh: first copies, updates, changed files, licence, handles and times are as they should be")
 
 
 if __name__ == "__main__":
