@@ -1,6 +1,7 @@
 # Completions of tally for bash, made by bench/man.py.
 _tally() {
     local word=${COMP_WORDS[COMP_CWORD]} before=${COMP_WORDS[COMP_CWORD - 1]}
+    if [[ $word == = ]]; then word=; elif [[ $before == = ]]; then before=${COMP_WORDS[COMP_CWORD - 2]}; fi
     COMPREPLY=()
     case $before in
     -d | --max-depth) compopt +o default; return ;;

@@ -1,6 +1,7 @@
 # Completions of walk for bash, made by bench/man.py.
 _walk() {
     local word=${COMP_WORDS[COMP_CWORD]} before=${COMP_WORDS[COMP_CWORD - 1]}
+    if [[ $word == = ]]; then word=; elif [[ $before == = ]]; then before=${COMP_WORDS[COMP_CWORD - 2]}; fi
     COMPREPLY=()
     case $before in
     --min) compopt +o default; return ;;
