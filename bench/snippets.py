@@ -18,7 +18,7 @@ docs/API.md isn't compared, which bench/api.py writes.
 It prints how many blocks it compared. At the first that differs it prints the document, the line, the file and the
 first line that differs, and ends with status 1. So it does at code without a mark, at a mark whose file or part is
 missing, at a block of another language or that isn't closed, and at lines that are indented as code is that isn't
-fenced: by four spaces, behind an empty line.
+fenced: by four spaces, behind an empty line; and where it found no block at all.
 """
 import itertools
 import os
@@ -109,6 +109,8 @@ def main():
                 compared += is_compared(*block)
             except Wrong as wrong:
                 sys.exit(f"{document}, line {number}: {wrong}")
+    if not compared:
+        sys.exit("no block of the documents was compared")
     print(f"{compared} blocks of the documents are what their files have")
 
 
