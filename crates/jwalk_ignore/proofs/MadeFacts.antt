@@ -58,13 +58,13 @@ module _ {R E V W : Type 0} (view : R → V) (mark : E → W) where
   led_by texts directory (Ok e) = refl
   led_by texts directory (Err f) = refl
 
-  shown_by : (settings : Settings) (x : Item R E) → is_shown settings (item_by view mark x) ≡ is_shown settings x
-  shown_by settings (Ok e) = refl
-  shown_by settings (Err f) = refl
+  shown_by : (settings : Settings) (directory : List ℕ) (x : Item R E) → is_shown settings directory (item_by view mark x) ≡ is_shown settings directory x
+  shown_by settings directory (Ok e) = refl
+  shown_by settings directory (Err f) = refl
 
-  kept_by : (given : List Pattern) (directory : List ℕ) (chain : Chain) (place : List ℕ) (x : Item R E) → is_kept given directory chain place (item_by view mark x) ≡ is_kept given directory chain place x
-  kept_by given directory chain place (Ok e) = refl
-  kept_by given directory chain place (Err f) = refl
+  kept_by : (settings : Settings) (directory : List ℕ) (chain : Chain) (place : List ℕ) (x : Item R E) → is_kept settings directory chain place (item_by view mark x) ≡ is_kept settings directory chain place x
+  kept_by settings directory chain place (Ok e) = refl
+  kept_by settings directory chain place (Err f) = refl
 
   root_of_some : (o : Option (Children R)) → option_map (λ c. c.path) (option_map (children_by view) o) ≡ option_map (λ c. c.path) o
   root_of_some None = refl
@@ -107,17 +107,17 @@ module _ {R E V W : Type 0} (view : R → V) (mark : E → W) where
       made_by (item_by view mark) (by_listed texts reads directory before) (record { chain = inside is; list = [] }) list
 
   left_by : (settings : Settings) (directory : List ℕ) (own : Made R E)
-      → filter (is_kept settings.given directory own.chain (place_in own.chain directory)) (filter (is_shown settings) (map (item_by view mark) own.list))
-      ≡ map (item_by view mark) (filter (is_kept settings.given directory own.chain (place_in own.chain directory)) (filter (is_shown settings) own.list))
+      → filter (is_kept settings directory own.chain (place_in own.chain directory)) (filter (is_shown settings directory) (map (item_by view mark) own.list))
+      ≡ map (item_by view mark) (filter (is_kept settings directory own.chain (place_in own.chain directory)) (filter (is_shown settings directory) own.list))
   left_by settings directory own =
-      ap (filter (is_kept settings.given directory own.chain (place_in own.chain directory))) (filter_by (item_by view mark) (is_shown settings) (is_shown settings) (shown_by settings) own.list)
-      ∙ filter_by (item_by view mark) (is_kept settings.given directory own.chain (place_in own.chain directory)) (is_kept settings.given directory own.chain (place_in own.chain directory)) (kept_by settings.given directory own.chain (place_in own.chain directory)) (filter (is_shown settings) own.list)
+      ap (filter (is_kept settings directory own.chain (place_in own.chain directory))) (filter_by (item_by view mark) (is_shown settings directory) (is_shown settings directory) (shown_by settings directory) own.list)
+      ∙ filter_by (item_by view mark) (is_kept settings directory own.chain (place_in own.chain directory)) (is_kept settings directory own.chain (place_in own.chain directory)) (kept_by settings directory own.chain (place_in own.chain directory)) (filter (is_shown settings directory) own.list)
 
   directory_by : (settings : Settings) (texts : Texts) (directory : List ℕ) (chain : Chain) (list : List (Item R E))
       → in_directory settings texts directory chain (map (item_by view mark) list) ≡ made_by (in_directory settings texts directory chain list)
   directory_by settings texts directory chain list =
       let own : Made R E = own_rules settings texts directory chain list in
-      ap (λ (made : Made V W). with_list made.chain (filter (is_kept settings.given directory made.chain (place_in made.chain directory)) (filter (is_shown settings) made.list))) (own_by settings texts directory chain list)
+      ap (λ (made : Made V W). with_list made.chain (filter (is_kept settings directory made.chain (place_in made.chain directory)) (filter (is_shown settings directory) made.list))) (own_by settings texts directory chain list)
       ∙ ap (with_list own.chain) (left_by settings directory own)
 
   module _ (settings : Settings) (texts : Texts) where

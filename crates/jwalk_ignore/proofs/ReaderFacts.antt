@@ -1,13 +1,13 @@
 -- What the reader of rules makes of a list.
 use Rattle.std.proofs.Common.{◌≡◌, ◌∙◌, ℕ, Bool, true, false, List, [], ◌∷◌, ◌++◌, map, length, reverse, Option, Some, None, Ok, Err, ap, refl, sym}
-use Rattle.std.specs.Prelude.{fold, is_some, not}
+use Rattle.std.specs.Prelude.{◌||◌, fold, is_some, not}
 use Rattle.std.specs.List.{filter}
 use Rattle.std.proofs.lemmas.List.{map-append, reverse-append}
 use Rattle.jwalk.specs.jwalk_model.Entry.{AtDepth, Item}
 use Rattle.jwalk.specs.jwalk_model.FileType.{is_dir}
 use Rattle.jwalk.specs.jwalk_model.declared.file_type.FileType.{FileType}
-use Rattle.jwalk_ignore.specs.Rules.Chain.{Chain, entered, has_rules, is_ignored, place_in}
-use Rattle.jwalk_ignore.specs.Callback.IgnoreFiles.{Made, git_in, in_directory, is_kept, is_read, is_shown, own_rules, with_listed}
+use Rattle.jwalk_ignore.specs.Rules.Chain.{Chain, chain_says, entered, has_rules, is_ignored, place_in}
+use Rattle.jwalk_ignore.specs.Callback.IgnoreFiles.{Made, failed_name, git_in, given_says, in_directory, is_kept, is_read, is_shown, keeps_failed, keeps_name, own_rules, with_listed}
 use Rattle.jwalk_ignore.specs.Rules.Git.{is_repository}
 use Rattle.jwalk_ignore.specs.Callback.MadeDepths.{filter_at}
 use Rattle.jwalk_ignore.specs.Rules.Matching.{or_else}
@@ -47,25 +47,33 @@ module _ {R E : Type 0} where
 
     -- of what its own rules make of a list, what is hidden or ignored is dropped
     pub left_from : (own : Made R E) (shown kept : List (Item R E)) → own ≡ own_rules settings texts directory chain list
-        → shown ≡ filter (is_shown settings) own.list → kept ≡ filter (is_kept settings.given directory own.chain (place_in own.chain directory)) shown
+        → shown ≡ filter (is_shown settings directory) own.list → kept ≡ filter (is_kept settings directory own.chain (place_in own.chain directory)) shown
         → begun own.chain kept ≡ in_directory settings texts directory chain list
     left_from own shown kept is shown_is kept_is =
-        ap (begun own.chain) (kept_is ∙ ap (filter (is_kept settings.given directory own.chain (place_in own.chain directory))) shown_is)
-        ∙ ap (λ (o : Made R E). begun o.chain (filter (is_kept settings.given directory o.chain (place_in o.chain directory)) (filter (is_shown settings) o.list))) is
+        ap (begun own.chain) (kept_is ∙ ap (filter (is_kept settings directory own.chain (place_in own.chain directory))) shown_is)
+        ∙ ap (λ (o : Made R E). begun o.chain (filter (is_kept settings directory o.chain (place_in o.chain directory)) (filter (is_shown settings directory) o.list))) is
 
   -- what is left once what is hidden or ignored is dropped is at the depth of the list
   pub left_at : (depth : ℕ) (shows keeps : Item R E → Bool) (own shown kept : List (Item R E)) → shown ≡ filter shows own → kept ≡ filter keeps shown → AtDepth depth own → AtDepth depth kept
   left_at depth shows keeps own shown kept shown_is kept_is at = rw (kept_is, shown_is) (filter_at depth keeps (filter shows own) (filter_at depth shows own at))
 
-one_kept : {R E : Type 0} (directory : List ℕ) (chain : Chain) (place : List ℕ) → has_rules chain ≡ false → (x : Item R E) → is_kept [] directory chain place x ≡ true
-one_kept directory chain place none (Ok e) =
-    ap (λ (d : Decision). not (is_ignored (or_else d Unsaid))) (none_said chain (place ++ 47 ∷ e.file_name) (is_dir e.file_type) none)
-one_kept directory chain place none (Err f) = refl
+module _ (settings : Settings) (directory : List ℕ) (chain : Chain) (place : List ℕ) (empty : settings.given ≡ []) (none : has_rules chain ≡ false) where
+  name_kept : (name : List ℕ) (dir : Bool) → keeps_name settings directory chain place name dir ≡ true
+  name_kept name dir =
+      ap (λ (ps : List Pattern). not (is_ignored (or_else (chain_says chain (place ++ 47 ∷ name) dir) (given_says ps directory name dir)))) empty
+      ∙ ap (λ (d : Decision). not (is_ignored (or_else d Unsaid))) (none_said chain (place ++ 47 ∷ name) dir none)
 
--- where there are no rules all is kept
-pub all_kept : {R E : Type 0} (given : List Pattern) (directory : List ℕ) (chain : Chain) (place : List ℕ) (list : List (Item R E)) → given ≡ [] → has_rules chain ≡ false → filter (is_kept given directory chain place) list ≡ list
-all_kept given directory chain place list empty none =
-    ap (λ (ps : List Pattern). filter (is_kept ps directory chain place) list) empty ∙ filter_none (is_kept [] directory chain place) (one_kept directory chain place none) list
+  failed_kept : (name : Option (List ℕ)) → keeps_failed settings directory chain place name ≡ true
+  failed_kept None = refl
+  failed_kept (Some name) = ap (λ (b : Bool). b || keeps_name settings directory chain place name false) (name_kept name true)
+
+  one_kept : {R E : Type 0} (x : Item R E) → is_kept settings directory chain place x ≡ true
+  one_kept (Ok e) = name_kept e.file_name (is_dir e.file_type)
+  one_kept (Err f) = failed_kept (failed_name settings directory f)
+
+  -- where there are no rules all is kept
+  pub all_kept : {R E : Type 0} (list : List (Item R E)) → filter (is_kept settings directory chain place) list ≡ list
+  all_kept list = filter_none (is_kept settings directory chain place) one_kept list
 
 -- no rules have no patterns
 pub none_given : {A : Type 0} (rules : Option (Rules A)) → is_some rules ≡ false → patterns_in rules ≡ []

@@ -1,5 +1,7 @@
 -- The callback that honours ignore files, as values.
 pub mod EntryRules
+pub mod Failed
+mod FailedRows
 pub mod Given
 pub mod IgnoreFiles
 pub mod IgnoreViews

@@ -4,6 +4,7 @@
 pub mod builder;
 mod entry_rules;
 pub mod excluding;
+mod failed;
 pub mod ignore_files;
 mod kept;
 mod listed;

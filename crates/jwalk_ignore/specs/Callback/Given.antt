@@ -20,9 +20,9 @@ ignoring-KeepsDepthsOf settings texts next keeps depth path state list h =
     let left : Made Worth Worth = by_rules settings texts depth path (rules_of state) list in
     keeps depth path (with_chain left.chain state) left.list (by_rules_at (list_depth depth) settings texts depth path (rules_of state) list h)
 
--- what a new callback is set to: hidden names are dropped, `.gitignore` counts in repositories alone, rules above the root count, `.fdignore` doesn't, and no rules are given
+-- what a new callback is set to: hidden names are dropped, `.gitignore` counts in repositories alone, rules above the root count, `.fdignore` doesn't, errors stay, and no rules are given
 abbrev pub first_settings : Settings
-first_settings = record { keeps_hidden = false; anywhere = false; version_control = true; above_the_root = true; fdignore = false; given = [] }
+first_settings = record { keeps_hidden = false; anywhere = false; version_control = true; above_the_root = true; fdignore = false; drops_errors = false; given = [] }
 
 -- lists stay as they are
 abbrev pub lists_kept : Processing Worth Worth

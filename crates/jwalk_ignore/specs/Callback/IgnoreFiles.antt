@@ -1,5 +1,5 @@
 -- What the callback makes of lists: which rules are read, and what they leave.
-use Rattle.std.specs.Prelude.{ℕ, Bool, true, false, ◌&&◌, ◌||◌, not, List, [], ◌∷◌, ◌++◌, filter, find, fold, reverse, length, take, drop, bytes_eq, codes, Option, Some, None, option_map, option_and_then, Result, Ok, Err, if◌then◌else◌}
+use Rattle.std.specs.Prelude.{ℕ, Bool, true, false, ◌&&◌, ◌||◌, not, List, [], ◌∷◌, ◌++◌, filter, find, fold, reverse, length, take, drop, bytes_eq, codes, Option, Some, None, option_map, option_and_then, is_some, Result, Ok, Err, if◌then◌else◌}
 use Rattle.std.specs.Option.{option_map_or}
 use Rattle.std.specs.declared.io.ErrorKind.{ErrorKind}
 use Rattle.std.specs.declared.io.ErrorKind.TheVariants as kind
@@ -7,7 +7,7 @@ use Rattle.jwalk.specs.jwalk_job.Error as error
 use Rattle.jwalk.specs.jwalk_model.FileType.{is_dir, is_file, is_symlink}
 use Rattle.jwalk.specs.jwalk_model.declared.file_type.FileType.{FileType}
 use Rattle.jwalk.specs.jwalk_model.Paths.{file_name, join}
-use Rattle.jwalk.specs.jwalk_model.Error.{io}
+use Rattle.jwalk.specs.jwalk_model.Error.{Failure, io}
 use Rattle.jwalk.specs.jwalk_model.Entry.{Item, is_hidden}
 use Rattle.jwalk_ignore.specs.Rules.Chain.{Chain, below_root, chain_says, entered, is_ignored, may_miss, place_in, with_link}
 use Rattle.jwalk_ignore.specs.Rules.Folder.{Folder, folders_above}
@@ -19,6 +19,7 @@ use Rattle.jwalk_ignore.specs.Rules.Texts.{Texts}
 use Rattle.jwalk_ignore_rules.specs.declared.rules.decision.Decision.{Decision}
 use Rattle.jwalk_ignore_rules.specs.declared.rules.rules_kind.RulesKind.{RulesKind}
 use Rattle.jwalk_ignore_rules.specs.declared.rules.rules_kind.RulesKind.TheVariants as rules
+use Rattle.jwalk_ignore.specs.Callback.Failed.{behind, failed_path}
 use Rattle.jwalk_ignore.specs.Callback.Settings.{Settings}
 
 -- the file that has rules of a kind, below their directory
@@ -164,10 +165,27 @@ own_rules settings texts directory chain list =
     let inside = entered (is_repository found) chain in
     fold (with_listed texts (is_read settings inside.in_repository found) directory (length (place_in inside directory))) (record { chain = inside; list = [] }) list
 
--- whether an item is an error, or an entry that is neither `.git` nor hidden
-abbrev pub is_shown : {R E : Type 0} → Settings → Item R E → Bool
-is_shown settings (Ok e) = not (bytes_eq e.file_name git) && (settings.keeps_hidden || not (is_hidden e.file_name))
-is_shown settings (Err f) = true
+-- whether a name is shown: it isn't `.git`, and not hidden where hidden names are dropped
+abbrev pub shows_name : Settings → List ℕ → Bool
+shows_name settings name = not (bytes_eq name git) && (settings.keeps_hidden || not (is_hidden name))
+
+-- whether the rules of a kind are at this place below their directory
+abbrev pub is_of_rules : List ℕ → Bool
+is_of_rules place = bytes_eq place (file_of rules.Exclude) || is_some (kind_of_file place)
+
+-- a place below a directory as a name in it: none where a file of rules is, whose error says that they aren't known
+abbrev pub unless_of_rules : List ℕ → Option (List ℕ)
+unless_of_rules place = if is_of_rules place then None else Some place
+
+-- the name in a directory that an error is dropped with, if it is with one
+abbrev pub failed_name : Settings → List ℕ → Failure → Option (List ℕ)
+failed_name settings directory f =
+    if settings.drops_errors then option_and_then (λ path. unless_of_rules (behind (length directory) path)) (failed_path f) else None
+
+-- whether an item of a directory is shown: its name is, or it is an error that is dropped with none
+abbrev pub is_shown : {R E : Type 0} → Settings → List ℕ → Item R E → Bool
+is_shown settings directory (Ok e) = shows_name settings e.file_name
+is_shown settings directory (Err f) = option_map_or (shows_name settings) (failed_name settings directory f) true
 
 -- a path without a `./` in front
 abbrev pub without_dot : List ℕ → List ℕ
@@ -177,17 +195,27 @@ without_dot path = if bytes_eq (take 2 path) (codes "./") then drop 2 path else 
 abbrev pub given_says : List Pattern → List ℕ → List ℕ → Bool → Decision
 given_says given directory name is_dir = patterns_say given (without_dot (directory ++ 47 ∷ name)) is_dir
 
--- whether an item of a directory stays: the rules in force at its place don't ignore it, nor do those that are given where these say nothing
-abbrev pub is_kept : {R E : Type 0} → List Pattern → List ℕ → Chain → List ℕ → Item R E → Bool
-is_kept given directory chain place (Ok e) =
-    not (is_ignored (or_else (chain_says chain (place ++ 47 ∷ e.file_name) (is_dir e.file_type)) (given_says given directory e.file_name (is_dir e.file_type))))
-is_kept given directory chain place (Err f) = true
+-- whether a name in a directory stays, of a directory or of another file: the rules in force at its place don't ignore it, nor do those that are given where these say nothing
+abbrev pub keeps_name : Settings → List ℕ → Chain → List ℕ → List ℕ → Bool → Bool
+keeps_name settings directory chain place name is_dir =
+    not (is_ignored (or_else (chain_says chain (place ++ 47 ∷ name) is_dir) (given_says settings.given directory name is_dir)))
+
+-- whether an error stays that is dropped with this name, if it is with one: the name does, of a directory or of another file
+abbrev pub keeps_failed : Settings → List ℕ → Chain → List ℕ → Option (List ℕ) → Bool
+keeps_failed settings directory chain place None = true
+keeps_failed settings directory chain place (Some name) =
+    keeps_name settings directory chain place name true || keeps_name settings directory chain place name false
+
+-- whether an item of a directory stays
+abbrev pub is_kept : {R E : Type 0} → Settings → List ℕ → Chain → List ℕ → Item R E → Bool
+is_kept settings directory chain place (Ok e) = keeps_name settings directory chain place e.file_name (is_dir e.file_type)
+is_kept settings directory chain place (Err f) = keeps_failed settings directory chain place (failed_name settings directory f)
 
 -- a directory's list: its rules are read, and then what is hidden or ignored is dropped
 abbrev pub in_directory : {R E : Type 0} → Settings → Texts → List ℕ → Chain → List (Item R E) → Made R E
 in_directory settings texts directory chain list =
     let own = own_rules settings texts directory chain list in
-    record { chain = own.chain; list = filter (is_kept settings.given directory own.chain (place_in own.chain directory)) (filter (is_shown settings) own.list) }
+    record { chain = own.chain; list = filter (is_kept settings directory own.chain (place_in own.chain directory)) (filter (is_shown settings directory) own.list) }
 
 -- the path of an item's directory
 abbrev pub root_of : {R E : Type 0} → Item R E → Option (List ℕ)

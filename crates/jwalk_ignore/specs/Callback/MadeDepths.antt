@@ -114,7 +114,7 @@ module _ {R E : Type 0} (depth : ℕ) where
         let inside : Chain = entered (is_repository (git_in texts path list)) chain in
         let reads : RulesKind → Bool = is_read settings inside.in_repository (git_in texts path list) in
         let own : Made R E = own_rules settings texts path chain list in
-        filter_at depth (is_kept settings.given path own.chain (place_in own.chain path)) (filter (is_shown settings) own.list)
-        (filter_at depth (is_shown settings) own.list
+        filter_at depth (is_kept settings path own.chain (place_in own.chain path)) (filter (is_shown settings path) own.list)
+        (filter_at depth (is_shown settings path) own.list
         (fold_at depth (with_listed texts reads path (length (place_in inside path))) (λ (m : Made R E). m.list)
         (listed_at texts reads path (length (place_in inside path))) (record { chain = inside; list = [] }) list h tt))

@@ -12,6 +12,7 @@ pub record Settings : Type 0 where
   pub version_control : Bool
   pub above_the_root : Bool
   pub fdignore : Bool
+  pub drops_errors : Bool
   pub given : List Pattern
 
 -- the patterns of rules, if there are some
@@ -27,5 +28,6 @@ settings_value settings = record {
   version_control = settings.version_control;
   above_the_root = settings.above_the_root;
   fdignore = settings.fdignore;
+  drops_errors = settings.drops_errors;
   given = patterns_in settings.given;
 }

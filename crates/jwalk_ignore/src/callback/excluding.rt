@@ -2,13 +2,12 @@
 ghost use Rattle.std.specs.Prelude.{◌≡◌, ◌++◌, map, IfOk, OnOk};
 ghost use Rattle.std.specs.List.{filter};
 ghost use Rattle.jwalk.specs.jwalk_job.Entry.{item};
-ghost use Rattle.jwalk_ignore.specs.Rules.Chain.{is_ignored};
-ghost use Rattle.jwalk_ignore.specs.Rules.Matching.{patterns_say};
 ghost use Rattle.jwalk_ignore.specs.Rules.{rules_value};
-ghost use Rattle.jwalk_ignore.specs.Callback.Excluding.{behind, lines_text, place_of, is_included};
+ghost use Rattle.jwalk_ignore.specs.Callback.Excluding.{excluded_of, is_included, leaves_out, lines_text, place_of};
+ghost use Rattle.jwalk_ignore.specs.Callback.Settings.{patterns_in};
 
+use crate::callback::failed::{behind, failed_path, is_hidden_path};
 use crate::callback::kept::{Keeps, kept};
-use crate::pattern::without_first_slash;
 use crate::rules::Rules;
 use jwalk::read_dir::ProcessReadDir;
 use jwalk::{ClientState, DirEntry, Error};
@@ -24,8 +23,8 @@ use std::mem;
 /// ```
 ///
 /// A line means what it does in a file of rules that lies in the root: it matches what is behind the root in a path, and
-/// of several lines that match the last decides. The root itself stays, and so does each error. The states of the walk
-/// may be any.
+/// of several lines that match the last decides. The root itself stays, and so does each error, unless
+/// [`drop_errors`](Excluding::drop_errors) says otherwise. The states of the walk may be any.
 ///
 /// [`IgnoreFiles::then`](crate::ignore_files::IgnoreFiles::then) hands what ignore files leave to such a callback. Then a
 /// line with a `!` brings nothing back that they drop.
@@ -36,6 +35,10 @@ pub struct Excluding {
     rules: Option<Rules>,
     /// How long the root's path is.
     root_len: usize,
+    /// Errors of names that are left out, whatever has the name, are dropped too.
+    drops_errors: bool,
+    /// Errors of hidden names are dropped.
+    drops_hidden: bool,
 }
 
 impl Drop for Excluding {
@@ -43,6 +46,8 @@ impl Drop for Excluding {
         let Excluding {
             rules: _,
             root_len: _,
+            drops_errors: _,
+            drops_hidden: _,
         } = self;
     }
 }
@@ -57,17 +62,6 @@ fn text_of(alloc: Global, lines: &[&str]) -> Result<Vec<u8>, AllocError>
         text.push(b'\n')?;
     }
     Ok(text)
-}
-
-/// Returns what is behind this many bytes of a path, without a slash in front.
-fn behind(path: &[u8], len: usize) -> &[u8]
-    ensures { result.now ≡ behind len path.now }
-{
-    if len <= path.len() {
-        without_first_slash(&path[len..])
-    } else {
-        &[]
-    }
 }
 
 /// Returns where the names of a folder begin: its path behind the root, ended by a slash.
@@ -88,59 +82,73 @@ fn place_of<A: Allocator + Copy>(
     Ok(place)
 }
 
-/// Returns whether rules ignore a name in a folder. The place of the folder is left as it was.
+/// Returns whether rules leave out a path, of a directory or of another file.
 #[tactic(auto, using(jwalk_ignore_rules::proofs::MatchingFacts::says_computed))]
-fn ignores<A: Allocator + Copy>(
-    rules: &Rules,
+fn leaves_out(rules: &Rules, path: &[u8], is_dir: bool) -> bool
+    ensures { result ≡ leaves_out (rules_value rules.now) path.now is_dir }
+{
+    rules.decision(path, is_dir).is_ignored()
+}
+
+/// Returns whether rules, if there are some, leave out a name in a folder. The place of the folder is left as it was.
+fn leaves_out_name<A: Allocator + Copy>(
+    rules: &Option<Rules>,
     place: &mut Vec<u8, A>,
     name: &str,
     is_dir: bool,
 ) -> Result<bool, AllocError>
-    ensures answer { IfOk result (λ yes. yes ≡ is_ignored (patterns_say (rules_value rules.now) (place.old.items ++ name.now) is_dir)) }
+    ensures answer { IfOk result (λ yes. yes ≡ leaves_out (patterns_in rules.now) (place.old.items ++ name.now) is_dir) }
     ensures place { OnOk result (place.new.items ≡ place.old.items) }
 {
+    let Some(rules) = rules else {
+        return Ok(false);
+    };
     let len = place.len();
     place.extend_from_slice(name.as_bytes())?;
-    let decision = rules.decision(place.as_slice(), is_dir);
+    let is_left_out = leaves_out(rules, place.as_slice(), is_dir);
     place.truncate(len);
-    Ok(decision.is_ignored())
+    Ok(is_left_out)
 }
 
-/// Rules of a folder's items, by the place of the folder.
+/// What is left out of a folder's items, by the place of the folder.
 #[derive(Drop)]
 struct Placed<'r, A: Allocator + Copy> {
-    rules: &'r Rules,
+    excluding: &'r Excluding,
     place: Vec<u8, A>,
 }
 
 impl<C: ClientState, A: Allocator + Copy> Keeps<C, A> for Placed<'_, A> {
-    ghost decides_by = { λ it test. test ≡ is_included (rules_value it.rules.now) it.place.items };
+    ghost decides_by = { λ it test. test ≡ is_included (excluded_of it.excluding.now) it.place.items };
 
     fn keeps(&mut self, found: &Result<DirEntry<C, A>, Error<A>>) -> Result<bool, AllocError> {
         match found {
             Ok(entry) => {
-                let is_dir = entry.file_type().is_dir();
-                Ok(!ignores(self.rules, &mut self.place, entry.file_name(), is_dir)?)
+                let (name, is_dir) = (entry.file_name(), entry.file_type().is_dir());
+                let rules = &self.excluding.rules;
+                Ok(!leaves_out_name(rules, &mut self.place, name, is_dir)?)
             }
-            Err(_) => Ok(true),
+            Err(error) => match failed_path(error) {
+                Some(path) => Ok(!self.excluding.drops_at(path)),
+                None => Ok(true),
+            },
         }
     }
 }
 
 /// Returns what stays of a list of a folder with this place.
 fn included<C: ClientState, A: Allocator + Copy>(
-    rules: &Rules,
+    excluding: &Excluding,
     place: Vec<u8, A>,
     list: Vec<Result<DirEntry<C, A>, Error<A>>, A>,
 ) -> Result<Vec<Result<DirEntry<C, A>, Error<A>>, A>, AllocError>
     ensures { IfOk result (λ kept. map item kept.items
-        ≡ filter (is_included (rules_value rules.now) place.items) (map item list.items)) }
+        ≡ filter (is_included (excluded_of excluding.now) place.items) (map item list.items)) }
 {
-    kept(&mut Placed { rules, place }, list)
+    kept(&mut Placed { excluding, place }, list)
 }
 
 impl Excluding {
-    ghost use Rattle.jwalk_ignore.specs.Callback.Excluding.{excluded_by, excluded_in, excluded_of};
+    ghost use Rattle.jwalk_ignore.specs.Callback.Excluding.{drops_at, excluded_by, excluded_in, excluded_of, leaves_out_any};
 
     /// Returns the callback of a file of rules with these bytes, as if it lay in the folder with this path. The walks
     /// are below that folder. Its path is empty for rules that match what is walked by its whole path.
@@ -156,11 +164,15 @@ impl Excluding {
             return Ok(Excluding {
                 rules: None,
                 root_len,
+                drops_errors: false,
+                drops_hidden: false,
             });
         }
         Ok(Excluding {
             rules: Some(Rules::parse(alloc, text)?),
             root_len,
+            drops_errors: false,
+            drops_hidden: false,
         })
     }
 
@@ -174,6 +186,42 @@ impl Excluding {
     {
         let text = text_of(alloc, lines)?;
         Excluding::of_text(alloc, text.as_slice(), root)
+    }
+
+    /// Sets whether errors of names that are left out are dropped too. Off by default. Such an error says that the type of
+    /// what has the name isn't known, so the lines have to leave out both a directory and another file of that name. An
+    /// error with no path stays.
+    pub fn drop_errors(mut self, drops: bool) -> Self
+        ensures { excluded_of result ≡ record (excluded_of self) { drops_errors = drops } }
+    {
+        self.drops_errors = drops;
+        self
+    }
+
+    /// Sets whether errors of hidden names are dropped, for a walk that skips such names. Off by default.
+    pub fn drop_hidden_errors(mut self, drops: bool) -> Self
+        ensures { excluded_of result ≡ record (excluded_of self) { drops_hidden = drops } }
+    {
+        self.drops_hidden = drops;
+        self
+    }
+
+    /// Returns whether the lines leave out a path, whatever is there.
+    fn leaves_out_any(&self, path: &[u8]) -> bool
+        ensures { result ≡ leaves_out_any (excluded_of self.now).patterns path.now }
+    {
+        let Some(rules) = &self.rules else {
+            return false;
+        };
+        leaves_out(rules, path, true) && leaves_out(rules, path, false)
+    }
+
+    /// Returns whether an error at a path is dropped.
+    fn drops_at(&self, path: &str) -> bool
+        ensures { result ≡ drops_at (excluded_of self.now) path.now }
+    {
+        (self.drops_hidden && is_hidden_path(path))
+            || (self.drops_errors && self.leaves_out_any(behind(path.as_bytes(), self.root_len)))
     }
 }
 
@@ -191,16 +239,16 @@ impl<C: ClientState, A: Allocator + Copy> ProcessReadDir<C, A> for Excluding {
         _state: &mut C::ReadDirState,
         list: &mut Vec<Result<DirEntry<C, A>, Error<A>>, A>,
     ) -> Result<(), AllocError> {
-        let Some(rules) = &self.rules else {
-            return Ok(());
-        };
         if depth.is_none() {
+            return Ok(());
+        }
+        if self.rules.is_none() && !self.drops_hidden {
             return Ok(());
         }
         let alloc = *list.allocator();
         let place = place_of(alloc, self.root_len, path)?;
         let items = mem::replace(list, Vec::new(alloc));
-        *list = included(rules, place, items)?;
+        *list = included(self, place, items)?;
         Ok(())
     }
 }

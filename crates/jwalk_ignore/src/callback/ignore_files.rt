@@ -68,6 +68,7 @@ impl<T: Texts> IgnoreFiles<T, NoProcess> {
                     version_control: true,
                     above_the_root: true,
                     fdignore: false,
+                    drops_errors: false,
                     given: None,
                 },
             },
@@ -129,6 +130,18 @@ impl<T: Texts, P: Drop> IgnoreFiles<T, P> {
         ensures next { next_of result ≡ next_of self }
     {
         self.reader.settings.fdignore = counts;
+        self
+    }
+
+    /// Sets whether errors of names that are dropped are dropped too, as of hidden ones. Off by default. Such an error says
+    /// that the type of what has the name isn't known, so rules have to ignore both a directory and another file of that
+    /// name. An error with no path stays, and so does one at a file of rules, which then aren't known.
+    pub fn drop_errors(mut self, drops: bool) -> Self
+        ensures settings { settings_of result ≡ record (settings_of self) { drops_errors = drops } }
+        ensures texts { texts_of result ≡ texts_of self }
+        ensures next { next_of result ≡ next_of self }
+    {
+        self.reader.settings.drops_errors = drops;
         self
     }
 

@@ -1,9 +1,12 @@
 //! Items of a list, as rules see them.
 ghost use Rattle.std.specs.Prelude.{◌≡◌, IfOk, map, filter, find, option_map, string_bytes};
+ghost use Rattle.std.specs.Option.{option_copied};
 ghost use Rattle.jwalk.specs.jwalk_job.Entry.{item};
-ghost use Rattle.jwalk_ignore.specs.Callback.IgnoreFiles.{depth_of, git_by, git_in, is_git, is_git_path, is_shown, kind_of, kind_of_file, own_kind, root_of};
+ghost use Rattle.jwalk.specs.jwalk_job.Error.{failure};
+ghost use Rattle.jwalk_ignore.specs.Callback.IgnoreFiles.{depth_of, failed_name, git_by, git_in, is_git, is_git_path, is_of_rules, is_shown, kind_of, kind_of_file, own_kind, root_of, shows_name};
 ghost use Rattle.jwalk_ignore.specs.Callback.Settings.{settings_value};
 
+use crate::callback::failed::{behind, failed_path};
 use crate::callback::settings::Settings;
 use crate::rules::git::git_at;
 use crate::rules::rules_kind::RulesKind;
@@ -12,14 +15,14 @@ use jwalk::file_system::FileType;
 use jwalk::{ClientState, DirEntry, Error, path_text};
 use std::alloc::{AllocError, Allocator};
 
-fn kind_of_file(name: &str) -> Option<RulesKind>
+fn kind_of_file(name: &[u8]) -> Option<RulesKind>
     ensures { result ≡ kind_of_file name.now }
 {
-    if name == ".fdignore" {
+    if name == b".fdignore".as_slice() {
         Some(RulesKind::Fdignore)
-    } else if name == ".ignore" {
+    } else if name == b".ignore".as_slice() {
         Some(RulesKind::Ignore)
-    } else if name == ".gitignore" {
+    } else if name == b".gitignore".as_slice() {
         Some(RulesKind::Gitignore)
     } else {
         None
@@ -34,7 +37,7 @@ fn own_kind<C: ClientState, A: Allocator + Copy>(
 {
     match found {
         Ok(entry) if entry.file_type.is_file() && !entry.path_is_symlink() => {
-            kind_of_file(entry.file_name.as_str())
+            kind_of_file(entry.file_name.as_bytes())
         }
         _ => None,
     }
@@ -125,30 +128,60 @@ pub(crate) fn git_in<T: Texts, C: ClientState, A: Allocator + Copy>(
     }
 }
 
-/// Returns whether an item is an error, or an entry that is neither `.git` nor hidden.
+fn shows_name(settings: &Settings, name: &[u8]) -> bool
+    ensures { result ≡ shows_name (settings_value settings.now) name.now }
+{
+    let is_git = name == b".git".as_slice();
+    let is_hidden = matches!(name, [b'.', ..]);
+    !is_git && (settings.keeps_hidden || !is_hidden)
+}
+
+fn is_of_rules(place: &[u8]) -> bool
+    ensures { result ≡ is_of_rules place.now }
+{
+    place == b".git/info/exclude".as_slice() || kind_of_file(place).is_some()
+}
+
+/// Returns the name in a directory that an error is dropped with, if it is with one.
+pub(crate) fn failed_name<'e, A: Allocator + Copy>(
+    settings: &Settings,
+    directory: &str,
+    error: &'e Error<A>,
+) -> Option<&'e [u8]>
+    ensures { option_copied result ≡ failed_name (settings_value settings.now) directory.now (failure error.now) }
+{
+    if !settings.drops_errors {
+        return None;
+    }
+    let name = behind(failed_path(error)?.as_bytes(), directory.len());
+    if is_of_rules(name) { None } else { Some(name) }
+}
+
+/// Returns whether an item of a directory is shown: its name is, or it is an error that is dropped with none.
 fn is_shown<C: ClientState, A: Allocator + Copy>(
     settings: &Settings,
+    directory: &str,
     found: &Result<DirEntry<C, A>, Error<A>>,
 ) -> bool
-    ensures { result ≡ is_shown (settings_value settings.now) (item found.now) }
+    ensures { result ≡ is_shown (settings_value settings.now) directory.now (item found.now) }
 {
     match found {
-        Ok(entry) => {
-            let name = entry.file_name.as_str();
-            let is_hidden = matches!(name.as_bytes(), [b'.', ..]);
-            name != ".git" && (settings.keeps_hidden || !is_hidden)
-        }
-        Err(_) => true,
+        Ok(entry) => shows_name(settings, entry.file_name.as_bytes()),
+        Err(error) => match failed_name(settings, directory, error) {
+            Some(name) => shows_name(settings, name),
+            None => true,
+        },
     }
 }
 
 pub(crate) fn drop_hidden<C: ClientState, A: Allocator + Copy>(
     settings: &Settings,
+    directory: &str,
     list: &mut Vec<Result<DirEntry<C, A>, Error<A>>, A>,
 )
-    ensures { map item list.new.items ≡ filter (is_shown (settings_value settings.now)) (map item list.old.items) }
+    ensures { map item list.new.items ≡ filter (is_shown (settings_value settings.now) directory.now) (map item list.old.items) }
 {
-    list.retain(|found| is_shown(settings, found));
+    list.retain(|found| is_shown(settings, directory, found));
 }
 
 /// Returns a copy of the path of an item's directory.

@@ -23,12 +23,12 @@ impl<A: Allocator + Copy> Places<A> {
         Ok(Places { bytes, len })
     }
 
-    pub(crate) fn set_name(&mut self, name: &str) -> Result<(), AllocError>
+    pub(crate) fn set_name(&mut self, name: &[u8]) -> Result<(), AllocError>
         ensures named { (place : _) → IsPlaced place self.old → OnOk result (IsAt place name.now self.new) }
         ensures placed { (place : _) → IsPlaced place self.old → IsPlaced place self.new }
     {
         self.bytes.truncate(self.len);
-        self.bytes.extend_from_slice(name.as_bytes())?;
+        self.bytes.extend_from_slice(name)?;
         Ok(())
     }
 

@@ -6,7 +6,7 @@ ghost use Rattle.jwalk_ignore.specs.Rules.Chain.{place_in};
 ghost use Rattle.jwalk_ignore.specs.Rules.ChainViews.{chain_value};
 ghost use Rattle.jwalk_ignore.specs.Rules.Folder.{folder_value};
 ghost use Rattle.jwalk_ignore.specs.Callback.IgnoreFiles.{at_root, by_rules, if_read, in_directory, is_kept, is_read, is_read_above, kind_of, own_rules, with_above, with_absolute, with_folder, with_folders, with_listed, with_root_item};
-ghost use Rattle.jwalk_ignore.specs.Callback.Settings.{patterns_in, settings_value};
+ghost use Rattle.jwalk_ignore.specs.Callback.Settings.{settings_value};
 ghost use Rattle.jwalk_ignore.specs.Callback.Sources.{made_from, made_value};
 
 use crate::callback::entry_rules::EntryRules;
@@ -14,7 +14,6 @@ use crate::callback::kept::kept;
 use crate::callback::listed::{depth_of, drop_hidden, git_in, kind_of, root_of};
 use crate::callback::settings::Settings;
 use crate::callback::source::{Made, Source};
-use crate::rules::Rules;
 use crate::rules::chain::Chain;
 use crate::rules::folder::{Folder, folders_above};
 use crate::rules::git::is_repository;
@@ -47,17 +46,17 @@ struct Directory<'p> {
 /// Returns what the rules in force, and those that are given, leave of a directory's list.
 fn kept_by<C: ClientState, A: Allocator + Copy>(
     chain: &Chain<A>,
-    given: &Option<Rules>,
+    settings: &Settings,
     directory: &str,
     list: Vec<Result<DirEntry<C, A>, Error<A>>, A>,
 ) -> Result<Vec<Result<DirEntry<C, A>, Error<A>>, A>, AllocError>
     ensures { IfOk result (λ kept. map item kept.items
-        ≡ filter (is_kept (patterns_in given.now) directory.now (chain_value chain.now) (place_in (chain_value chain.now) directory.now)) (map item list.items)) }
+        ≡ filter (is_kept (settings_value settings.now) directory.now (chain_value chain.now) (place_in (chain_value chain.now) directory.now)) (map item list.items)) }
 {
-    if given.is_none() && !chain.has_rules() {
+    if settings.given.is_none() && !chain.has_rules() {
         return Ok(list);
     }
-    let mut rules = EntryRules::new(*list.allocator(), chain, given, directory)?;
+    let mut rules = EntryRules::new(*list.allocator(), chain, settings, directory)?;
     kept(&mut rules, list)
 }
 
@@ -164,8 +163,8 @@ impl<T: Texts> RulesReader<T> {
             → IfOk result (λ made. AtDepth depth (map item made.list.items)) }
     {
         let Made { chain, mut list } = self.own_rules(directory, chain, list)?;
-        drop_hidden(&self.settings, &mut list);
-        let list = kept_by(&chain, &self.settings.given, directory, list)?;
+        drop_hidden(&self.settings, directory, &mut list);
+        let list = kept_by(&chain, &self.settings, directory, list)?;
         Ok(Made { chain, list })
     }
 

@@ -21,6 +21,8 @@ pub(crate) struct Settings {
     pub(crate) above_the_root: bool,
     /// `.fdignore` counts.
     pub(crate) fdignore: bool,
+    /// Errors of names that are dropped, whatever has the name, are dropped too.
+    pub(crate) drops_errors: bool,
     /// The rules that decide where those in force say nothing, if there are some.
     pub(crate) given: Option<Rules>,
 }

@@ -13,4 +13,4 @@ returns-clause-value g c = λ fixed.
 
 pub returns-clause-depth : goal.returns-clause-depth
 returns-clause-depth g c = λ depth all.
-    left_at depth (is_shown (settings_value c.args.self.now.settings)) _ (map item c.in_ok-chain.field-0.list.items) _ _ c.drop_hidden.ensures c.in_ok-list.ensures (c.in_ok-chain.ensures.depth depth all)
+    left_at depth (is_shown (settings_value c.args.self.now.settings) c.args.directory.now) _ (map item c.in_ok-chain.field-0.list.items) _ _ c.drop_hidden.ensures c.in_ok-list.ensures (c.in_ok-chain.ensures.depth depth all)
