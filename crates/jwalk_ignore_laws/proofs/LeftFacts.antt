@@ -1,7 +1,8 @@
 -- What rules leave of a list, at two depths.
 use Rattle.std.proofs.Common.{◌≡◌, ◌∙◌, ◌+◌, ℕ, suc, Bool, true, false, cond, List, [], ◌∷◌, ◌++◌, map, filter, flat_map, length, Option, Some, None, Result, Ok, Err, ap, ap₂, subst, refl, sym, append_assoc, append-nil, drop, ◌≤◌}
 use Rattle.std.proofs.lemmas.List.{map-append}
-use Rattle.std.specs.Prelude.{find, fold, not, option_and_then}
+use Rattle.std.specs.Prelude.{◌||◌, find, fold, not, option_and_then}
+use Rattle.std.specs.Option.{option_map_or}
 use Rattle.std.specs.declared.io.ErrorKind.{ErrorKind}
 use Rattle.jwalk_model.specs.Counted.{Worth}
 use Rattle.jwalk_model.specs.Entry.{Item}
@@ -9,7 +10,7 @@ use Rattle.jwalk_model.specs.Error.{Failure, io, unnamed, looped, busy, memory, 
 use Rattle.jwalk_model.specs.FileType.{is_dir}
 use Rattle.jwalk_model.specs.Paths.{join}
 use Rattle.jwalk_model.specs.declared.file_type.FileType.{FileType}
-use Rattle.jwalk_ignore.specs.Callback.IgnoreFiles.{Made, Source, depth_of, file_of, git_by, git_in, given_says, if_read, in_directory, is_git, is_kept, is_read, is_shown, kind_of, own_rules, own_kind, path_of, rules_found, source_in, with_found, with_item, with_listed, with_own}
+use Rattle.jwalk_ignore.specs.Callback.IgnoreFiles.{Made, Source, depth_of, failed_name, file_of, git_by, git_in, given_says, if_read, in_directory, is_git, is_kept, is_read, is_shown, keeps_failed, keeps_name, kind_of, own_rules, own_kind, path_of, rules_found, shows_name, source_in, with_found, with_item, with_listed, with_own}
 use Rattle.jwalk_ignore.specs.Pattern.{Pattern}
 use Rattle.jwalk_ignore.specs.Rules.Chain.{Chain, chain_says, entered, is_ignored, may_miss, place_in}
 use Rattle.jwalk_ignore.specs.Rules.Folder.{folder_at}
@@ -20,7 +21,7 @@ use Rattle.jwalk_ignore.specs.Callback.Settings.{Settings}
 use Rattle.jwalk_ignore.specs.jwalk_ignore_rules.declared.rules.rules_kind.RulesKind.{RulesKind}
 use Rattle.jwalk_ignore.specs.jwalk_ignore_rules.declared.rules.rules_kind.RulesKind.TheVariants as rules
 use Rattle.jwalk_ignore.specs.jwalk_ignore_rules.declared.rules.decision.Decision.{Decision}
-use Rattle.jwalk_ignore_laws.specs.Deeper.{item_deeper}
+use Rattle.jwalk_ignore_laws.specs.Deeper.{failure_deeper, item_deeper}
 use Rattle.jwalk_ignore_laws.specs.Starts.{Agrees, begun, is_of, number_in}
 use Rattle.jwalk_ignore_laws.proofs.DeeperFacts.{Each, IsPlain, each_filter, each_flat}
 use Rattle.jwalk_ignore_laws.proofs.AlikeFacts.{Alike, entered_alike, says_alike}
@@ -89,6 +90,15 @@ module _ {R E : Type 0} where
 
 -- ---- what is asked of an item is the same at any depth
 
+-- the name that an error is dropped with
+name_deeper : (levels : ℕ) (settings : Settings) (directory : List ℕ) (f : Failure) → failed_name settings directory (failure_deeper levels f) ≡ failed_name settings directory f
+name_deeper levels settings directory (io depth path kind) = refl
+name_deeper levels settings directory (unnamed depth path kind) = refl
+name_deeper levels settings directory (looped depth ancestor path) = refl
+name_deeper levels settings directory busy = refl
+name_deeper levels settings directory memory = refl
+name_deeper levels settings directory lost = refl
+
 module _ {R E : Type 0} (levels : ℕ) where
   git_deeper : (x : Item R E) → is_git (item_deeper levels x) ≡ is_git x
   git_deeper (Ok e) = refl
@@ -106,9 +116,9 @@ module _ {R E : Type 0} (levels : ℕ) where
   own_deeper (Ok e) = refl
   own_deeper (Err f) = refl
 
-  shown_deeper : (settings : Settings) (x : Item R E) → is_shown settings (item_deeper levels x) ≡ is_shown settings x
-  shown_deeper settings (Ok e) = refl
-  shown_deeper settings (Err f) = refl
+  shown_deeper : (settings : Settings) (directory : List ℕ) (x : Item R E) → is_shown settings directory (item_deeper levels x) ≡ is_shown settings directory x
+  shown_deeper settings directory (Ok e) = refl
+  shown_deeper settings directory (Err f) = ap (λ (name : Option (List ℕ)). option_map_or (shows_name settings) name true) (name_deeper levels settings directory f)
 
   pub filter_deeper : (test other : Item R E → Bool) → ((x : Item R E) → test (item_deeper levels x) ≡ other x) → (list : List (Item R E)) → filter test (map (item_deeper levels) list) ≡ map (item_deeper levels) (filter other list)
   filter_deeper test other same [] = refl
@@ -201,12 +211,21 @@ module _ (settings : Settings) (texts : Texts) (directory : List ℕ) where
       abbrev there : Chain
       there = put_folder settings texts (begun settings texts directory) (folder_at texts false directory)
 
-      kept_by : (chain : Chain) (own : Chain) → place_in own directory ≡ place_in chain directory → Alike (place_in chain directory) directory own there → (x : Item Worth Worth) → is_kept settings.given directory own (place_in own directory) x ≡ is_kept settings.given directory there directory x
-      kept_by chain own place alike (Ok e) =
-          let given : Decision = given_says settings.given directory e.file_name (is_dir e.file_type) in
-          ap (λ (p : List ℕ). not (is_ignored (or_else (chain_says own (p ++ 47 ∷ e.file_name) (is_dir e.file_type)) given))) place
-          ∙ ap (λ (d : Decision). not (is_ignored (or_else d given))) (says_alike (place_in chain directory) directory e.file_name (is_dir e.file_type) own there alike)
-      kept_by chain own place alike (Err f) = refl
+      name_by : (chain : Chain) (own : Chain) → place_in own directory ≡ place_in chain directory → Alike (place_in chain directory) directory own there → (name : List ℕ) (dir : Bool)
+          → keeps_name settings directory own (place_in own directory) name dir ≡ keeps_name settings directory there directory name dir
+      name_by chain own place alike name dir =
+          let given : Decision = given_says settings.given directory name dir in
+          ap (λ (p : List ℕ). not (is_ignored (or_else (chain_says own (p ++ 47 ∷ name) dir) given))) place
+          ∙ ap (λ (d : Decision). not (is_ignored (or_else d given))) (says_alike (place_in chain directory) directory name dir own there alike)
+
+      failed_by : (chain : Chain) (own : Chain) → place_in own directory ≡ place_in chain directory → Alike (place_in chain directory) directory own there → (name : Option (List ℕ))
+          → keeps_failed settings directory own (place_in own directory) name ≡ keeps_failed settings directory there directory name
+      failed_by chain own place alike None = refl
+      failed_by chain own place alike (Some name) = ap₂ ◌||◌ (name_by chain own place alike name true) (name_by chain own place alike name false)
+
+      kept_by : (chain : Chain) (own : Chain) → place_in own directory ≡ place_in chain directory → Alike (place_in chain directory) directory own there → (x : Item Worth Worth) → is_kept settings directory own (place_in own directory) x ≡ is_kept settings directory there directory x
+      kept_by chain own place alike (Ok e) = name_by chain own place alike e.file_name (is_dir e.file_type)
+      kept_by chain own place alike (Err f) = failed_by chain own place alike (failed_name settings directory f)
 
       place_of : (chain : Chain) (l : List (Item Worth Worth)) → place_in (own_rules settings texts directory chain l).chain directory ≡ place_in chain directory
       place_of chain l =
@@ -214,22 +233,22 @@ module _ (settings : Settings) (texts : Texts) (directory : List ℕ) where
           let front = own_front settings texts directory chain l in
           ap (λ (f : List ℕ). f ++ drop own.root_len directory) front.0 ∙ ap (λ (n : ℕ). chain.front ++ drop n directory) front.1
 
-      kept_same : (x : Item Worth Worth) → is_kept settings.given directory own_a (place_in own_a directory) (item_deeper levels x) ≡ is_kept settings.given directory own_b (place_in own_b directory) x
+      kept_same : (x : Item Worth Worth) → is_kept settings directory own_a (place_in own_a directory) (item_deeper levels x) ≡ is_kept settings directory own_b (place_in own_b directory) x
       kept_same x =
           kept_by a own_a (place_of a deeper) (own_alike settings texts from_above directory a deeper agrees_a alike_a.1) (item_deeper levels x)
           ∙ at_depth x
           ∙ sym (kept_by b own_b (place_of b list) (own_alike settings texts from_above directory b list agrees alike_b.1) x)
         where
-          at_depth : (y : Item Worth Worth) → is_kept settings.given directory there directory (item_deeper levels y) ≡ is_kept settings.given directory there directory y
+          at_depth : (y : Item Worth Worth) → is_kept settings directory there directory (item_deeper levels y) ≡ is_kept settings directory there directory y
           at_depth (Ok e) = refl
-          at_depth (Err f) = refl
+          at_depth (Err f) = ap (keeps_failed settings directory there directory) (name_deeper levels settings directory f)
 
       -- what is left of a list by rules in force there, of which each says what a walk says that starts there
       pub left_same : (in_directory settings texts directory a deeper).list ≡ map (item_deeper levels) (in_directory settings texts directory b list).list
       left_same =
-          ap (λ (l : List (Item Worth Worth)). filter (is_kept settings.given directory own_a (place_in own_a directory)) (filter (is_shown settings) l)) own_lists
-          ∙ ap (filter (is_kept settings.given directory own_a (place_in own_a directory))) (filter_deeper levels (is_shown settings) (is_shown settings) (shown_deeper levels settings) (own_rules settings texts directory b list).list)
-          ∙ filter_deeper levels (is_kept settings.given directory own_a (place_in own_a directory)) (is_kept settings.given directory own_b (place_in own_b directory)) kept_same (filter (is_shown settings) (own_rules settings texts directory b list).list)
+          ap (λ (l : List (Item Worth Worth)). filter (is_kept settings directory own_a (place_in own_a directory)) (filter (is_shown settings directory) l)) own_lists
+          ∙ ap (filter (is_kept settings directory own_a (place_in own_a directory))) (filter_deeper levels (is_shown settings directory) (is_shown settings directory) (shown_deeper levels settings directory) (own_rules settings texts directory b list).list)
+          ∙ filter_deeper levels (is_kept settings directory own_a (place_in own_a directory)) (is_kept settings directory own_b (place_in own_b directory)) kept_same (filter (is_shown settings directory) (own_rules settings texts directory b list).list)
 
   -- ---- what is left is still as a walk makes it
 
@@ -254,4 +273,4 @@ module _ (settings : Settings) (texts : Texts) (directory : List ℕ) where
       let git : Option FileType = git_in texts directory list in
       let reads : RulesKind → Bool = is_read settings (entered (is_repository git) chain).in_repository git in
       let all : Each (IsPlain depth path) own.list = subst (Each (IsPlain depth path)) (sym (own_is chain list)) (each_flat (IsPlain depth path) (with_errors texts reads directory) (plain_errors reads depth path) list h) in
-      each_filter (IsPlain depth path) (is_kept settings.given directory own.chain (place_in own.chain directory)) (filter (is_shown settings) own.list) (each_filter (IsPlain depth path) (is_shown settings) own.list all)
+      each_filter (IsPlain depth path) (is_kept settings directory own.chain (place_in own.chain directory)) (filter (is_shown settings directory) own.list) (each_filter (IsPlain depth path) (is_shown settings directory) own.list all)
