@@ -52,3 +52,36 @@ $ tally --plain -b --apparent --ignore -E lib /r
   13+{folders /r}-{folders /r/build}-{folders /r/.git}-{folders /r/lib}	/r
 $ tally --plain -b --apparent --ignore /r/lib
   24+{folders /r/lib}	/r/lib
+
+# what is left out makes no errors, though its type can't be found
+tree
+  d /r
+  d /r/x
+  f 1 /r/x/.h
+  f 1 /r/x/e
+  f 1 /r/x/i
+  m 444 /r/x
+rules /r/.ignore
+  i
+nobody
+$ tally --plain -b --apparent --exclude-hidden -E e -E i /r
+  {folders /r/x}	/r/x
+  {folders /r}	/r
+$ tally --plain -b --apparent --exclude-hidden -E e /r
+  {folders /r/x}	/r/x
+  {folders /r}	/r
+! tally: /r/x/i: Permission denied (os error 13)
+= 1
+$ tally --plain -b --apparent --exclude-hidden --ignore -E e /r
+  {folders /r/x}	/r/x
+  {folders /r}	/r
+$ tally --plain -b --apparent -E e -E i -E .ignore /r
+  {folders /r/x}	/r/x
+  {folders /r}	/r
+! tally: /r/x/.h: Permission denied (os error 13)
+= 1
+$ tally --plain -b --apparent --ignore -E .* -E e/ /r
+  {folders /r/x}	/r/x
+  {folders /r}	/r
+! tally: /r/x/e: Permission denied (os error 13)
+= 1

@@ -1,5 +1,5 @@
 -- What is counted below a root, and how.
-use Rattle.std.specs.Prelude.{◌≡◌, ℕ, ◌-◌, ◌^◌, true, not, List, map, Option, Result, if◌then◌else◌}
+use Rattle.std.specs.Prelude.{◌≡◌, ℕ, ◌-◌, ◌^◌, true, not, ◌&&◌, List, map, Option, Result, if◌then◌else◌}
 use Rattle.std.specs.Iterator.{Drains}
 use Rattle.std.specs.List.{list_all}
 use Rattle.std.specs.declared.clone.Clone as Clone
@@ -56,13 +56,16 @@ options_asked asked = record defaults {
   keep_metadata = true;
 }
 
--- what is left out below a root
+-- what is left out below a root, with its errors; where a walk without ignore files skips hidden names, theirs are left out too
 abbrev pub excluded_asked : Asked → List ℕ → Excluded
-excluded_asked asked root = excluded_by (texts_of asked.excludes.items) root
+excluded_asked asked root = record (excluded_by (texts_of asked.excludes.items) root) {
+  drops_errors = true;
+  drops_hidden = asked.exclude_hidden && not asked.ignore;
+}
 
 -- how ignore files are used
 abbrev pub settings_asked : Asked → Settings
-settings_asked asked = record first_settings { keeps_hidden = not asked.exclude_hidden }
+settings_asked asked = record first_settings { keeps_hidden = not asked.exclude_hidden; drops_errors = true }
 
 -- all that a walk below a root yields, whatever ignore files say
 abbrev pub all_below : Functions → Asked → List ℕ → List (Item Worth Worth)

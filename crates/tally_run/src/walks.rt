@@ -12,7 +12,7 @@ ghost use Rattle.jwalk_subtotals.specs.Files.{files_of};
 ghost use Rattle.program_parts.specs.Values.{texts_of as words_of};
 ghost use Rattle.tally_run.specs.Roots.{CountsRoot, CountsRoots};
 ghost use Rattle.tally_run.specs.Run.{roots_asked};
-ghost use Rattle.tally_run.specs.Walks.{all_below, counted_below, kept_below, options_asked, CountsBelow};
+ghost use Rattle.tally_run.specs.Walks.{all_below, counted_below, excluded_asked, kept_below, options_asked, CountsBelow};
 
 use crate::counting::{Counted, count_walk};
 use crate::failure::Failure;
@@ -34,6 +34,16 @@ use std::alloc::{AllocError, Global};
 use std::io::Write;
 use std::sync::Arc;
 use tally_words::asked::Asked;
+
+/// Returns the callback that leaves out what is asked for below a root, with its errors. Where a walk without ignore files
+/// skips hidden names, it leaves out theirs too.
+fn excluding_of(alloc: Global, asked: &Asked<'_>, root: &str) -> Result<Excluding, AllocError>
+    ensures { IfOk result (λ it. excluded_of it ≡ excluded_asked asked.now root.now) }
+{
+    let excluding = Excluding::new(alloc, asked.excludes.as_slice(), root)?;
+    let skips_hidden = asked.exclude_hidden && !asked.ignore;
+    Ok(excluding.drop_errors(true).drop_hidden_errors(skips_hidden))
+}
 
 fn count_ruled<
     T: Host,
@@ -141,7 +151,7 @@ impl<
             self.now.asked.now (files_of files)
             results.old (W.contents out.old) results.new (W.contents out.new)) }
     {
-        let excluding = Excluding::new(alloc, self.asked.excludes.as_slice(), root)?;
+        let excluding = excluding_of(alloc, self.asked, root)?;
         let root = String::from_str(alloc, root)?;
         let disk = self.disk.clone()?;
         let walk = walk_below::<((), ()), _, _, _>(disk, root, self.options(), crew)?;
@@ -173,9 +183,10 @@ impl<
             self.now.asked.now root.now) self.now.asked.now (files_of files)
             results.old (W.contents out.old) results.new (W.contents out.new)) }
     {
-        let excluding = Excluding::new(alloc, self.asked.excludes.as_slice(), root)?;
+        let excluding = excluding_of(alloc, self.asked, root)?;
         let rules = IgnoreFiles::new(self.texts.clone()?)
             .keep_hidden(!self.asked.exclude_hidden)
+            .drop_errors(true)
             .then(excluding);
         let root = String::from_str(alloc, root)?;
         let disk = self.disk.clone()?;

@@ -4,10 +4,9 @@ use Rattle.std.specs.Arc.{arc_value}
 use Rattle.std.proofs.lemmas.Result.{IfOk-weaker}
 use Rattle.jwalk.specs.jwalk_model.Counted.{blank}
 use Rattle.jwalk.specs.WalkDir.{callback_of, file_system_of, options_of, root_of}
-use Rattle.jwalk_ignore.specs.Callback.Excluding.{Excluded, excluded_by, excluded_of, excluding}
+use Rattle.jwalk_ignore.specs.Callback.Excluding.{Excluded, excluded_of, excluding}
 use Rattle.jwalk_ignore.specs.Callback.Kept.{given_excluding}
 use Rattle.jwalk_ignore.proofs.KeptFacts.{whole_of}
-use Rattle.program_parts.specs.Values.{texts_of}
 use Rattle.program_walks.specs.Crew.{with_crew}
 use Rattle.program_walks.proofs.CrewFacts.{same_by_crew}
 use Rattle.tally_run.specs.Walks.{excluded_asked, options_asked}
@@ -24,7 +23,7 @@ returns g c =
     let excluded = excluded_asked asked c.args.root.now in
     let over : arc_value (file_system_of walk) ≡ arc_value self.disk = ap arc_value (set.file_system ∙ built.file_system) ∙ c.in_ok-disk.ensures.cases in
     let lines : excluded_of (callback_of walk) ≡ excluded
-    = ap excluded_of set.callback ∙ c.in_ok-excluding.ensures ∙ ap (λ l. excluded_by (texts_of l) c.args.root.now) c.as_slice.ensures.value in
+    = ap excluded_of set.callback ∙ c.in_ok-excluding.ensures in
     let options : options_of walk ≡ with_crew (is_some c.args.crew.now) (options_asked asked)
     = set.options ∙ built.options ∙ ap (with_crew (is_some c.args.crew.now)) c.options.ensures in
     let root : root_of walk ≡ c.args.root.now = set.root ∙ built.root ∙ c.in_ok-root.ensures.ok in

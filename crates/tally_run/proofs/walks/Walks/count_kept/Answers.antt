@@ -1,14 +1,13 @@
-use Rattle.std.proofs.Common.{◌≡◌, ◌∙◌, ap, subst, sym}
+use Rattle.std.proofs.Common.{◌≡◌, ◌∙◌, true, ap, subst, sym}
 use Rattle.std.specs.Prelude.{is_some}
 use Rattle.std.specs.Arc.{arc_value}
 use Rattle.std.proofs.lemmas.Result.{IfOk-weaker}
 use Rattle.jwalk.specs.WalkDir.{file_system_of, options_of}
-use Rattle.jwalk_ignore.specs.Callback.Excluding.{excluded_by, excluded_of, excluding}
+use Rattle.jwalk_ignore.specs.Callback.Excluding.{excluded_of, excluding}
 use Rattle.jwalk_ignore.specs.Callback.Given.{no_rules_yet}
 use Rattle.jwalk_ignore.specs.Callback.IgnoreViews.{ignoring, next_of, settings_of, texts_of as texts_in}
 use Rattle.jwalk_ignore.specs.Callback.Settings.{Settings}
 use Rattle.jwalk_ignore.proofs.KeptFacts.{ignoring_same}
-use Rattle.program_parts.specs.Values.{texts_of}
 use Rattle.program_walks.specs.Crew.{with_crew}
 use Rattle.program_walks.proofs.CrewFacts.{hidden_by_crew}
 use Rattle.tally_run.specs.Walks.{excluded_asked, options_asked, settings_asked}
@@ -26,11 +25,13 @@ returns g c =
     let excluded = excluded_asked asked c.args.root.now in
     let texts = g.X.Texts.functions (arc_value self.texts) in
     let from : arc_value (texts_in rules) ≡ arc_value self.texts
-    = ap arc_value (c.then-rules.ensures.texts ∙ c.keep_hidden.ensures.texts ∙ c.new-2.ensures.texts) ∙ c.in_ok-clone.ensures.cases in
+    = ap arc_value (c.then-rules.ensures.texts ∙ c.drop_errors.ensures.texts ∙ c.keep_hidden.ensures.texts ∙ c.new-2.ensures.texts) ∙ c.in_ok-clone.ensures.cases in
     let settings : settings_of rules ≡ settings_asked asked
-    = c.then-rules.ensures.settings ∙ c.keep_hidden.ensures.settings ∙ ap (λ (s : Settings). record s { keeps_hidden = (settings_asked asked).keeps_hidden }) c.new-2.ensures.settings in
+    = c.then-rules.ensures.settings ∙ c.drop_errors.ensures.settings
+    ∙ ap (λ (s : Settings). record s { drops_errors = true })
+    (c.keep_hidden.ensures.settings ∙ ap (λ (s : Settings). record s { keeps_hidden = (settings_asked asked).keeps_hidden }) c.new-2.ensures.settings) in
     let lines : excluded_of (next_of rules) ≡ excluded
-    = ap excluded_of c.then-rules.ensures.next ∙ c.in_ok-excluding.ensures ∙ ap (λ l. excluded_by (texts_of l) c.args.root.now) c.as_slice.ensures.value in
+    = ap excluded_of c.then-rules.ensures.next ∙ c.in_ok-excluding.ensures in
     let options : options_of walk ≡ with_crew (is_some c.args.crew.now) (options_asked asked)
     = built.options ∙ ap (with_crew (is_some c.args.crew.now)) c.options.ensures in
     IfOk-weaker c.count_ruled.result _ _
