@@ -64,6 +64,83 @@ $ seek . /r/x
 ! seek: /r/x: Permission denied (os error 13)
 = 1
 
+# names in a directory that may be listed and not entered, of which those that are left out make no errors
+tree
+  d /r
+  d /r/x
+  f 1 /r/x/.h
+  f 1 /r/x/e
+  f 1 /r/x/i
+  m 444 /r/x
+rules /r/.ignore
+  i
+nobody
+$ seek -E e . /r
+  /r/x
+$ seek . /r
+  /r/x
+! seek: /r/x/e: Permission denied (os error 13)
+= 1
+$ seek -H -E e . /r
+  /r/.ignore
+  /r/x
+! seek: /r/x/.h: Permission denied (os error 13)
+= 1
+$ seek -H -E e -E .h . /r
+  /r/.ignore
+  /r/x
+$ seek -I -E e . /r
+  /r/x
+! seek: /r/x/i: Permission denied (os error 13)
+= 1
+$ seek -I -E e -E /x/i . /r
+  /r/x
+$ seek -HI -E e -E i . /r
+  /r/.ignore
+  /r/x
+! seek: /r/x/.h: Permission denied (os error 13)
+= 1
+$ seek -I -E * -E !x . /r
+  /r/x
+$ seek -I --ignore-file /r/.ignore -E e . /r
+  /r/x
+$ seek -E * -E !i -E !x . /r/x
+
+# lines for directories alone leave out no name of which the type isn't known
+tree
+  d /r
+  d /r/x
+  f 1 /r/x/.h
+  d /r/x/d
+  m 444 /r/x
+rules /r/.ignore
+  d/
+nobody
+$ seek . /r
+  /r/x
+! seek: /r/x/d: Permission denied (os error 13)
+= 1
+$ seek -I -E d/ . /r
+  /r/x
+! seek: /r/x/d: Permission denied (os error 13)
+= 1
+$ seek -E d . /r
+  /r/x
+
+# a hidden file of rules makes an error all the same, if it is to be read
+tree
+  d /r
+  d /r/x
+  f 1 /r/x/.ignore
+  m 444 /r/x
+nobody
+$ seek . /r
+  /r/x
+! seek: /r/x/.ignore: Permission denied (os error 13)
+= 1
+$ seek -I . /r
+  /r/x
+
 # a link that leads back
 tree
   d /r

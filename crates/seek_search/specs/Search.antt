@@ -56,6 +56,7 @@ settings_asked lines asked = record first_settings {
   version_control = not asked.no_vcs;
   above_the_root = not asked.no_parents;
   fdignore = true;
+  drops_errors = true;
   given = patterns_of lines;
 }
 
@@ -63,9 +64,9 @@ settings_asked lines asked = record first_settings {
 abbrev pub here_of : List ℕ → List ℕ
 here_of root = if bytes_eq root (codes ".") then codes "." else if bytes_eq (take 2 root) (codes "./") then codes "." else []
 
--- what these lines of files name below a root: they match whole paths
+-- what these lines of files name below a root: they match whole paths, and errors of what they name are left out too
 abbrev pub named_below : List ℕ → List ℕ → Excluded
-named_below lines root = excluded_in lines (here_of root)
+named_below lines root = record (excluded_in lines (here_of root)) { drops_errors = true }
 
 -- what is made of lists without ignore files: what lines of named files leave out is dropped, and then what `-E` does
 abbrev pub leaving_out : Excluded → Excluded → Processing Worth Worth
@@ -83,9 +84,12 @@ kept_below fs texts lines asked excluded root = ignoring_walk fs texts (settings
 abbrev pub lines_of : List ℕ → List (List ℕ)
 lines_of line = unwrap_or (expansions line) (line ∷ [])
 
--- the entries that are left out below a root
+-- what is left out below a root, with its errors; where a walk without ignore files skips hidden names, theirs are left out too
 abbrev pub excluded_asked : Asked → List ℕ → Excluded
-excluded_asked asked root = excluded_by (flat_map lines_of (texts_of asked.excludes.items)) root
+excluded_asked asked root = record (excluded_by (flat_map lines_of (texts_of asked.excludes.items)) root) {
+  drops_errors = true;
+  drops_hidden = asked.no_ignore && not asked.hidden;
+}
 
 -- all answers below a root
 abbrev pub yielded_below : Functions → Texts → List ℕ → Asked → List ℕ → List (Item Worth Worth)

@@ -95,6 +95,7 @@ fn rules_in<X: Texts>(asked: &Asked<'_>, texts: X) -> IgnoreFiles<X>
         .version_control(!asked.no_vcs)
         .above_the_root(!asked.no_parents)
         .fdignore(true)
+        .drop_errors(true)
 }
 
 /// Returns the rules that are asked for, from these texts and of these lines.
@@ -201,7 +202,7 @@ impl<
         ensures stays { StaysAs (S.functions (arc_value self.now.disk)) printer.old printer.new }
     {
         let naming = naming_of(alloc, self.lines, root)?;
-        let excluding = excluding_of(alloc, self.asked.excludes.as_slice(), root)?;
+        let excluding = excluding_of(alloc, self.asked, root)?;
         let root = String::from_str(alloc, root)?;
         let disk = self.disk.clone()?;
         let walk = walk_below::<((), ()), _, _, _>(disk, root, self.options(), &self.crew)?;
@@ -234,7 +235,7 @@ impl<
             printer.old printer.new (W.contents out.old) (W.contents out.new)) }
         ensures stays { StaysAs (S.functions (arc_value self.now.disk)) printer.old printer.new }
     {
-        let excluding = excluding_of(alloc, self.asked.excludes.as_slice(), root)?;
+        let excluding = excluding_of(alloc, self.asked, root)?;
         let texts = self.texts.clone()?;
         let rules = rules_of(alloc, self.asked, self.lines, texts)?.then(excluding);
         let root = String::from_str(alloc, root)?;

@@ -53,6 +53,37 @@ $ seek -S +0b . /t
 $ seek -te . /t
 ! seek: /t/b: permission denied
 = 1
+# names that are left out, of which nothing is known
+tree
+  d /t
+  f 1 /t/.h
+  f 1 /t/a
+  f 1 /t/b
+  l a\t/t/l
+seen /t/.h denied
+seen /t/b denied
+$ seek -E b . /t
+  /t/a
+  /t/l
+$ seek -E b/ . /t
+  /t/a
+  /t/l
+! seek: /t/b: permission denied
+= 1
+$ seek -H -E b . /t
+  /t/a
+  /t/l
+! seek: /t/.h: permission denied
+= 1
+$ seek -I -E b . /t
+  /t/a
+  /t/l
+$ seek -HI -E /.h -E b . /t
+  /t/a
+  /t/l
+$ seek -L -E b -E l . /t
+fails follow denied /t/l
+  /t/a
 # times that a disk doesn't keep
 tree
   d /t

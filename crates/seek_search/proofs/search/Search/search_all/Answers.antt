@@ -1,5 +1,5 @@
 use Rattle.std.proofs.Common.{◌≡◌, ◌∙◌, ap, refl, subst, sym}
-use Rattle.std.specs.Prelude.{flat_map, is_some}
+use Rattle.std.specs.Prelude.{is_some}
 use Rattle.std.specs.Arc.{arc_value}
 use Rattle.std.proofs.lemmas.Result.{IfOk-weaker}
 use Rattle.jwalk.specs.jwalk_model.Counted.{blank}
@@ -7,11 +7,10 @@ use Rattle.jwalk.specs.jwalk_job.Job.{IsSteady}
 use Rattle.jwalk.specs.WalkDir.{file_system_of, callback_of, options_of, root_of}
 use Rattle.program_walks.specs.Crew.{with_crew}
 use Rattle.program_walks.proofs.CrewFacts.{same_by_crew}
-use Rattle.program_parts.specs.Values.{texts_of}
 use Rattle.jwalk.specs.jwalk_callbacks.Both.{chaining, first_of, second_of}
-use Rattle.jwalk_ignore.specs.Callback.Excluding.{Excluded, excluded_by, excluded_of, excluding}
+use Rattle.jwalk_ignore.specs.Callback.Excluding.{Excluded, excluded_of, excluding}
 use Rattle.jwalk_ignore.specs.Callback.Kept.{given_excluding}
-use Rattle.seek_search.specs.Search.{excluded_asked, leaving_out, lines_of, named_below, options_asked}
+use Rattle.seek_search.specs.Search.{excluded_asked, leaving_out, named_below, options_asked}
 use Rattle.seek_words.specs.Filter.{sought_of}
 use Rattle.seek_found.specs.Prune.{unpruned}
 use Rattle.seek_found.specs.SoughtTest.{takes_of}
@@ -36,7 +35,7 @@ returns-clause-whole g c =
     let names : excluded_of (first_of (callback_of walk)) ≡ named
     = ap (λ it. excluded_of (first_of it)) set.callback ∙ ap excluded_of c.new.ensures.first ∙ c.in_ok-naming.ensures in
     let lines : excluded_of (second_of (callback_of walk)) ≡ excluded
-    = ap (λ it. excluded_of (second_of it)) set.callback ∙ ap excluded_of c.new.ensures.second ∙ c.in_ok-excluding.ensures ∙ ap (λ l. excluded_by (flat_map lines_of (texts_of l)) c.args.root.now) c.as_slice.ensures.value in
+    = ap (λ it. excluded_of (second_of it)) set.callback ∙ ap excluded_of c.new.ensures.second ∙ c.in_ok-excluding.ensures in
     let options : options_of walk ≡ with_crew (is_some self.crew) (options_asked asked)
     = set.options ∙ built.options ∙ ap (with_crew (is_some self.crew)) c.options.ensures in
     let root : root_of walk ≡ c.args.root.now = set.root ∙ built.root ∙ c.in_ok-root.ensures.ok in
@@ -76,6 +75,6 @@ returns-clause-yielded g c =
       by_crew = is_some self.crew;
       options = set.options ∙ built.options ∙ ap (with_crew (is_some self.crew)) c.options.ensures;
       named = ap (λ it. excluded_of (first_of it)) set.callback ∙ ap excluded_of c.new.ensures.first ∙ c.in_ok-naming.ensures;
-      excluded = ap (λ it. excluded_of (second_of it)) set.callback ∙ ap excluded_of c.new.ensures.second ∙ c.in_ok-excluding.ensures ∙ ap (λ l. excluded_by (flat_map lines_of (texts_of l)) c.args.root.now) c.as_slice.ensures.value;
+      excluded = ap (λ it. excluded_of (second_of it)) set.callback ∙ ap excluded_of c.new.ensures.second ∙ c.in_ok-excluding.ensures;
     } in
     IfOk-weaker c.print_begun.result _ _ (λ clean prints. λ known. printed_such (yielded_so _ (λ it is. subst (IsPlain (arc_value self.disk) self.lines.now asked c.args.root.now) (sym is) plain)) (prints known)) c.print_begun.ensures.yielded

@@ -1,5 +1,5 @@
 use Rattle.std.proofs.Common.{◌≡◌, ◌∙◌, false, ap, subst, sym}
-use Rattle.std.specs.Prelude.{flat_map, is_some}
+use Rattle.std.specs.Prelude.{is_some}
 use Rattle.std.specs.Arc.{arc_value}
 use Rattle.std.proofs.lemmas.Result.{IfOk-weaker}
 use Rattle.jwalk.specs.jwalk_model.Options.{with_skip_hidden}
@@ -14,9 +14,8 @@ use Rattle.seek_found.specs.Prune.{unpruned}
 use Rattle.seek_found.specs.SoughtTest.{takes_of}
 use Rattle.seek_found.proofs.CleanFacts.{printed_as}
 use Rattle.seek_found.proofs.RootsFacts.{printed_such}
-use Rattle.program_parts.specs.Values.{texts_of}
-use Rattle.jwalk_ignore.specs.Callback.Excluding.{excluded_by, excluded_of, excluding}
-use Rattle.seek_search.specs.Search.{excluded_asked, lines_of, options_asked, settings_asked}
+use Rattle.jwalk_ignore.specs.Callback.Excluding.{excluded_of, excluding}
+use Rattle.seek_search.specs.Search.{excluded_asked, options_asked, settings_asked}
 use Rattle.jwalk_ignore.proofs.KeptFacts.{ignoring_same}
 use Rattle.seek_search.proofs.SearchFacts.{yielded_so}
 use Rattle.seek_search.proofs.search.Search.search_kept.Goals as goal
@@ -36,7 +35,7 @@ returns-clause-whole g c =
     let settings : settings_of rules ≡ settings_asked self.lines.now asked
     = c.then-rules.ensures.settings ∙ c.in_ok-rules_of.ensures.settings in
     let lines : excluded_of (next_of rules) ≡ excluded
-    = ap excluded_of c.then-rules.ensures.next ∙ c.in_ok-excluding.ensures ∙ ap (λ l. excluded_by (flat_map lines_of (texts_of l)) c.args.root.now) c.as_slice.ensures.value in
+    = ap excluded_of c.then-rules.ensures.next ∙ c.in_ok-excluding.ensures in
     let options : options_of walk ≡ with_crew (is_some self.crew) (options_asked asked)
     = built.options ∙ ap (with_crew (is_some self.crew)) c.options.ensures in
     IfOk-weaker c.search_walk.result _ _
@@ -61,7 +60,7 @@ returns-clause-yielded g c =
       options = is.options ∙ ap (with_skip_hidden false) (built.options ∙ ap (with_crew (is_some self.crew)) c.options.ensures);
       texts_read = ap (λ x. arc_value (texts_in x)) is.callback ∙ ap arc_value (set.texts ∙ c.in_ok-rules_of.ensures.texts) ∙ c.in_ok-texts.ensures.cases;
       settings = ap settings_of is.callback ∙ set.settings ∙ c.in_ok-rules_of.ensures.settings;
-      excluded = ap (λ x. excluded_of (next_of x)) is.callback ∙ ap excluded_of set.next ∙ c.in_ok-excluding.ensures ∙ ap (λ l. excluded_by (flat_map lines_of (texts_of l)) c.args.root.now) c.as_slice.ensures.value;
+      excluded = ap (λ x. excluded_of (next_of x)) is.callback ∙ ap excluded_of set.next ∙ c.in_ok-excluding.ensures;
       begins = ap rules_held is.state ∙ built.state;
     })) (prints known))
     c.search_walk.ensures.yielded
