@@ -39,3 +39,9 @@ tty$ COLUMNS=40 tally --apparent -a -n 1 t
    5.0 MiB  ##########..........  a
    5.0 MiB  #########...........  (2 more)
     10 MiB  ####################  t
+
+# a root is named as it was given
+$ tally --apparent -s /t/
+    10 MiB  /t/
+$ tally --json -s --apparent /t/.
+~ "name":"/t/."

@@ -101,6 +101,18 @@ $ tally --plain -b --apparent /r/l
 $ tally --help
 ~   -s, --summarize   \x20
 
+# a root is written as it was named, and what is below it behind that
+$ tally --plain -b --apparent '/t/group 1/'
+  5+{folders /t/group 1}	/t/group 1/
+$ tally --plain -a -b --apparent '/t/group 1/'
+  5	/t/group 1/d.txt
+  5+{folders /t/group 1}	/t/group 1/
+$ tally --plain -a -b --apparent '/t/group 1/.'
+  5	/t/group 1/./d.txt
+  5+{folders /t/group 1}	/t/group 1/.
+$ tally --plain -s -b --apparent '/t/group 1/../group 2//'
+  7+{folders /t/group 2}	/t/group 1/../group 2//
+
 # units of sizes
 tree
   f 1048577 /t/a

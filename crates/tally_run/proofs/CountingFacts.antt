@@ -49,14 +49,14 @@ one_called : {S X : Type 0} (steps : S → Option X → S → Type 0) (xs : List
 one_called steps [] x s t u same last = (u, subst (λ k. steps k (Some x) u) (sym same) last, refl)
 one_called steps (y ∷ xs) x s t u (j, first, more) last = (j, first, one_called steps xs x j t u more last)
 
-module _ {S C A R E : Type 0} (next : S → Option (Result (WithSubtotal C A R E) (SubtotalError A)) → S → Type 0) (shown : Shown) (start : S) (old : Results) (before : Option (List ℕ)) where
+module _ {S C A R E : Type 0} (next : S → Option (Result (WithSubtotal C A R E) (SubtotalError A)) → S → Type 0) (root : List ℕ) (shown : Shown) (start : S) (old : Results) (before : Option (List ℕ)) where
   -- Calls yielded these so far, what is written of them is taken, and it is known whether all are clean.
   pub record TakenSoFar (now : S) (new : Results) (after : Option (List ℕ)) (clean : Bool) : Type 0 where
     pub yielded : List (Result (WithSubtotal C A R E) (SubtotalError A))
     pub calls : Yields next start yielded now
     pub goes_on : list_any ends_with yielded ≡ false
     pub tells : clean ≡ list_all is_clean (flat_map value yielded)
-    pub taken : Takes (rows_of shown (flat_map value yielded)) old before new after
+    pub taken : Takes (rows_of root shown (flat_map value yielded)) old before new after
 
   -- nothing was yielded yet
   pub none_taken : TakenSoFar start old before true
@@ -67,7 +67,7 @@ module _ {S C A R E : Type 0} (next : S → Option (Result (WithSubtotal C A R E
 
   -- one more call
   pub one_taken : (now then : S) (mid new : Results) (during after : Option (List ℕ)) (clean one : Bool) (x : Result (WithSubtotal C A R E) (SubtotalError A)) → TakenSoFar now mid during clean → next now (Some x) then
-      → ends_with x ≡ false → one ≡ list_all is_clean (value x) → Takes (rows_of shown (value x)) mid during new after → TakenSoFar then new after (clean && one)
+      → ends_with x ≡ false → one ≡ list_all is_clean (value x) → Takes (rows_of root shown (value x)) mid during new after → TakenSoFar then new after (clean && one)
   one_taken now then mid new during after clean one x so_far step goes_on is taken =
       let xs = so_far.yielded in
       record {
@@ -76,12 +76,12 @@ module _ {S C A R E : Type 0} (next : S → Option (Result (WithSubtotal C A R E
         goes_on = none_more ends_with xs x so_far.goes_on goes_on;
         tells = ap₂ (λ a b. a && b) so_far.tells is ∙ sym (all_seam is_clean (flat_map value xs) (value x)) ∙ ap (list_all is_clean) (sym (values_more xs x));
         taken = subst (λ l. Takes l old before new after)
-            (sym (flat_map-append (row_of shown) (flat_map value xs) (value x)) ∙ ap (rows_of shown) (sym (values_more xs x)))
-            (takes_then (rows_of shown (flat_map value xs)) (rows_of shown (value x)) old mid new before during after so_far.taken taken);
+            (sym (flat_map-append (row_of root shown) (flat_map value xs) (value x)) ∙ ap (rows_of root shown) (sym (values_more xs x)))
+            (takes_then (rows_of root shown (flat_map value xs)) (rows_of root shown (value x)) old mid new before during after so_far.taken taken);
       }
 
   -- the last call
-  pub all_taken : (now end : S) (new : Results) (after : Option (List ℕ)) (clean : Bool) → TakenSoFar now new after clean → next now None end → TakesAll next shown start end old before new after clean
+  pub all_taken : (now end : S) (new : Results) (after : Option (List ℕ)) (clean : Bool) → TakenSoFar now new after clean → next now None end → TakesAll next root shown start end old before new after clean
   all_taken now end new after clean so_far step = record {
     yielded = so_far.yielded;
     calls = (now, so_far.calls, step);
@@ -90,15 +90,15 @@ module _ {S C A R E : Type 0} (next : S → Option (Result (WithSubtotal C A R E
     taken = so_far.taken;
   }
 
-error_rows : (C A R E : Type 0) (shown : Shown) (e : SubtotalError A) → rows_of shown (value {C = C} {A = A} {R = R} {E = E} (Err e)) ≡ []
-error_rows C A R E shown (Walk e) = refl
-error_rows C A R E shown TooMany = refl
-error_rows C A R E shown Memory = refl
+error_rows : (C A R E : Type 0) (root : List ℕ) (shown : Shown) (e : SubtotalError A) → rows_of root shown (value {C = C} {A = A} {R = R} {E = E} (Err e)) ≡ []
+error_rows C A R E root shown (Walk e) = refl
+error_rows C A R E root shown TooMany = refl
+error_rows C A R E root shown Memory = refl
 
 -- of an error nothing is taken
-pub error_taken : {C A R E : Type 0} (shown : Shown) (x : Result (WithSubtotal C A R E) (SubtotalError A)) (e : SubtotalError A) → x ≡ Err e → (results : Results) (written : Option (List ℕ)) → Takes (rows_of shown (value x)) results written results written
-error_taken {C} {A} {R} {E} shown x e is results written =
-    subst (λ (rows : List Row). Takes rows results written results written) (sym (ap (λ y. rows_of shown (value y)) is ∙ error_rows C A R E shown e)) (takes_none results written)
+pub error_taken : {C A R E : Type 0} (root : List ℕ) (shown : Shown) (x : Result (WithSubtotal C A R E) (SubtotalError A)) (e : SubtotalError A) → x ≡ Err e → (results : Results) (written : Option (List ℕ)) → Takes (rows_of root shown (value x)) results written results written
+error_taken {C} {A} {R} {E} root shown x e is results written =
+    subst (λ (rows : List Row). Takes rows results written results written) (sym (ap (λ y. rows_of root shown (value y)) is ∙ error_rows C A R E root shown e)) (takes_none results written)
 
 clean_ok : {R E : Type 0} (ys : List (Yielded R E)) → list_all is_clean ys ≡ true → list_all is_ok ys ≡ true
 clean_ok [] clean = refl

@@ -7,7 +7,7 @@ use Rattle.program_parts.specs.declared.paths.Style.{Style}
 use Rattle.tally_text.specs.Nodes.{IsPushed, largest_of, trees_of}
 use Rattle.tally_text.specs.declared.node.Node.{Node}
 use Rattle.tally_text.specs.declared.scale.Scale.{Scale}
-use Rattle.tally_run.specs.Results.{ArePushed, Row, Takes, gathered_of, lines_text, numbers_of, row_line, scale_of, style_of, tree_name}
+use Rattle.tally_run.specs.Results.{ArePushed, Row, Takes, gathered_of, lines_text, numbers_of, row_line, scale_of, style_of}
 use Rattle.tally_run.specs.declared.results.Results.{Results}
 use Rattle.tally_run.specs.declared.results.Results.TheVariants as results
 
@@ -16,7 +16,7 @@ pub one_line : (old new : Option (List ℕ)) (scale : Scale) (style : Style) (r 
 one_line old new scale style r line = subst (Appends old new) (sym (append-nil (row_line scale style r))) line
 
 -- one result's tree
-pub one_tree : (largest : Option ℕ) (r : Row) (old new : List Node) → IsPushed largest r.depth (tree_name r) (numbers_of r.subtotal) old new → ArePushed largest (r ∷ []) old new
+pub one_tree : (largest : Option ℕ) (r : Row) (old new : List Node) → IsPushed largest r.depth r.name (numbers_of r.subtotal) old new → ArePushed largest (r ∷ []) old new
 one_tree largest r old new pushed = (new, pushed, refl)
 
 lines_then : (xs ys : List Row) (scale scale' : Scale) (style style' : Style) (a b c : Option (List ℕ)) → scale' ≡ scale → style' ≡ style

@@ -3,7 +3,6 @@ use Rattle.std.proofs.Common.{◌≡◌, ◌∙◌, ◌+◌, ◌<◌, ℕ, zero,
 use Rattle.std.specs.Prelude.{get_or}
 use Rattle.std.specs.Borrow.{Bor}
 use Rattle.std.specs.List.{list_all}
-use Rattle.std.proofs.lemmas.Grind.{flat_map-append}
 use Rattle.std.proofs.lemmas.List.{length-append, map-append, take_more}
 use Rattle.jwalk.specs.jwalk_model.Counted.{Worth}
 use Rattle.jwalk.specs.jwalk_model.declared.metadata.Identity.{Identity}
@@ -16,8 +15,8 @@ use Rattle.jwalk_subtotals.proofs.ComingFacts.{after_same, weighed_same}
 use Rattle.program_parts.specs.Values.{texts_of}
 use Rattle.tally_words.specs.declared.asked.Asked.{Asked}
 use Rattle.tally_run.specs.Counting.{is_clean}
-use Rattle.tally_run.specs.Results.{Row, Takes, row_of, rows_of}
-use Rattle.tally_run.specs.Roots.{CountsRoot, CountsRoots, IsLeftOut, KeepsFirst, LeavesOut, all_subtotals, files_behind}
+use Rattle.tally_run.specs.Results.{Row, Takes, rows_of}
+use Rattle.tally_run.specs.Roots.{CountsRoot, CountsRoots, IsLeftOut, KeepsFirst, LeavesOut, all_rows, all_subtotals, files_behind}
 use Rattle.tally_run.specs.Shown.{shown_asked}
 use Rattle.tally_run.specs.Walks.{CountsBelow, subtotals_asked}
 use Rattle.tally_run.specs.declared.counting.Counted.{Counted}
@@ -74,6 +73,19 @@ module _ {R E : Type 0} (o : SubtotalOptions) where
       ap (λ (ys : List (Yielded R E)). subtotals_beside o known m ++ ys) (subtotals_more (files_after o known m) ls l)
       ∙ sym (append_assoc (subtotals_beside o known m) (all_subtotals o (files_after o known m) ls) (subtotals_beside o (files_behind o (files_after o known m) ls) l))
 
+-- one root more with its list of answers
+rows_more : (asked : Asked) (known : List Identity) (roots : List (List ℕ)) (ls : List (List (Item Worth Worth))) (root : List ℕ) (l : List (Item Worth Worth)) → length ls ≡ length roots
+    → all_rows asked known (roots ++ root ∷ []) (ls ++ l ∷ []) ≡ all_rows asked known roots ls ++ rows_of root (shown_asked asked) (subtotals_beside (subtotals_asked asked) (files_behind (subtotals_asked asked) known ls) l)
+rows_more asked known [] [] root l is = append-nil (rows_of root (shown_asked asked) (subtotals_beside (subtotals_asked asked) known l))
+rows_more asked known [] (m ∷ ls) root l is = absurd (omega (arith, is))
+rows_more asked known (r ∷ roots) [] root l is = absurd (omega (arith, is))
+rows_more asked known (r ∷ roots) (m ∷ ls) root l is =
+    let o = subtotals_asked asked in
+    let here = rows_of r (shown_asked asked) (subtotals_beside o known m) in
+    let more = files_after o known m in
+    ap (λ (rows : List Row). here ++ rows) (rows_more asked more roots ls root l (omega (arith, is)))
+    ∙ sym (append_assoc here (all_rows asked more roots ls) (rows_of root (shown_asked asked) (subtotals_beside o (files_behind o more ls) l)))
+
 both_first : (a b : Bool) → (a && b) ≡ true → a ≡ true
 both_first true b is = refl
 both_first false b is = is
@@ -94,7 +106,7 @@ module _ (fixed : Type 0) (below : List ℕ → List (Item Worth Worth)) (asked 
     pub answered : List (List (Item Worth Worth))
     pub each : length answered ≡ length counted
     pub whole : fixed → clean ≡ true → answered ≡ map below counted
-    pub taken : Takes (rows_of (shown_asked asked) (all_subtotals (subtotals_asked asked) [] answered)) old before new after
+    pub taken : Takes (all_rows asked [] counted answered) old before new after
     pub tells : clean ≡ list_all is_clean (all_subtotals (subtotals_asked asked) [] answered)
     pub remembered : HaveSame files (files_behind (subtotals_asked asked) [] answered)
 
@@ -121,14 +133,14 @@ module _ (fixed : Type 0) (below : List ℕ → List (Item Worth Worth)) (asked 
       answered = so_far.answered;
       each = so_far.each;
       whole = λ always is. so_far.whole always (both_first clean counted.clean is);
-      taken = subst (λ (r : Results). Takes (rows_of (shown_asked asked) (all_subtotals (subtotals_asked asked) [] so_far.answered)) old before r after) (sym out.untaken)
-          (subst (λ (w : Option (List ℕ)). Takes (rows_of (shown_asked asked) (all_subtotals (subtotals_asked asked) [] so_far.answered)) old before mid w) (sym out.unwritten) so_far.taken);
+      taken = subst (λ (r : Results). Takes (all_rows asked [] so_far.counted so_far.answered) old before r after) (sym out.untaken)
+          (subst (λ (w : Option (List ℕ)). Takes (all_rows asked [] so_far.counted so_far.answered) old before mid w) (sym out.unwritten) so_far.taken);
       tells = ap₂ (λ (a b : Bool). a && b) so_far.tells out.without_error ∙ and_true (list_all is_clean (all_subtotals (subtotals_asked asked) [] so_far.answered));
       remembered = subst (λ (l : List Identity). HaveSame l (files_behind (subtotals_asked asked) [] so_far.answered)) (sym out.remembered) so_far.remembered;
     }
 
     -- a root that is counted
-    root_in : (new : Results) (after : Option (List ℕ)) (counted : Counted) → CountsBelow fixed (below (get_or roots i d).now) asked files mid during new after counted
+    root_in : (new : Results) (after : Option (List ℕ)) (counted : Counted) → CountsBelow fixed (below (get_or roots i d).now) asked (get_or roots i d).now files mid during new after counted
         → RootsSoFar (texts_of (take (i + 1) roots)) (files_of counted.files) new after (clean && counted.clean)
     root_in new after counted counts =
         let o = subtotals_asked asked in
@@ -146,9 +158,9 @@ module _ (fixed : Type 0) (below : List ℕ → List (Item Worth Worth)) (asked 
               ap₂ (λ (a : List (List (Item Worth Worth))) (b : List (Item Worth Worth)). a ++ b ∷ []) (so_far.whole always (both_first clean counted.clean is)) (counts.whole always (both_second clean counted.clean is))
               ∙ sym (map-append below so_far.counted (root ∷ []));
           taken = subst (λ (rows : List Row). Takes rows old before new after)
-              (sym (ap (rows_of shown) (subtotals_more o [] ls l) ∙ flat_map-append (row_of shown) (all_subtotals o [] ls) (subtotals_beside o known l)))
-              (takes_then (rows_of shown (all_subtotals o [] ls)) (rows_of shown (subtotals_beside o known l)) old mid new before during after so_far.taken
-              (subst (λ w. Takes (rows_of shown (listed_all o w)) mid during new after) (weighed_same o files known so_far.remembered l) counts.takes.taken));
+              (sym (rows_more asked [] so_far.counted ls root l so_far.each))
+              (takes_then (all_rows asked [] so_far.counted ls) (rows_of root shown (subtotals_beside o known l)) old mid new before during after so_far.taken
+              (subst (λ w. Takes (rows_of root shown (listed_all o w)) mid during new after) (weighed_same o files known so_far.remembered l) counts.takes.taken));
           tells =
               ap₂ (λ (a b : Bool). a && b) so_far.tells (counts.takes.tells ∙ ap (λ w. list_all is_clean (listed_all o w)) (weighed_same o files known so_far.remembered l))
               ∙ sym (ap (list_all is_clean) (subtotals_more o [] ls l) ∙ all_seam is_clean (all_subtotals o [] ls) (subtotals_beside o known l));
@@ -156,13 +168,13 @@ module _ (fixed : Type 0) (below : List ℕ → List (Item Worth Worth)) (asked 
         }
 
     -- a root that is left out unless it is the first
-    later_root : (n : ℕ) → i ≡ n → (new : Results) (after : Option (List ℕ)) (counted : Counted) → (i ≡ 0 → CountsBelow fixed (below (get_or roots i d).now) asked files mid during new after counted) → IsLeftOut files mid during new after counted
+    later_root : (n : ℕ) → i ≡ n → (new : Results) (after : Option (List ℕ)) (counted : Counted) → (i ≡ 0 → CountsBelow fixed (below (get_or roots i d).now) asked (get_or roots i d).now files mid during new after counted) → IsLeftOut files mid during new after counted
         → RootsSoFar (texts_of (take (i + 1) roots)) (files_of counted.files) new after (clean && counted.clean)
     later_root zero is new after counted first out = root_in new after counted (first is)
     later_root (suc n) is new after counted first out = root_out (omega (arith, is)) new after counted out
 
     -- one root more
-    pub one_root : (new : Results) (after : Option (List ℕ)) (counted : Counted) → (i ≡ 0 → CountsBelow fixed (below (get_or roots i d).now) asked files mid during new after counted) → CountsRoot fixed (below (get_or roots i d).now) asked files mid during new after counted
+    pub one_root : (new : Results) (after : Option (List ℕ)) (counted : Counted) → (i ≡ 0 → CountsBelow fixed (below (get_or roots i d).now) asked (get_or roots i d).now files mid during new after counted) → CountsRoot fixed (below (get_or roots i d).now) asked (get_or roots i d).now files mid during new after counted
         → RootsSoFar (texts_of (take (i + 1) roots)) (files_of counted.files) new after (clean && counted.clean)
     one_root new after counted first (inl out) = later_root i refl new after counted first out
     one_root new after counted first (inr counts) = root_in new after counted counts

@@ -74,18 +74,19 @@ module _ {R E : Type 0} (a : Asked) where
   clean_taken = told_taken (list_all is_clean) (λ (b c : Bool). b && c) (all_seam is_clean) one_clean
 
   -- nor is it written
-  rows_by : (all root dir failed deep wide : Bool) (e : Entry R E) (t : Subtotal) → is_shown (shown_asked a) e ≡ (wide && (all || (root || dir)))
-      → rows_of (shown_asked a) (shown (if deep && (all || (root || (dir || failed))) then Some e else None) t) ≡ rows_of (shown_asked a) (shown (if deep && true then Some e else None) t)
-  rows_by all root dir failed false wide e t is = refl
-  rows_by true root dir failed true wide e t is = refl
-  rows_by false true dir failed true wide e t is = refl
-  rows_by false false true failed true wide e t is = refl
-  rows_by false false false true true wide e t is = refl
-  rows_by false false false false true true e t is = sym (ap (λ (b : Bool). (if b then row e t ∷ [] else []) ++ []) is)
-  rows_by false false false false true false e t is = sym (ap (λ (b : Bool). (if b then row e t ∷ [] else []) ++ []) is)
+  module _ (name : List ℕ) where
+    rows_by : (all root dir failed deep wide : Bool) (e : Entry R E) (t : Subtotal) → is_shown (shown_asked a) e ≡ (wide && (all || (root || dir)))
+        → rows_of name (shown_asked a) (shown (if deep && (all || (root || (dir || failed))) then Some e else None) t) ≡ rows_of name (shown_asked a) (shown (if deep && true then Some e else None) t)
+    rows_by all root dir failed false wide e t is = refl
+    rows_by true root dir failed true wide e t is = refl
+    rows_by false true dir failed true wide e t is = refl
+    rows_by false false true failed true wide e t is = refl
+    rows_by false false false true true wide e t is = refl
+    rows_by false false false false true true e t is = sym (ap (λ (b : Bool). (if b then row name e t ∷ [] else []) ++ []) is)
+    rows_by false false false false true false e t is = sym (ap (λ (b : Bool). (if b then row name e t ∷ [] else []) ++ []) is)
 
-  one_row : (e : Entry R E) (t : Subtotal) → rows_of (shown_asked a) (shown (asked (subtotals_taken a) e) t) ≡ rows_of (shown_asked a) (shown (asked (subtotals_asked a) e) t)
-  one_row e t = rows_by a.all (e.depth == 0) (is_dir e.file_type) (has_failed e.read_children) (nat_le e.depth (subtotals_asked a).max_depth) (nat_le e.depth (shown_asked a).greatest) e t refl
+    one_row : (e : Entry R E) (t : Subtotal) → rows_of name (shown_asked a) (shown (asked (subtotals_taken a) e) t) ≡ rows_of name (shown_asked a) (shown (asked (subtotals_asked a) e) t)
+    one_row e t = rows_by a.all (e.depth == 0) (is_dir e.file_type) (has_failed e.read_children) (nat_le e.depth (subtotals_asked a).max_depth) (nat_le e.depth (shown_asked a).greatest) e t refl
 
-  pub rows_taken : (files : List Identity) (l : List (Item R E)) → rows_of (shown_asked a) (subtotals_beside (subtotals_taken a) files l) ≡ rows_of (shown_asked a) (subtotals_beside (subtotals_asked a) files l)
-  rows_taken = told_taken (rows_of (shown_asked a)) (λ (xs ys : List Row). xs ++ ys) (flat_map-append (row_of (shown_asked a))) one_row
+    pub rows_taken : (files : List Identity) (l : List (Item R E)) → rows_of name (shown_asked a) (subtotals_beside (subtotals_taken a) files l) ≡ rows_of name (shown_asked a) (subtotals_beside (subtotals_asked a) files l)
+    rows_taken = told_taken (rows_of name (shown_asked a)) (λ (xs ys : List Row). xs ++ ys) (flat_map-append (row_of name (shown_asked a))) one_row

@@ -45,12 +45,12 @@ use Rattle.tally_run.specs.declared.shown.Shown.{Shown}
 use Rattle.tally_run.proofs.CountingFacts.{answers_ok}
 use Rattle.tally_run.proofs.TakenFacts.{clean_taken, files_taken, rows_taken}
 
-module _ {R E V W : Type 0} (view : R → V) (mark : E → W) (shown : Shown) where
-  row_same : (y : Yielded R E) → row_of shown (yielded_by view mark y) ≡ row_of shown y
+module _ {R E V W : Type 0} (view : R → V) (mark : E → W) (root : List ℕ) (shown : Shown) where
+  row_same : (y : Yielded R E) → row_of root shown (yielded_by view mark y) ≡ row_of root shown y
   row_same (Ok (e, t)) = refl
   row_same (Err f) = refl
 
-  rows_same : (ys : List (Yielded R E)) → rows_of shown (map (yielded_by view mark) ys) ≡ rows_of shown ys
+  rows_same : (ys : List (Yielded R E)) → rows_of root shown (map (yielded_by view mark) ys) ≡ rows_of root shown ys
   rows_same [] = refl
   rows_same (y ∷ ys) = ap₂ (λ (a b : List Row). a ++ b) (row_same y) (rows_same ys)
 
@@ -64,10 +64,10 @@ module _ {R E V W : Type 0} (view : R → V) (mark : E → W) (shown : Shown) wh
   all_clean (y ∷ ys) = ap₂ (λ (a b : Bool). a && b) (one_clean y) (all_clean ys)
 
 -- what is counted of a walk is counted of what it yields by value
-pub below_counted : {C S P A W L R E : Type 0} (files : FileSystem.Ghosts S) (process : ProcessReadDir.Ghosts P C A R E) (clone : Clone.Ghosts R) (defaults : Default.Ghosts E) (calls : CallsOf C S P A L R E) (walk : WalkDirGeneric C S P A W R E) (given : Given R E) (fixed : Type 0) (below : List (Item Worth Worth)) (asked : Asked) (known : List Identity) (old new : Results) (before after : Option (List ℕ)) (counted : Counted)
+pub below_counted : {C S P A W L R E : Type 0} (files : FileSystem.Ghosts S) (process : ProcessReadDir.Ghosts P C A R E) (clone : Clone.Ghosts R) (defaults : Default.Ghosts E) (calls : CallsOf C S P A L R E) (walk : WalkDirGeneric C S P A W R E) (given : Given R E) (fixed : Type 0) (below : List (Item Worth Worth)) (asked : Asked) (root : List ℕ) (known : List Identity) (old new : Results) (before after : Option (List ℕ)) (counted : Counted)
     → (fixed → IsSteady files process clone defaults (file_system_of walk) (callback_of walk) given) → (fixed → whole_walk (job_for files given walk) (root_of walk) (given.read_dir_state (state_of walk)) ≡ below)
-    → CountsWalk files process clone defaults calls walk asked known old before new after counted → CountsBelow fixed below asked known old before new after counted
-below_counted files process clone defaults calls walk given fixed below asked known old new before after counted steady is counts =
+    → CountsWalk files process clone defaults calls walk asked root known old before new after counted → CountsBelow fixed below asked root known old before new after counted
+below_counted files process clone defaults calls walk given fixed below asked root known old new before after counted steady is counts =
     let o = subtotals_asked asked in
     let shown = shown_asked asked in
     record {
@@ -75,18 +75,18 @@ below_counted files process clone defaults calls walk given fixed below asked kn
       whole = λ always clean. counts.whole clean given (steady always) ∙ is always;
       takes = record {
         taken = subst (λ (rows : List Row). Takes rows old before new after)
-            (sym (ap (rows_of shown) (subtotals_same given.read_dir_state given.dir_entry_state o known counts.answered) ∙ rows_same given.read_dir_state given.dir_entry_state shown (subtotals_beside o known counts.answered)))
+            (sym (ap (rows_of root shown) (subtotals_same given.read_dir_state given.dir_entry_state o known counts.answered) ∙ rows_same given.read_dir_state given.dir_entry_state root shown (subtotals_beside o known counts.answered)))
             counts.takes.taken;
         tells =
             counts.takes.tells
-            ∙ sym (ap (list_all is_clean) (subtotals_same given.read_dir_state given.dir_entry_state o known counts.answered) ∙ all_clean given.read_dir_state given.dir_entry_state shown (subtotals_beside o known counts.answered));
+            ∙ sym (ap (list_all is_clean) (subtotals_same given.read_dir_state given.dir_entry_state o known counts.answered) ∙ all_clean given.read_dir_state given.dir_entry_state root shown (subtotals_beside o known counts.answered));
         remembered = λ i. counts.takes.remembered i ∙ ap (λ (l : List Identity). is_among l i) (sym (files_same given.read_dir_state given.dir_entry_state o known counts.answered));
       };
     }
 
 -- So it is of what is known otherwise.
-pub below_as : {fixed fixed' : Type 0} {below below' : List (Item Worth Worth)} {asked : Asked} {known : List Identity} {old new : Results} {before after : Option (List ℕ)} {counted : Counted}
-    → (fixed → fixed') → below' ≡ below → CountsBelow fixed' below' asked known old before new after counted → CountsBelow fixed below asked known old before new after counted
+pub below_as : {fixed fixed' : Type 0} {below below' : List (Item Worth Worth)} {asked : Asked} {root : List ℕ} {known : List Identity} {old new : Results} {before after : Option (List ℕ)} {counted : Counted}
+    → (fixed → fixed') → below' ≡ below → CountsBelow fixed' below' asked root known old before new after counted → CountsBelow fixed below asked root known old before new after counted
 below_as always is counts = record {
   answered = counts.answered;
   whole = λ fixed clean. counts.whole (always fixed) clean ∙ is;
@@ -101,11 +101,11 @@ pub all_counted : (fs : Functions) (texts : Texts) (asked : Asked) (root : List 
 all_counted fs texts asked root is = ap (λ (b : Bool). if b then kept_below fs texts asked root else all_below fs asked root) (sym is)
 
 -- what is taken of the subtotals of answers, from the beginning until the end, is counted of them
-pub answers_counted : {C A I R E : Type 0} (next : I → Option (Result (DirEntry C A R E) (Error A)) → I → Type 0) (answers : I) (asked : Asked) (known : List Identity) (old new : Results) (before after : Option (List ℕ)) (counted : Counted) (start end : Subtotals C A I R E) (shown : Shown)
+pub answers_counted : {C A I R E : Type 0} (next : I → Option (Result (DirEntry C A R E) (Error A)) → I → Type 0) (answers : I) (asked : Asked) (root : List ℕ) (known : List Identity) (old new : Results) (before after : Option (List ℕ)) (counted : Counted) (start end : Subtotals C A I R E) (shown : Shown)
     → IsFreshBeside known start → answers_of start ≡ answers → options_of start ≡ subtotals_taken asked → shown ≡ shown_asked asked
-    → TakesAll (Gives next) shown start end old before new after counted.clean → HaveSame (files_of counted.files) (held end).files
-    → CountsAnswers next answers asked known old before new after counted
-answers_counted next answers asked known old new before after counted start end shown fresh same options shown_is took remembered =
+    → TakesAll (Gives next) root shown start end old before new after counted.clean → HaveSame (files_of counted.files) (held end).files
+    → CountsAnswers next answers asked root known old before new after counted
+answers_counted next answers asked root known old new before after counted start end shown fresh same options shown_is took remembered =
     let all = all_yielded_beside next known start end took.yielded fresh took.calls took.goes_on in
     let xs = all.0 in
     let told : subtotals_beside (subtotals_taken asked) known (map item xs) ≡ flat_map value took.yielded = ap (λ s. subtotals_beside s known (map item xs)) (sym options) ∙ all.2 in
@@ -113,7 +113,7 @@ answers_counted next answers asked known old new before after counted start end 
       yielded = xs;
       drains = subst (λ i. Drains next i xs) same all.1;
       takes = record {
-        taken = subst (λ (rows : List Row). Takes rows old before new after) (ap₂ (λ s l. rows_of s l) shown_is (sym told) ∙ rows_taken asked known (map item xs)) took.taken;
+        taken = subst (λ (rows : List Row). Takes rows old before new after) (ap₂ (λ s l. rows_of root s l) shown_is (sym told) ∙ rows_taken asked root known (map item xs)) took.taken;
         tells = took.tells ∙ ap (list_all is_clean) (sym told) ∙ clean_taken asked known (map item xs);
         remembered = λ i. remembered i ∙ all.3 i ∙ ap (λ s. is_among (files_after s known (map item xs)) i) options ∙ ap (λ files. is_among files i) (files_taken asked known (map item xs));
       };
@@ -121,11 +121,11 @@ answers_counted next answers asked known old new before after counted start end 
 
 module _ {C S P A W L R E : Type 0} (files : FileSystem.Ghosts S) (process : ProcessReadDir.Ghosts P C A R E) (clone : Clone.Ghosts R) (defaults : Default.Ghosts E) (readers : Readers.Ghosts L C S P A R E) (walk : WalkDirGeneric C S P A W R E) (it : DirEntryIter C S P A L R E) where
   -- what is counted of the answers of a walk is counted of the walk
-  pub walk_counted : (asked : Asked) (known : List Identity) (old new : Results) (before after : Option (List ℕ)) (counted : Counted) (why_not : Option NotStarted)
+  pub walk_counted : (asked : Asked) (root : List ℕ) (known : List Identity) (old new : Results) (before after : Option (List ℕ)) (counted : Counted) (why_not : Option NotStarted)
       → Starts walk it → HoldsUnless files process clone defaults why_not walk it → StartsSteady files process clone defaults readers it
-      → CountsAnswers (Answers files process clone defaults readers) it asked known old before new after counted
-      → CountsWalk files process clone defaults (Answers files process clone defaults readers) walk asked known old before new after counted
-  walk_counted asked known old new before after counted why_not starts holds steadily counts =
+      → CountsAnswers (Answers files process clone defaults readers) it asked root known old before new after counted
+      → CountsWalk files process clone defaults (Answers files process clone defaults readers) walk asked root known old before new after counted
+  walk_counted asked root known old new before after counted why_not starts holds steadily counts =
       let xs = counts.yielded in
       record {
         answered = map item xs;

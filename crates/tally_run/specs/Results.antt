@@ -2,7 +2,6 @@
 use Rattle.std.specs.Prelude.{◌≡◌, ℕ, nat_lt, List, [], ◌∷◌, flat_map, Option, Ok, Err, if◌then◌else◌}
 use Rattle.std.specs.Io.KnownBytes.{Appends, append_known}
 use Rattle.jwalk.specs.jwalk_model.Entry.{Entry}
-use Rattle.jwalk.specs.jwalk_model.Paths.{join}
 use Rattle.jwalk_subtotals.specs.Subtotals.{Yielded}
 use Rattle.jwalk_subtotals.specs.declared.subtotal.Subtotal.{Subtotal}
 use Rattle.program_parts.specs.declared.paths.Style.{Style}
@@ -25,18 +24,25 @@ pub record Row : Type 0 where
   pub subtotal : Subtotal
 
 module _ {R E : Type 0} where
-  -- the result of an entry
-  abbrev pub row : Entry R E → Subtotal → Row
-  row e t = record { depth = e.depth; folder = e.parent_path; name = e.file_name; subtotal = t }
+  -- the folder and the name that are written of an entry: a root is written as it was named
+  abbrev pub folder_shown : Entry R E → List ℕ
+  folder_shown e = if nat_lt 0 e.depth then e.parent_path else []
+
+  abbrev pub name_shown : List ℕ → Entry R E → List ℕ
+  name_shown root e = if nat_lt 0 e.depth then e.file_name else root
+
+  -- the result of an entry, at or below a root
+  abbrev pub row : List ℕ → Entry R E → Subtotal → Row
+  row root e t = record { depth = e.depth; folder = folder_shown e; name = name_shown root e; subtotal = t }
 
   -- the result of what is yielded, if it is written
-  abbrev pub row_of : Shown → Yielded R E → List Row
-  row_of shown (Ok (e, t)) = if is_shown shown e then row e t ∷ [] else []
-  row_of shown (Err f) = []
+  abbrev pub row_of : List ℕ → Shown → Yielded R E → List Row
+  row_of root shown (Ok (e, t)) = if is_shown shown e then row root e t ∷ [] else []
+  row_of root shown (Err f) = []
 
   -- the results that are written of what is yielded
-  abbrev pub rows_of : Shown → List (Yielded R E) → List Row
-  rows_of shown = flat_map (row_of shown)
+  abbrev pub rows_of : List ℕ → Shown → List (Yielded R E) → List Row
+  rows_of root shown = flat_map (row_of root shown)
 
 -- the line of a result
 abbrev pub row_line : Scale → Style → Row → List ℕ
@@ -45,10 +51,6 @@ row_line scale style r = line_of scale style r.subtotal.bytes r.folder r.name
 -- the lines of results
 abbrev pub lines_text : Scale → Style → List Row → List ℕ
 lines_text scale style = flat_map (row_line scale style)
-
--- the name of a result in a tree: of a root its path
-abbrev pub tree_name : Row → List ℕ
-tree_name r = if nat_lt 0 r.depth then r.name else join r.folder r.name
 
 -- a subtotal, as trees have it
 abbrev pub numbers_of : Subtotal → Numbers
@@ -66,7 +68,7 @@ numbers_of t = record {
 abbrev pub ArePushed : Option ℕ → List Row → List Node → List Node → Type 0
 ArePushed largest [] old new = new ≡ old
 ArePushed largest (r ∷ rows) old new =
-    (mid : List Node) × IsPushed largest r.depth (tree_name r) (numbers_of r.subtotal) old mid × ArePushed largest rows mid new
+    (mid : List Node) × IsPushed largest r.depth r.name (numbers_of r.subtotal) old mid × ArePushed largest rows mid new
 
 -- the bytes that aren't written yet
 abbrev pub gathered_of : Lines → List ℕ

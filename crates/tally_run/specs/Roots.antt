@@ -10,7 +10,7 @@ use Rattle.jwalk_subtotals.specs.Subtotals.{Yielded, subtotals_beside}
 use Rattle.jwalk_subtotals.specs.declared.options.SubtotalOptions.{SubtotalOptions}
 use Rattle.tally_words.specs.declared.asked.Asked.{Asked}
 use Rattle.tally_run.specs.Counting.{is_clean}
-use Rattle.tally_run.specs.Results.{Takes, rows_of}
+use Rattle.tally_run.specs.Results.{Row, Takes, rows_of}
 use Rattle.tally_run.specs.Shown.{shown_asked}
 use Rattle.tally_run.specs.Walks.{CountsBelow, subtotals_asked}
 use Rattle.tally_run.specs.declared.counting.Counted.{Counted}
@@ -26,6 +26,12 @@ module _ {R E : Type 0} where
   abbrev pub all_subtotals : SubtotalOptions → List Identity → List (List (Item R E)) → List (Yielded R E)
   all_subtotals options files [] = []
   all_subtotals options files (l ∷ ls) = subtotals_beside options files l ++ all_subtotals options (files_after options files l) ls
+
+  -- the results that are written of them, a root for each list
+  abbrev pub all_rows : Asked → List Identity → List (List ℕ) → List (List (Item R E)) → List Row
+  all_rows asked files (root ∷ roots) (l ∷ ls) =
+      rows_of root (shown_asked asked) (subtotals_beside (subtotals_asked asked) files l) ++ all_rows asked (files_after (subtotals_asked asked) files l) roots ls
+  all_rows asked files _ _ = []
 
 -- The second list is the first, but for some that are left out.
 abbrev pub LeavesOut : {X : Type 0} → List X → List X → Type 0
@@ -45,16 +51,16 @@ pub record IsLeftOut (known : List Identity) (old : Results) (before : Option (L
   pub without_error : counted.clean ≡ true
 
 -- What is below a root is counted, or it is left out.
-abbrev pub CountsRoot : Type 0 → List (Item Worth Worth) → Asked → List Identity → Results → Option (List ℕ) → Results → Option (List ℕ) → Counted → Type 0
-CountsRoot fixed below asked known old before new after counted =
-    IsLeftOut known old before new after counted ⊎ CountsBelow fixed below asked known old before new after counted
+abbrev pub CountsRoot : Type 0 → List (Item Worth Worth) → Asked → List ℕ → List Identity → Results → Option (List ℕ) → Results → Option (List ℕ) → Counted → Type 0
+CountsRoot fixed below asked root known old before new after counted =
+    IsLeftOut known old before new after counted ⊎ CountsBelow fixed below asked root known old before new after counted
 
--- The roots are counted, but for those behind the first that are left out. What is written of the subtotals of answers, a list for each root that is counted, is taken, of all in one. It is known whether one has an error. If none has, and what is gone over always answers the same, the lists are the whole walks below the roots.
+-- The roots are counted, but for those behind the first that are left out. What is written of the subtotals of answers, a list for each root that is counted, is taken, of all in one, with each root as it was named. It is known whether one has an error. If none has, and what is gone over always answers the same, the lists are the whole walks below the roots.
 pub record CountsRoots (fixed : Type 0) (below : List ℕ → List (Item Worth Worth)) (asked : Asked) (roots : List (List ℕ)) (old : Results) (before : Option (List ℕ)) (new : Results) (after : Option (List ℕ)) (clean : Bool) : Type 0 where
   pub counted : List (List ℕ)
   pub among : KeepsFirst roots counted
   pub answered : List (List (Item Worth Worth))
   pub each : length answered ≡ length counted
   pub whole : fixed → clean ≡ true → answered ≡ map below counted
-  pub taken : Takes (rows_of (shown_asked asked) (all_subtotals (subtotals_asked asked) [] answered)) old before new after
+  pub taken : Takes (all_rows asked [] counted answered) old before new after
   pub tells : clean ≡ list_all is_clean (all_subtotals (subtotals_asked asked) [] answered)

@@ -13,9 +13,7 @@ use Rattle.tally_words.specs.AsksFor.{AskFor}
 use Rattle.tally_words.specs.Refusal.{IsRefusedFor}
 use Rattle.tally_words.specs.declared.asked.Asked.{Asked}
 use Rattle.tally_run.specs.Counting.{is_clean}
-use Rattle.tally_run.specs.Results.{rows_of}
-use Rattle.tally_run.specs.Roots.{KeepsFirst, all_subtotals}
-use Rattle.tally_run.specs.Shown.{shown_asked}
+use Rattle.tally_run.specs.Roots.{KeepsFirst, all_rows, all_subtotals}
 use Rattle.tally_run.specs.Walks.{counted_below, subtotals_asked}
 use Rattle.tally_run.specs.Written.{Writes}
 use Rattle.tally_run.specs.declared.screen.Screen.{Screen}
@@ -35,7 +33,7 @@ Ends words status = ((asked : Asked) × AskFor words asked × (status ≤ 1)) �
 abbrev pub roots_asked : Asked → List (List ℕ)
 roots_asked asked = if length asked.roots.items == 0 then dot ∷ [] else texts_of asked.roots.items
 
--- What is asked for is written of the roots that are counted, the first and all that aren't left out: the subtotals of answers, a list for each of these roots, where a file of several names counts once in all, unless each name is to count. None has an error. If what is gone over always answers the same, the lists are the whole walks below the roots.
+-- What is asked for is written of the roots that are counted, the first and all that aren't left out: the subtotals of answers, a list for each of these roots, where a file of several names counts once in all, unless each name is to count, and each root is written as it was named. None has an error. If what is gone over always answers the same, the lists are the whole walks below the roots.
 pub record WritesAsked (fixed : Type 0) (fs : Functions) (texts : Texts) (screen : Screen) (asked : Asked) (before after : Option (List ℕ)) : Type 0 where
   pub counted : List (List ℕ)
   pub among : KeepsFirst (roots_asked asked) counted
@@ -43,7 +41,7 @@ pub record WritesAsked (fixed : Type 0) (fs : Functions) (texts : Texts) (screen
   pub each : length answered ≡ length counted
   pub whole : fixed → answered ≡ map (counted_below fs texts asked) counted
   pub clean : list_all is_clean (all_subtotals (subtotals_asked asked) [] answered) ≡ true
-  pub written : Writes asked screen (rows_of (shown_asked asked) (all_subtotals (subtotals_asked asked) [] answered)) before after
+  pub written : Writes asked screen (all_rows asked [] counted answered) before after
 
 -- The words ask for something to be counted, and what is asked for is written.
 abbrev pub Counts : Type 0 → Functions → Texts → Screen → List (List ℕ) → Option (List ℕ) → Option (List ℕ) → Type 0

@@ -79,17 +79,17 @@ kept_below fs texts asked root = ignoring_walk fs texts (settings_asked asked) (
 abbrev pub counted_below : Functions → Texts → Asked → List ℕ → List (Item Worth Worth)
 counted_below fs texts asked root = if asked.ignore then kept_below fs texts asked root else all_below fs asked root
 
--- What is written of the subtotals of answers is taken, beside the files that were counted before. It is known whether one has an error, and which files are counted now.
-pub record TakesSubtotals {R E : Type 0} (asked : Asked) (known : List Identity) (answered : List (Item R E)) (old : Results) (before : Option (List ℕ)) (new : Results) (after : Option (List ℕ)) (counted : Counted) : Type 0 where
-  pub taken : Takes (rows_of (shown_asked asked) (subtotals_beside (subtotals_asked asked) known answered)) old before new after
+-- What is written of the subtotals of answers below a root is taken, beside the files that were counted before. It is known whether one has an error, and which files are counted now.
+pub record TakesSubtotals {R E : Type 0} (asked : Asked) (root : List ℕ) (known : List Identity) (answered : List (Item R E)) (old : Results) (before : Option (List ℕ)) (new : Results) (after : Option (List ℕ)) (counted : Counted) : Type 0 where
+  pub taken : Takes (rows_of root (shown_asked asked) (subtotals_beside (subtotals_asked asked) known answered)) old before new after
   pub tells : counted.clean ≡ list_all is_clean (subtotals_beside (subtotals_asked asked) known answered)
   pub remembered : HaveSame (files_of counted.files) (files_after (subtotals_asked asked) known answered)
 
 -- An iterator yielded answers until its end, and these are counted.
-pub record CountsAnswers {C A I R E : Type 0} (next : I → Option (Result (DirEntry C A R E) (Error A)) → I → Type 0) (answers : I) (asked : Asked) (known : List Identity) (old : Results) (before : Option (List ℕ)) (new : Results) (after : Option (List ℕ)) (counted : Counted) : Type 0 where
+pub record CountsAnswers {C A I R E : Type 0} (next : I → Option (Result (DirEntry C A R E) (Error A)) → I → Type 0) (answers : I) (asked : Asked) (root : List ℕ) (known : List Identity) (old : Results) (before : Option (List ℕ)) (new : Results) (after : Option (List ℕ)) (counted : Counted) : Type 0 where
   pub yielded : List (Result (DirEntry C A R E) (Error A))
   pub drains : Drains next answers yielded
-  pub takes : TakesSubtotals asked known (map item yielded) old before new after counted
+  pub takes : TakesSubtotals asked root known (map item yielded) old before new after counted
 
 -- A walk was begun and yielded these answers until its end.
 abbrev pub WalkYields : {C S P A W L R E : Type 0} → CallsOf C S P A L R E → WalkDirGeneric C S P A W R E → List (Item R E) → Type 0
@@ -97,15 +97,15 @@ WalkYields {C} {S} {P} {A} {W} {L} {R} {E} calls walk answered =
     (it : DirEntryIter C S P A L R E) × Starts walk it × (yielded : List (Result (DirEntry C A R E) (Error A))) × Drains calls it yielded × (map item yielded ≡ answered)
 
 -- A walk yielded answers until its end, and these are counted. If none has an error, and what the walk goes over always answers the same, the answers are the whole walk.
-pub record CountsWalk {C S P A W L R E : Type 0} (files : FileSystem.Ghosts S) (process : ProcessReadDir.Ghosts P C A R E) (clone : Clone.Ghosts R) (defaults : Default.Ghosts E) (calls : CallsOf C S P A L R E) (walk : WalkDirGeneric C S P A W R E) (asked : Asked) (known : List Identity) (old : Results) (before : Option (List ℕ)) (new : Results) (after : Option (List ℕ)) (counted : Counted) : Type 0 where
+pub record CountsWalk {C S P A W L R E : Type 0} (files : FileSystem.Ghosts S) (process : ProcessReadDir.Ghosts P C A R E) (clone : Clone.Ghosts R) (defaults : Default.Ghosts E) (calls : CallsOf C S P A L R E) (walk : WalkDirGeneric C S P A W R E) (asked : Asked) (root : List ℕ) (known : List Identity) (old : Results) (before : Option (List ℕ)) (new : Results) (after : Option (List ℕ)) (counted : Counted) : Type 0 where
   pub answered : List (Item R E)
   pub walked : WalkYields calls walk answered
   pub whole : counted.clean ≡ true → (given : Given R E) → IsSteady files process clone defaults (file_system_of walk) (callback_of walk) given
       → map (counted_item given) answered ≡ whole_walk (job_for files given walk) (root_of walk) (given.read_dir_state (state_of walk))
-  pub takes : TakesSubtotals asked known answered old before new after counted
+  pub takes : TakesSubtotals asked root known answered old before new after counted
 
 -- Answers are counted. If none has an error, and what the walk goes over always answers the same, they are all that is below a root, by value.
-pub record CountsBelow (fixed : Type 0) (below : List (Item Worth Worth)) (asked : Asked) (known : List Identity) (old : Results) (before : Option (List ℕ)) (new : Results) (after : Option (List ℕ)) (counted : Counted) : Type 0 where
+pub record CountsBelow (fixed : Type 0) (below : List (Item Worth Worth)) (asked : Asked) (root : List ℕ) (known : List Identity) (old : Results) (before : Option (List ℕ)) (new : Results) (after : Option (List ℕ)) (counted : Counted) : Type 0 where
   pub answered : List (Item Worth Worth)
   pub whole : fixed → counted.clean ≡ true → answered ≡ below
-  pub takes : TakesSubtotals asked known answered old before new after counted
+  pub takes : TakesSubtotals asked root known answered old before new after counted

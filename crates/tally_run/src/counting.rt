@@ -65,13 +65,14 @@ fn take_error<A: Allocator + Copy, E: Write>(
 fn take_found<C: ClientState, A: Allocator + Copy, W: Write, E: Report>(
     alloc: Global,
     screen: Screen,
+    root: &str,
     found: &WithSubtotal<C, A>,
     shown: Shown,
     results: &mut Results,
     out: &mut W,
     err: &mut E,
 ) -> Result<bool, Failure>
-    ensures taken { OnOk result (Takes (rows_of shown (value (Ok found.now))) results.old (W.contents out.old)
+    ensures taken { OnOk result (Takes (rows_of root.now shown (value (Ok found.now))) results.old (W.contents out.old)
         results.new (W.contents out.new)) }
     ensures clean { IfOk result (λ clean. clean ≡ list_all is_clean (value (Ok found.now))) }
 {
@@ -79,7 +80,7 @@ fn take_found<C: ClientState, A: Allocator + Copy, W: Write, E: Report>(
         err.finish(&found.subtotal);
     }
     if shown.has(&found.entry) {
-        results.take(alloc, found, out)?;
+        results.take(alloc, root, found, out)?;
     }
     Ok(report_entry(alloc, screen.shows_errors, &found.entry, err)?)
 }
@@ -88,19 +89,20 @@ fn take_found<C: ClientState, A: Allocator + Copy, W: Write, E: Report>(
 fn take_one<C: ClientState, A: Allocator + Copy, W: Write, E: Report>(
     alloc: Global,
     screen: Screen,
+    root: &str,
     yielded: Result<WithSubtotal<C, A>, SubtotalError<A>>,
     shown: Shown,
     results: &mut Results,
     out: &mut W,
     err: &mut E,
 ) -> Result<bool, Failure>
-    ensures taken { OnOk result (Takes (rows_of shown (value yielded)) results.old (W.contents out.old)
+    ensures taken { OnOk result (Takes (rows_of root.now shown (value yielded)) results.old (W.contents out.old)
         results.new (W.contents out.new)) }
     ensures goes_on { OnOk result (ends_with yielded ≡ false) }
     ensures clean { IfOk result (λ clean. clean ≡ list_all is_clean (value yielded)) }
 {
     match yielded {
-        Ok(found) => take_found(alloc, screen, &found, shown, results, out, err),
+        Ok(found) => take_found(alloc, screen, root, &found, shown, results, out, err),
         Err(error) => {
             take_error(alloc, screen, error, err)?;
             Ok(false)
@@ -132,6 +134,7 @@ fn take_all<
 >(
     alloc: Global,
     screen: Screen,
+    root: &str,
     subtotals: &mut Subtotals<C, A, I>,
     shown: Shown,
     results: &mut Results,
@@ -139,12 +142,12 @@ fn take_all<
     err: &mut E,
 ) -> Result<bool, Failure>
     requires { CanGoOn I.can_next I.remaining subtotals.old }
-    ensures { IfOk result (TakesAll (Gives I.next_gives) shown subtotals.old subtotals.new results.old (W.contents out.old)
+    ensures { IfOk result (TakesAll (Gives I.next_gives) root.now shown subtotals.old subtotals.new results.old (W.contents out.old)
         results.new (W.contents out.new)) }
 {
     let mut clean = true;
     while let Some(yielded) = subtotals.next() {
-        clean &= take_one(alloc, screen, yielded, shown, results, out, err)?;
+        clean &= take_one(alloc, screen, root, yielded, shown, results, out, err)?;
         tell(subtotals, err);
     }
     Ok(clean)
@@ -171,6 +174,7 @@ fn count_answers<
 >(
     alloc: Global,
     screen: Screen,
+    root: &str,
     answers: I,
     files: Files<Global>,
     asked: &Asked<'_>,
@@ -180,13 +184,14 @@ fn count_answers<
 ) -> Result<Counted, Failure>
     requires can { I.can_next answers }
     requires ends { IsFinite (I.remaining answers) }
-    ensures { IfOk result (CountsAnswers I.next_gives answers asked.now (files_of files) results.old (W.contents out.old)
+    ensures { IfOk result (CountsAnswers I.next_gives answers asked.now root.now (files_of files) results.old (W.contents out.old)
         results.new (W.contents out.new)) }
 {
     let mut subtotals = subtotals_beside(alloc, files, answers, options_of(asked));
     let clean = take_all(
         alloc,
         screen,
+        root,
         &mut subtotals,
         Shown::of(asked),
         results,
@@ -210,6 +215,7 @@ pub(crate) fn count_walk<
 >(
     alloc: Global,
     screen: Screen,
+    root: &str,
     walk: WalkDirGeneric<C, S, P, Global, Crew<T>>,
     files: Files<Global>,
     asked: &Asked<'_>,
@@ -222,9 +228,9 @@ where
     C::DirEntryState: Send + 'static,
     requires { P.IsLawful (callback_of walk) }
     ensures { IfOk result (CountsWalk S.FileSystem P.ProcessReadDir C.ReadDirState.Clone C.DirEntryState.Default
-        ⟦<CrewWalk<T, C, S, P> as Iterator>⟧.next_gives walk asked.now (files_of files)
+        ⟦<CrewWalk<T, C, S, P> as Iterator>⟧.next_gives walk asked.now root.now (files_of files)
         results.old (W.contents out.old) results.new (W.contents out.new)) }
 {
     let answers = walk.into_iter();
-    count_answers(alloc, screen, answers, files, asked, results, out, err)
+    count_answers(alloc, screen, root, answers, files, asked, results, out, err)
 }

@@ -1,11 +1,11 @@
 //! What becomes of results: lines as they come, or trees for a table or a document.
-ghost use Rattle.std.specs.Prelude.{◌≡◌, ◌∷◌, [], string_bytes, IfOk, OnOk};
+ghost use Rattle.std.specs.Prelude.{◌≡◌, ◌∷◌, [], IfOk, OnOk};
 ghost use Rattle.std.specs.Io.KnownBytes.{Appends, append_known};
 ghost use Rattle.jwalk.specs.jwalk_job.Entry.{entry};
-ghost use Rattle.tally_run.specs.Results.{row, row_line, tree_name, numbers_of, Takes};
+ghost use Rattle.tally_run.specs.Results.{folder_shown, name_shown, row, row_line, numbers_of, Takes};
 
 use crate::failure::Failure;
-use jwalk::ClientState;
+use jwalk::{ClientState, DirEntry};
 use jwalk_subtotals::{Subtotal, WithSubtotal};
 use program_parts::gathered::Gathered;
 use program_parts::halt::Halt;
@@ -46,17 +46,28 @@ fn numbers_of(subtotal: &Subtotal) -> Numbers
     }
 }
 
-/// That of a root is its path, as it was given.
-fn name_of<C: ClientState, A: Allocator + Copy>(
-    alloc: Global,
-    found: &WithSubtotal<C, A>,
-) -> Result<String<Global>, AllocError>
-    ensures { IfOk result (λ name. string_bytes name ≡ tree_name (row (entry found.now.entry) found.now.subtotal)) }
+fn folder_shown<C: ClientState, A: Allocator + Copy>(found: &DirEntry<C, A>) -> &str
+    ensures { result.now ≡ folder_shown (entry found.now) }
 {
-    if found.entry.depth() > 0 {
-        return String::from_str(alloc, found.entry.file_name());
+    if found.depth() > 0 {
+        found.parent_path()
+    } else {
+        ""
     }
-    String::from_str(alloc, found.entry.path()?.as_str())
+}
+
+/// That of a root is the whole root, as it was named.
+fn name_shown<'a, C: ClientState, A: Allocator + Copy>(
+    root: &'a str,
+    found: &'a DirEntry<C, A>,
+) -> &'a str
+    ensures { result.now ≡ name_shown root.now (entry found.now) }
+{
+    if found.depth() > 0 {
+        found.file_name()
+    } else {
+        root
+    }
 }
 
 impl Lines {
@@ -76,16 +87,17 @@ impl Lines {
 
     fn print<C: ClientState, A: Allocator + Copy, W: Write>(
         &mut self,
+        root: &str,
         found: &WithSubtotal<C, A>,
         out: &mut W,
     ) -> Result<(), Failure>
         ensures printed { OnOk result (Appends (append_known (W.contents out.old) (gathered_of self.old))
             (append_known (W.contents out.new) (gathered_of self.new))
-            (row_line (scale_of self.old) (style_of self.old) (row (entry found.now.entry) found.now.subtotal))) }
+            (row_line (scale_of self.old) (style_of self.old) (row root.now (entry found.now.entry) found.now.subtotal))) }
         ensures scale { scale_of self.new ≡ scale_of self.old }
         ensures style { style_of self.new ≡ style_of self.old }
     {
-        let (folder, name) = (found.entry.parent_path(), found.entry.file_name());
+        let (folder, name) = (folder_shown(&found.entry), name_shown(root, &found.entry));
         let bytes = found.subtotal.bytes;
         let gathered = &mut self.gathered.bytes;
         push_line(self.scale, self.style, bytes, folder, name, gathered)?;
@@ -106,16 +118,17 @@ impl Results {
     pub(crate) fn take<C: ClientState, A: Allocator + Copy, W: Write>(
         &mut self,
         alloc: Global,
+        root: &str,
         found: &WithSubtotal<C, A>,
         out: &mut W,
     ) -> Result<(), Failure>
-        ensures { OnOk result (Takes (row (entry found.now.entry) found.now.subtotal ∷ [])
+        ensures { OnOk result (Takes (row root.now (entry found.now.entry) found.now.subtotal ∷ [])
             self.old (W.contents out.old) self.new (W.contents out.new)) }
     {
         match self {
-            Results::Lines(lines) => lines.print(found, out),
+            Results::Lines(lines) => lines.print(root, found, out),
             Results::Trees(nodes) => {
-                let name = name_of(alloc, found)?;
+                let name = String::from_str(alloc, name_shown(root, &found.entry))?;
                 nodes.push(found.entry.depth(), name, numbers_of(&found.subtotal))?;
                 Ok(())
             }

@@ -54,6 +54,7 @@ fn count_ruled<
 >(
     alloc: Global,
     screen: Screen,
+    root: &str,
     walk: Plain<T, S>,
     rules: IgnoreFiles<Arc<X>, Excluding>,
     files: Files<Global>,
@@ -67,11 +68,12 @@ fn count_ruled<
         × (rules_held (state_of walk) ≡ no_rules))
         (ignoring_walk (S.functions (arc_value (file_system_of walk))) (X.functions (arc_value (texts_of rules)))
         (settings_of rules) (excluded_of (next_of rules)) (options_of walk) (root_of walk))
-        asked.now (files_of files) results.old (W.contents out.old) results.new (W.contents out.new)) }
+        asked.now root.now (files_of files) results.old (W.contents out.old) results.new (W.contents out.new)) }
 {
     count_walk(
         alloc,
         screen,
+        root,
         with_ignore_files(walk, rules),
         files,
         asked,
@@ -148,17 +150,18 @@ impl<
     ) -> Result<Counted, Failure>
         ensures { IfOk result (CountsBelow (S.IsFixed (arc_value self.now.disk))
             (all_below (S.functions (arc_value self.now.disk)) self.now.asked.now root.now)
-            self.now.asked.now (files_of files)
+            self.now.asked.now root.now (files_of files)
             results.old (W.contents out.old) results.new (W.contents out.new)) }
     {
         let excluding = excluding_of(alloc, self.asked, root)?;
-        let root = String::from_str(alloc, root)?;
+        let below = String::from_str(alloc, root)?;
         let disk = self.disk.clone()?;
-        let walk = walk_below::<((), ()), _, _, _>(disk, root, self.options(), crew)?;
+        let walk = walk_below::<((), ()), _, _, _>(disk, below, self.options(), crew)?;
         let walk = walk.process_read_dir(excluding);
         count_walk(
             alloc,
             self.screen,
+            root,
             walk,
             files,
             self.asked,
@@ -180,7 +183,7 @@ impl<
     ) -> Result<Counted, Failure>
         ensures { IfOk result (CountsBelow (S.IsFixed (arc_value self.now.disk) × X.IsFixed (arc_value self.now.texts))
             (kept_below (S.functions (arc_value self.now.disk)) (X.functions (arc_value self.now.texts))
-            self.now.asked.now root.now) self.now.asked.now (files_of files)
+            self.now.asked.now root.now) self.now.asked.now root.now (files_of files)
             results.old (W.contents out.old) results.new (W.contents out.new)) }
     {
         let excluding = excluding_of(alloc, self.asked, root)?;
@@ -188,12 +191,13 @@ impl<
             .keep_hidden(!self.asked.exclude_hidden)
             .drop_errors(true)
             .then(excluding);
-        let root = String::from_str(alloc, root)?;
+        let below = String::from_str(alloc, root)?;
         let disk = self.disk.clone()?;
-        let walk = walk_below::<OnlyRules, _, _, _>(disk, root, self.options(), crew)?;
+        let walk = walk_below::<OnlyRules, _, _, _>(disk, below, self.options(), crew)?;
         count_ruled(
             alloc,
             self.screen,
+            root,
             walk,
             rules,
             files,
@@ -216,7 +220,7 @@ impl<
     ) -> Result<Counted, Failure>
         ensures { IfOk result (CountsBelow (S.IsFixed (arc_value self.now.disk) × X.IsFixed (arc_value self.now.texts))
             (counted_below (S.functions (arc_value self.now.disk)) (X.functions (arc_value self.now.texts))
-            self.now.asked.now root.now) self.now.asked.now (files_of files)
+            self.now.asked.now root.now) self.now.asked.now root.now (files_of files)
             results.old (W.contents out.old) results.new (W.contents out.new)) }
     {
         if self.asked.ignore {
@@ -239,11 +243,11 @@ impl<
     ) -> Result<Counted, Failure>
         ensures counts { IfOk result (CountsRoot (S.IsFixed (arc_value self.now.disk) × X.IsFixed (arc_value self.now.texts))
             (counted_below (S.functions (arc_value self.now.disk)) (X.functions (arc_value self.now.texts))
-            self.now.asked.now root.now) self.now.asked.now (files_of files)
+            self.now.asked.now root.now) self.now.asked.now root.now (files_of files)
             results.old (W.contents out.old) results.new (W.contents out.new)) }
         ensures first { length known.old.counted.items ≡ 0 → IfOk result (CountsBelow (S.IsFixed (arc_value self.now.disk) × X.IsFixed (arc_value self.now.texts))
             (counted_below (S.functions (arc_value self.now.disk)) (X.functions (arc_value self.now.texts))
-            self.now.asked.now root.now) self.now.asked.now (files_of files)
+            self.now.asked.now root.now) self.now.asked.now root.now (files_of files)
             results.old (W.contents out.old) results.new (W.contents out.new)) }
     {
         let no_crew = None;

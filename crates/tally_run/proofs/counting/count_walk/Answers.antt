@@ -11,5 +11,5 @@ pub returns : goal.returns
 returns g c =
     let begun = c.into_iter-answers.ensures in
     IfOk-weaker c.count_answers.result _ _
-    (λ counted counts. walk_counted _ _ _ _ _ c.args.walk c.into_iter-answers.result c.args.asked.now (files_of c.args.files) _ _ _ _ counted _ begun.starts begun.begins.1.holds begun.steady counts)
+    (λ counted counts. walk_counted _ _ _ _ _ c.args.walk c.into_iter-answers.result c.args.asked.now c.args.root.now (files_of c.args.files) _ _ _ _ counted _ begun.starts begun.begins.1.holds begun.steady counts)
     c.count_answers.ensures

@@ -26,10 +26,10 @@ returns g c =
     = ap excluded_of set.callback ∙ c.in_ok-excluding.ensures in
     let options : options_of walk ≡ with_crew (is_some c.args.crew.now) (options_asked asked)
     = set.options ∙ built.options ∙ ap (with_crew (is_some c.args.crew.now)) c.options.ensures in
-    let root : root_of walk ≡ c.args.root.now = set.root ∙ built.root ∙ c.in_ok-root.ensures.ok in
+    let root : root_of walk ≡ c.args.root.now = set.root ∙ built.root ∙ c.in_ok-below.ensures.ok in
     IfOk-weaker c.count_walk.result _ _
     (λ counted counts.
-    below_counted _ _ _ _ _ walk (given_excluding excluded) _ _ _ _ _ _ _ _ counted
+    below_counted _ _ _ _ _ walk (given_excluding excluded) _ _ _ _ _ _ _ _ _ counted
     (λ fixed. record {
       file_system = subst g.S.FileSystem.IsFixed (sym over) fixed;
       callback = λ depth path state list. ap (λ (x : Excluded). excluding x depth path state list) (sym lines);
