@@ -113,11 +113,47 @@ $ tally --plain -a -L -l -b --apparent /r
   7+{folders /r/d}	/r/l
   21+{folders /r}+{folders /r/d}	/r
 
-# a link to a directory above it
+# a root that is a link is what it leads to
+$ tally --plain -b --apparent /r/l
+  7+{folders /r/d}	/r/l
+$ tally --plain -b --apparent /r/l/
+  7+{folders /r/d}	/r/l/
+$ tally --plain -s -b --apparent -L /r/l
+  7+{folders /r/d}	/r/l
+$ tally --plain -b /r/l
+  {blocks /r/d}	/r/l
+$ tally --plain -b --apparent /r/k
+  7	/r/k
+
+# a link that leads nowhere or through a file is an error if links are followed
 tree
-  d /t
-  l .	/t/l
-$ tally -L --plain -b --apparent /t
-~ /t
-! tally: /t/l: a link that leads back to /t
+  d /r
+  f 7 /r/f
+  l none	/r/n
+  l f/x	/r/t
+$ tally --plain -a -b --apparent --sort /r
+  7	/r/f
+  4	/r/n
+  3	/r/t
+  14+{folders /r}	/r
+$ tally --plain -a -L --sort -b --apparent /r
+  7	/r/f
+  7+{folders /r}	/r
+! tally: /r/n: No such file or directory (os error 2)
+! tally: /r/t: Not a directory (os error 20)
+= 1
+$ tally --plain -s -b --apparent /r/n /r/t /r/f
+  7	/r/f
+! tally: /r/n: No such file or directory (os error 2)
+! tally: /r/t: Not a directory (os error 20)
+= 1
+
+# a link back to a directory above it is an error if links are followed
+tree
+  d /r/d
+  l ..	/r/d/up
+$ tally --plain -L -b --apparent /r
+  {folders /r/d}	/r/d
+  {folders /r}	/r
+! tally: /r/d/up: a link that leads back to /r
 = 1

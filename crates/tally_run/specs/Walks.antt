@@ -33,6 +33,7 @@ use Rattle.program_parts.specs.Values.{texts_of}
 use Rattle.program_walks.specs.Crew.{CallsOf}
 use Rattle.tally_words.specs.declared.asked.Asked.{Asked}
 use Rattle.tally_run.specs.Counting.{is_clean}
+use Rattle.tally_run.specs.FollowedRoot.{functions_from}
 use Rattle.tally_run.specs.Results.{Takes, rows_of}
 use Rattle.tally_run.specs.Shown.{shown_asked}
 use Rattle.tally_run.specs.declared.counting.Counted.{Counted}
@@ -67,13 +68,13 @@ excluded_asked asked root = record (excluded_by (texts_of asked.excludes.items) 
 abbrev pub settings_asked : Asked → Settings
 settings_asked asked = record first_settings { keeps_hidden = not asked.exclude_hidden; drops_errors = true }
 
--- all that a walk below a root yields, whatever ignore files say
+-- all that a walk below a root yields, whatever ignore files say. A root that is a link is what it leads to.
 abbrev pub all_below : Functions → Asked → List ℕ → List (Item Worth Worth)
-all_below fs asked root = whole_walk (job_with fs (options_asked asked) (excluding (excluded_asked asked root))) root blank
+all_below fs asked root = whole_walk (job_with (functions_from root fs) (options_asked asked) (excluding (excluded_asked asked root))) root blank
 
 -- what ignore files leave of it
 abbrev pub kept_below : Functions → Texts → Asked → List ℕ → List (Item Worth Worth)
-kept_below fs texts asked root = ignoring_walk fs texts (settings_asked asked) (excluded_asked asked root) (options_asked asked) root
+kept_below fs texts asked root = ignoring_walk (functions_from root fs) texts (settings_asked asked) (excluded_asked asked root) (options_asked asked) root
 
 -- all that is counted below a root
 abbrev pub counted_below : Functions → Texts → Asked → List ℕ → List (Item Worth Worth)

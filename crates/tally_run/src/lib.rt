@@ -3,6 +3,7 @@
 
 mod counting;
 mod failure;
+mod followed_root;
 mod progress;
 mod report;
 mod results;

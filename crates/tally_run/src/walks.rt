@@ -1,5 +1,5 @@
 //! The walks below roots.
-ghost use Rattle.std.specs.Prelude.{◌≡◌, length, IfOk};
+ghost use Rattle.std.specs.Prelude.{◌≡◌, length, string_bytes, IfOk};
 ghost use Rattle.std.specs.Arc.{arc_value};
 ghost use Rattle.jwalk.specs.jwalk_job.Options.{options_value};
 ghost use Rattle.jwalk.specs.WalkDir.{file_system_of, options_of, root_of, state_of};
@@ -16,6 +16,7 @@ ghost use Rattle.tally_run.specs.Walks.{all_below, counted_below, excluded_asked
 
 use crate::counting::{Counted, count_walk};
 use crate::failure::Failure;
+use crate::followed_root::FollowedRoot;
 use crate::progress::Report;
 use crate::report::report_root;
 use crate::results::Results;
@@ -138,6 +139,18 @@ impl<
             .with_keep_metadata(true)
     }
 
+    /// Returns the disk of the walk below a root.
+    fn disk_from(&self, alloc: Global, root: &str) -> Result<Arc<FollowedRoot<S>>, AllocError>
+        ensures disk { IfOk result (λ it. arc_value (arc_value it).disk ≡ arc_value self.now.disk) }
+        ensures root { IfOk result (λ it. string_bytes (arc_value it).root ≡ root.now) }
+    {
+        let from = FollowedRoot {
+            disk: self.disk.clone()?,
+            root: String::from_str(alloc, root)?,
+        };
+        Ok(Arc::new(alloc, from)?)
+    }
+
     fn count_all<W: Write, E: Report>(
         &self,
         alloc: Global,
@@ -155,7 +168,7 @@ impl<
     {
         let excluding = excluding_of(alloc, self.asked, root)?;
         let below = String::from_str(alloc, root)?;
-        let disk = self.disk.clone()?;
+        let disk = self.disk_from(alloc, root)?;
         let walk = walk_below::<((), ()), _, _, _>(disk, below, self.options(), crew)?;
         let walk = walk.process_read_dir(excluding);
         count_walk(
@@ -192,7 +205,7 @@ impl<
             .drop_errors(true)
             .then(excluding);
         let below = String::from_str(alloc, root)?;
-        let disk = self.disk.clone()?;
+        let disk = self.disk_from(alloc, root)?;
         let walk = walk_below::<OnlyRules, _, _, _>(disk, below, self.options(), crew)?;
         count_ruled(
             alloc,
