@@ -7,8 +7,10 @@ Build the program first: (cd crates/tally && rt run). Each of COUNT trees (200 i
 `tally --plain -b --sort`, by lengths and by blocks, each name or the first alone, with 1, 2 and 8 threads. All must
 print the same bytes, and those of the count: children before their parents, a file with several names at the first of
 them in the order of names. A `du -s -b --apparent-size` of the tree must be the last line where lengths are counted.
+Where root runs it and may mount, `tally -x` must print what `du -x` does of a tree with a mounted disk and a mounted file.
 """
 import os
+import pathlib
 import random
 import shutil
 import subprocess
@@ -76,6 +78,50 @@ def differs(top):
     return None if printed(["--apparent", "-s", top]) == du else ["du"]
 
 
+def mount(*words):
+    return subprocess.run(["mount", *words], capture_output=True).returncode == 0
+
+
+def unlike_du(top):
+    """The first call with -x that doesn't print what `du` does of a folder with a mounted disk, a mounted file and links."""
+    for short in ("", "L", "l", "lL"):
+        for roots in (["t"], ["t/disk"], ["t", "t/disk"], ["t/disk/inner", "t"], ["t/to_disk", "t"], ["t/"]):
+            words = ["-x", "-a", *(f"-{letter}" for letter in short)]
+            du = subprocess.run(["du", "-D", "-b", *words, *roots], cwd=top, capture_output=True, text=True)
+            tally = [PROGRAM, "--plain", "-b", "--apparent", "--sort", *words, *roots]
+            tally = subprocess.run(tally, cwd=top, capture_output=True, text=True)
+            if sorted(tally.stdout.splitlines()) != sorted(du.stdout.splitlines()) or du.returncode != tally.returncode:
+                return [*words, *roots]
+    return None
+
+
+def with_mounts():
+    """Tries -x beside `du`. None if nothing can be mounted."""
+    top = tempfile.mkdtemp(prefix="tally_")
+    disk, bound = os.path.join(top, "t", "disk"), os.path.join(top, "t", "bound")
+    os.makedirs(disk)
+    os.mkdir(os.path.join(top, "t", "own"))
+    for name in ("t/own/f", "t/g", "t/bound"):
+        pathlib.Path(top, name).write_bytes(b"x" * 3000)
+    mounted = []
+    try:
+        if not mount("-t", "tmpfs", "none", disk):
+            return None
+        mounted.append(disk)
+        os.mkdir(os.path.join(disk, "inner"))
+        pathlib.Path(disk, "inner", "f").write_bytes(b"x" * 7000)
+        os.symlink("disk/inner", os.path.join(top, "t", "to_disk"))
+        os.symlink("disk/inner/f", os.path.join(top, "t", "to_file"))
+        if not mount("--bind", os.path.join(disk, "inner", "f"), bound):
+            return None
+        mounted.append(bound)
+        return unlike_du(top) or []
+    finally:
+        for place in reversed(mounted):
+            subprocess.run(["umount", place], check=True)
+        shutil.rmtree(top)
+
+
 def main():
     rng = random.Random(SEED)
     for number in range(COUNT):
@@ -87,6 +133,11 @@ def main():
             return 1
         shutil.rmtree(top)
     print(f"{COUNT} trees: tally counts what os.lstat says, and du")
+    call = with_mounts() if os.geteuid() == 0 else None
+    if call:
+        print(f"a mounted disk and a mounted file: {' '.join(call)}")
+        return 1
+    print("a mounted disk and a mounted file: " + ("not tried" if call is None else "tally -x prints what du -x does"))
     return 0
 
 

@@ -15,10 +15,12 @@ use Rattle.jwalk_subtotals.specs.declared.error.SubtotalError.{SubtotalError}
 use Rattle.jwalk_subtotals.specs.declared.error.SubtotalError.TheVariants.{Walk, TooMany, Memory}
 use Rattle.jwalk_subtotals.specs.declared.stack.WithSubtotal.{WithSubtotal}
 use Rattle.tally_run.specs.Counting.{TakesAll, is_clean}
+use Rattle.tally_run.specs.OneDevice.{on_devices}
 use Rattle.tally_run.specs.Results.{Row, Takes, row_of, rows_of}
 use Rattle.tally_run.specs.declared.results.Results.{Results}
 use Rattle.tally_run.specs.declared.shown.Shown.{Shown}
 use Rattle.jwalk_subtotals.proofs.ErrorFacts.{entries_alone}
+use Rattle.tally_run.proofs.DeviceFacts.{devices_ok}
 use Rattle.tally_run.proofs.ResultFacts.{takes_none, takes_then}
 
 and_and : (a b c : Bool) → ((a && b) && c) ≡ (a && (b && c))
@@ -110,6 +112,7 @@ items_ok [] all = refl
 items_ok (Ok e ∷ xs) all = items_ok xs all
 items_ok (Err f ∷ xs) all = absurd (cc all)
 
--- answers whose subtotals are clean are entries
-pub answers_ok : {C A R E : Type 0} (o : SubtotalOptions) (known : List Identity) (xs : List (Result (DirEntry C A R E) (Error A))) (ys : List (Yielded R E)) → subtotals_beside o known (map item xs) ≡ ys → list_all is_clean ys ≡ true → list_all is_ok xs ≡ true
-answers_ok o known xs ys is clean = items_ok xs (entries_alone o known (map item xs) (ap (list_all is_ok) is ∙ clean_ok ys clean))
+-- answers are entries, if the subtotals of those that are left are clean
+pub answers_ok : {C A R E : Type 0} (o : SubtotalOptions) (known : List Identity) (one : Bool) (xs : List (Result (DirEntry C A R E) (Error A))) → list_all is_clean (subtotals_beside o known (on_devices one (map item xs))) ≡ true → list_all is_ok xs ≡ true
+answers_ok o known one xs clean =
+    items_ok xs (devices_ok one (map item xs) (entries_alone o known (on_devices one (map item xs)) (clean_ok (subtotals_beside o known (on_devices one (map item xs))) clean)))

@@ -36,13 +36,16 @@ use Rattle.jwalk_subtotals.proofs.WholeFacts.{all_yielded_beside}
 use Rattle.program_walks.specs.Crew.{CallsOf}
 use Rattle.tally_run.specs.Counting.{TakesAll, is_clean}
 use Rattle.tally_words.specs.declared.asked.Asked.{Asked}
+use Rattle.tally_run.specs.OneDevice.{on_devices, root_before, root_of as device_of, source_of, staying, Stays}
 use Rattle.tally_run.specs.Results.{Row, Takes, row_of, rows_of}
 use Rattle.tally_run.specs.Shown.{shown_asked}
-use Rattle.tally_run.specs.Walks.{CountsAnswers, CountsBelow, CountsWalk, all_below, counted_below, kept_below, subtotals_asked, subtotals_taken}
+use Rattle.tally_run.specs.Walks.{CountsAnswers, CountsBelow, CountsWalk, TakesSubtotals, all_below, counted_below, kept_below, subtotals_asked, subtotals_taken}
 use Rattle.tally_run.specs.declared.counting.Counted.{Counted}
+use Rattle.tally_run.specs.declared.one_device.OneDevice.{OneDevice}
 use Rattle.tally_run.specs.declared.results.Results.{Results}
 use Rattle.tally_run.specs.declared.shown.Shown.{Shown}
 use Rattle.tally_run.proofs.CountingFacts.{answers_ok}
+use Rattle.tally_run.proofs.DeviceFacts.{devices_same, drains_staying, stays_first}
 use Rattle.tally_run.proofs.TakenFacts.{clean_taken, files_taken, rows_taken}
 
 module _ {R E V W : Type 0} (view : R → V) (mark : E → W) (root : List ℕ) (shown : Shown) where
@@ -66,21 +69,23 @@ module _ {R E V W : Type 0} (view : R → V) (mark : E → W) (root : List ℕ) 
 -- what is counted of a walk is counted of what it yields by value
 pub below_counted : {C S P A W L R E : Type 0} (files : FileSystem.Ghosts S) (process : ProcessReadDir.Ghosts P C A R E) (clone : Clone.Ghosts R) (defaults : Default.Ghosts E) (calls : CallsOf C S P A L R E) (walk : WalkDirGeneric C S P A W R E) (given : Given R E) (fixed : Type 0) (below : List (Item Worth Worth)) (asked : Asked) (root : List ℕ) (known : List Identity) (old new : Results) (before after : Option (List ℕ)) (counted : Counted)
     → (fixed → IsSteady files process clone defaults (file_system_of walk) (callback_of walk) given) → (fixed → whole_walk (job_for files given walk) (root_of walk) (given.read_dir_state (state_of walk)) ≡ below)
-    → CountsWalk files process clone defaults calls walk asked root known old before new after counted → CountsBelow fixed below asked root known old before new after counted
+    → CountsWalk files process clone defaults calls walk asked root known old before new after counted → CountsBelow fixed (on_devices asked.one_file_system below) asked root known old before new after counted
 below_counted files process clone defaults calls walk given fixed below asked root known old new before after counted steady is counts =
     let o = subtotals_asked asked in
     let shown = shown_asked asked in
+    let one = asked.one_file_system in
+    let left = on_devices one counts.answered in
     record {
-      answered = map (counted_item given) counts.answered;
-      whole = λ always clean. counts.whole clean given (steady always) ∙ is always;
+      answered = map (counted_item given) left;
+      whole = λ always clean. sym (devices_same given.read_dir_state given.dir_entry_state one counts.answered) ∙ ap (on_devices one) (counts.whole clean given (steady always) ∙ is always);
       takes = record {
         taken = subst (λ (rows : List Row). Takes rows old before new after)
-            (sym (ap (rows_of root shown) (subtotals_same given.read_dir_state given.dir_entry_state o known counts.answered) ∙ rows_same given.read_dir_state given.dir_entry_state root shown (subtotals_beside o known counts.answered)))
+            (sym (ap (rows_of root shown) (subtotals_same given.read_dir_state given.dir_entry_state o known left) ∙ rows_same given.read_dir_state given.dir_entry_state root shown (subtotals_beside o known left)))
             counts.takes.taken;
         tells =
             counts.takes.tells
-            ∙ sym (ap (list_all is_clean) (subtotals_same given.read_dir_state given.dir_entry_state o known counts.answered) ∙ all_clean given.read_dir_state given.dir_entry_state root shown (subtotals_beside o known counts.answered));
-        remembered = λ i. counts.takes.remembered i ∙ ap (λ (l : List Identity). is_among l i) (sym (files_same given.read_dir_state given.dir_entry_state o known counts.answered));
+            ∙ sym (ap (list_all is_clean) (subtotals_same given.read_dir_state given.dir_entry_state o known left) ∙ all_clean given.read_dir_state given.dir_entry_state root shown (subtotals_beside o known left));
+        remembered = λ i. counts.takes.remembered i ∙ ap (λ (l : List Identity). is_among l i) (sym (files_same given.read_dir_state given.dir_entry_state o known left));
       };
     }
 
@@ -94,11 +99,11 @@ below_as always is counts = record {
 }
 
 -- what is counted below a root, with ignore files and without
-pub kept_counted : (fs : Functions) (texts : Texts) (asked : Asked) (root : List ℕ) → asked.ignore ≡ true → kept_below fs texts asked root ≡ counted_below fs texts asked root
-kept_counted fs texts asked root is = ap (λ (b : Bool). if b then kept_below fs texts asked root else all_below fs asked root) (sym is)
+pub kept_counted : (fs : Functions) (texts : Texts) (asked : Asked) (root : List ℕ) → asked.ignore ≡ true → on_devices asked.one_file_system (kept_below fs texts asked root) ≡ counted_below fs texts asked root
+kept_counted fs texts asked root is = ap (λ (b : Bool). on_devices asked.one_file_system (if b then kept_below fs texts asked root else all_below fs asked root)) (sym is)
 
-pub all_counted : (fs : Functions) (texts : Texts) (asked : Asked) (root : List ℕ) → asked.ignore ≡ false → all_below fs asked root ≡ counted_below fs texts asked root
-all_counted fs texts asked root is = ap (λ (b : Bool). if b then kept_below fs texts asked root else all_below fs asked root) (sym is)
+pub all_counted : (fs : Functions) (texts : Texts) (asked : Asked) (root : List ℕ) → asked.ignore ≡ false → on_devices asked.one_file_system (all_below fs asked root) ≡ counted_below fs texts asked root
+all_counted fs texts asked root is = ap (λ (b : Bool). on_devices asked.one_file_system (if b then kept_below fs texts asked root else all_below fs asked root)) (sym is)
 
 -- what is taken of the subtotals of answers, from the beginning until the end, is counted of them
 pub answers_counted : {C A I R E : Type 0} (next : I → Option (Result (DirEntry C A R E) (Error A)) → I → Type 0) (answers : I) (asked : Asked) (root : List ℕ) (known : List Identity) (old new : Results) (before after : Option (List ℕ)) (counted : Counted) (start end : Subtotals C A I R E) (shown : Shown)
@@ -120,18 +125,25 @@ answers_counted next answers asked root known old new before after counted start
     }
 
 module _ {C S P A W L R E : Type 0} (files : FileSystem.Ghosts S) (process : ProcessReadDir.Ghosts P C A R E) (clone : Clone.Ghosts R) (defaults : Default.Ghosts E) (readers : Readers.Ghosts L C S P A R E) (walk : WalkDirGeneric C S P A W R E) (it : DirEntryIter C S P A L R E) where
-  -- what is counted of the answers of a walk is counted of the walk
-  pub walk_counted : (asked : Asked) (root : List ℕ) (known : List Identity) (old new : Results) (before after : Option (List ℕ)) (counted : Counted) (why_not : Option NotStarted)
+  -- what is counted of the answers of a walk that are left is counted of the walk
+  pub walk_counted : (asked : Asked) (root : List ℕ) (known : List Identity) (old new : Results) (before after : Option (List ℕ)) (counted : Counted) (why_not : Option NotStarted) (left : OneDevice (DirEntryIter C S P A L R E)) → source_of left ≡ it → device_of left ≡ root_before asked.one_file_system
       → Starts walk it → HoldsUnless files process clone defaults why_not walk it → StartsSteady files process clone defaults readers it
-      → CountsAnswers (Answers files process clone defaults readers) it asked root known old before new after counted
+      → CountsAnswers (Stays (Answers files process clone defaults readers)) left asked root known old before new after counted
       → CountsWalk files process clone defaults (Answers files process clone defaults readers) walk asked root known old before new after counted
-  walk_counted asked root known old new before after counted why_not starts holds steadily counts =
-      let xs = counts.yielded in
+  walk_counted asked root known old new before after counted why_not left from first starts holds steadily counts =
+      let o = subtotals_asked asked in
+      let one = asked.one_file_system in
+      let all = drains_staying (Answers files process clone defaults readers) counts.yielded left counts.drains in
+      let xs = all.0 in
+      let drains = subst (λ i. Drains (Answers files process clone defaults readers) i xs) from all.1 in
+      let are : map item counts.yielded ≡ on_devices one (map item xs)
+      = sym all.2 ∙ ap (λ r. staying r (map item xs)) first ∙ stays_first one (map item xs) in
+      let takes = subst (λ (l : List (Item R E)). TakesSubtotals asked root known l old before new after counted) are counts.takes in
       record {
         answered = map item xs;
-        walked = (it, starts, xs, counts.drains, refl);
+        walked = (it, starts, xs, drains, refl);
         whole = λ is given steady.
-            clean_whole files process clone defaults readers given walk it xs why_not holds (steady_begun files process clone defaults readers given walk it steadily starts steady) starts steady counts.drains
-            (answers_ok (subtotals_asked asked) known xs (subtotals_beside (subtotals_asked asked) known (map item xs)) refl (sym counts.takes.tells ∙ is));
-        takes = counts.takes;
+            clean_whole files process clone defaults readers given walk it xs why_not holds (steady_begun files process clone defaults readers given walk it steadily starts steady) starts steady drains
+            (answers_ok o known one xs (sym takes.tells ∙ is));
+        takes = takes;
       }

@@ -2,6 +2,7 @@ pub mod Shown
 pub mod Results
 pub mod Counting
 pub mod FollowedRoot
+pub mod OneDevice
 pub mod Walks
 pub mod Roots
 pub mod Written

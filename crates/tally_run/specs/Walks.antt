@@ -34,6 +34,7 @@ use Rattle.program_walks.specs.Crew.{CallsOf}
 use Rattle.tally_words.specs.declared.asked.Asked.{Asked}
 use Rattle.tally_run.specs.Counting.{is_clean}
 use Rattle.tally_run.specs.FollowedRoot.{functions_from}
+use Rattle.tally_run.specs.OneDevice.{on_devices}
 use Rattle.tally_run.specs.Results.{Takes, rows_of}
 use Rattle.tally_run.specs.Shown.{shown_asked}
 use Rattle.tally_run.specs.declared.counting.Counted.{Counted}
@@ -76,9 +77,9 @@ all_below fs asked root = whole_walk (job_with (functions_from root fs) (options
 abbrev pub kept_below : Functions → Texts → Asked → List ℕ → List (Item Worth Worth)
 kept_below fs texts asked root = ignoring_walk (functions_from root fs) texts (settings_asked asked) (excluded_asked asked root) (options_asked asked) root
 
--- all that is counted below a root
+-- all that is counted below a root: on its own device alone, if one file system is asked for
 abbrev pub counted_below : Functions → Texts → Asked → List ℕ → List (Item Worth Worth)
-counted_below fs texts asked root = if asked.ignore then kept_below fs texts asked root else all_below fs asked root
+counted_below fs texts asked root = on_devices asked.one_file_system (if asked.ignore then kept_below fs texts asked root else all_below fs asked root)
 
 -- What is written of the subtotals of answers below a root is taken, beside the files that were counted before. It is known whether one has an error, and which files are counted now.
 pub record TakesSubtotals {R E : Type 0} (asked : Asked) (root : List ℕ) (known : List Identity) (answered : List (Item R E)) (old : Results) (before : Option (List ℕ)) (new : Results) (after : Option (List ℕ)) (counted : Counted) : Type 0 where
@@ -97,13 +98,13 @@ abbrev pub WalkYields : {C S P A W L R E : Type 0} → CallsOf C S P A L R E →
 WalkYields {C} {S} {P} {A} {W} {L} {R} {E} calls walk answered =
     (it : DirEntryIter C S P A L R E) × Starts walk it × (yielded : List (Result (DirEntry C A R E) (Error A))) × Drains calls it yielded × (map item yielded ≡ answered)
 
--- A walk yielded answers until its end, and these are counted. If none has an error, and what the walk goes over always answers the same, the answers are the whole walk.
+-- A walk yielded answers until its end, and these are counted, but for those on other devices if one file system is asked for. If none has an error, and what the walk goes over always answers the same, the answers are the whole walk.
 pub record CountsWalk {C S P A W L R E : Type 0} (files : FileSystem.Ghosts S) (process : ProcessReadDir.Ghosts P C A R E) (clone : Clone.Ghosts R) (defaults : Default.Ghosts E) (calls : CallsOf C S P A L R E) (walk : WalkDirGeneric C S P A W R E) (asked : Asked) (root : List ℕ) (known : List Identity) (old : Results) (before : Option (List ℕ)) (new : Results) (after : Option (List ℕ)) (counted : Counted) : Type 0 where
   pub answered : List (Item R E)
   pub walked : WalkYields calls walk answered
   pub whole : counted.clean ≡ true → (given : Given R E) → IsSteady files process clone defaults (file_system_of walk) (callback_of walk) given
       → map (counted_item given) answered ≡ whole_walk (job_for files given walk) (root_of walk) (given.read_dir_state (state_of walk))
-  pub takes : TakesSubtotals asked root known answered old before new after counted
+  pub takes : TakesSubtotals asked root known (on_devices asked.one_file_system answered) old before new after counted
 
 -- Answers are counted. If none has an error, and what the walk goes over always answers the same, they are all that is below a root, by value.
 pub record CountsBelow (fixed : Type 0) (below : List (Item Worth Worth)) (asked : Asked) (root : List ℕ) (known : List Identity) (old : Results) (before : Option (List ℕ)) (new : Results) (after : Option (List ℕ)) (counted : Counted) : Type 0 where

@@ -11,6 +11,7 @@ ghost use Rattle.tally_run.specs.Counting.{is_clean, TakesAll};
 ghost use Rattle.tally_run.specs.Walks.{subtotals_taken, CountsAnswers, CountsWalk};
 
 use crate::failure::Failure;
+use crate::one_device::{OneDevice, root_before};
 use crate::progress::Report;
 use crate::report::{report_entry, report_error};
 use crate::results::Results;
@@ -204,7 +205,8 @@ fn count_answers<
     })
 }
 
-/// Begins a walk that a crew may read for, and counts it beside the files that were counted before.
+/// Begins a walk that a crew may read for, and counts it beside the files that were counted before. If one file system is
+/// asked for, what is on other devices than the root doesn't count.
 pub(crate) fn count_walk<
     T: Host,
     C: ClientState + Send + 'static,
@@ -231,6 +233,11 @@ where
         ⟦<CrewWalk<T, C, S, P> as Iterator>⟧.next_gives walk asked.now root.now (files_of files)
         results.old (W.contents out.old) results.new (W.contents out.new)) }
 {
-    let answers = walk.into_iter();
-    count_answers(alloc, screen, root, answers, files, asked, results, out, err)
+    let answers = OneDevice {
+        answers: walk.into_iter(),
+        root: root_before(asked.one_file_system),
+    };
+    count_answers(
+        alloc, screen, root, answers, files, asked, results, out, err,
+    )
 }

@@ -4,6 +4,7 @@
 mod counting;
 mod failure;
 mod followed_root;
+mod one_device;
 mod progress;
 mod report;
 mod results;

@@ -28,19 +28,21 @@ pub(crate) struct Roots {
     one_file_system: bool,
 }
 
-/// Returns whether there is a directory at a path, and which it is, if that is known.
+/// Returns whether there is a directory at a path, and which file is there, if that is known.
 fn look_at<S: FileSystem>(disk: &S, path: &str) -> Result<(bool, Option<Identity>), AllocError> {
     match disk.metadata(path) {
-        Ok(found) if found.file_type().is_dir() => Ok((true, found.identity())),
-        Ok(_) | Err(Fault::Io(_)) => Ok((false, None)),
+        Ok(found) => Ok((found.file_type().is_dir(), found.identity())),
+        Err(Fault::Io(_)) => Ok((false, None)),
         Err(Fault::Memory) => Err(AllocError),
     }
 }
 
 /// Returns `None` for what is no directory, and where its identity isn't known.
 fn directory_at<S: FileSystem>(disk: &S, path: &str) -> Result<Option<Identity>, AllocError> {
-    let (_, own) = look_at(disk, path)?;
-    Ok(own)
+    match look_at(disk, path)? {
+        (true, own) => Ok(own),
+        (false, _) => Ok(None),
+    }
 }
 
 /// Returns whether there is anything at a path, be it a link that leads nowhere.
@@ -72,7 +74,7 @@ impl Roots {
 
     /// Returns whether a walk of what is above a directory reads that directory.
     fn is_read_from(&self, above: Identity, at: Identity) -> bool {
-        above != at && (!self.one_file_system || above.device == at.device)
+        above != at && (!self.one_file_system || above.is_on_same_device(at))
     }
 
     /// Returns whether a directory, or one above it, is among the roots.
@@ -98,40 +100,50 @@ impl Roots {
         Ok(false)
     }
 
+    /// Returns whether a walk of a directory counts what is no directory in it, where it is known which file that is.
+    fn is_counted_in(&self, folder: Identity, own: Option<Identity>) -> bool {
+        match own {
+            Some(own) => !self.one_file_system || folder.is_on_same_device(own),
+            None => true,
+        }
+    }
+
     /// Returns whether something that is no directory lies in a directory that is among the roots, or below one.
     fn has_folder_of<S: FileSystem>(
         &self,
         alloc: Global,
         disk: &S,
         path: &str,
+        own: Option<Identity>,
     ) -> Result<bool, AllocError> {
         if !is_there(disk, path)? {
             return Ok(false);
         }
         let folder = folder_of(path);
         match directory_at(disk, folder)? {
-            Some(at) => self.has_above(alloc, disk, folder, at),
-            None => Ok(false),
+            Some(at) if self.is_counted_in(at, own) => self.has_above(alloc, disk, folder, at),
+            _ => Ok(false),
         }
     }
 
-    /// Returns whether a root is the same directory as an earlier root, or lies below one. `own` is the directory that it
-    /// is. Without it the folder that it lies in tells, if anything is there at all.
+    /// Returns whether a root is the same directory as an earlier root, or lies below one. `found` says whether it is a
+    /// directory, and which file it is. Of what is no directory, or unknown, the folder that it lies in tells, if anything
+    /// is there at all.
     fn is_below<S: FileSystem>(
         &self,
         alloc: Global,
         disk: &S,
         root: &str,
-        own: Option<Identity>,
+        found: (bool, Option<Identity>),
     ) -> Result<bool, AllocError>
         ensures first { length self.now.counted.items ≡ 0 → IfOk result (λ below. below ≡ false) }
     {
         if self.counted.is_empty() {
             return Ok(false);
         }
-        match own {
-            Some(own) => self.has_above(alloc, disk, root, own),
-            None => self.has_folder_of(alloc, disk, root),
+        match found {
+            (true, Some(own)) => self.has_above(alloc, disk, root, own),
+            (_, own) => self.has_folder_of(alloc, disk, root, own),
         }
     }
 
@@ -148,16 +160,16 @@ impl Roots {
     ) -> Result<RootKind, AllocError>
         ensures first { length self.old.counted.items ≡ 0 → IfOk result (λ kind. kind ≢ LeftOut) }
     {
-        let (is_directory, own) = look_at(disk, root)?;
-        if self.is_below(alloc, disk, root, own)? {
+        let found = look_at(disk, root)?;
+        if self.is_below(alloc, disk, root, found)? {
             return Ok(RootKind::LeftOut);
         }
+        let (true, own) = found else {
+            return Ok(RootKind::Other);
+        };
         if let Some(own) = own {
             self.counted.push(own)?;
         }
-        if is_directory {
-            return Ok(RootKind::Directory);
-        }
-        Ok(RootKind::Other)
+        Ok(RootKind::Directory)
     }
 }

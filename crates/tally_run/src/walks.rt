@@ -10,6 +10,7 @@ ghost use Rattle.jwalk_ignore.specs.Callback.IgnoreViews.{next_of, settings_of, 
 ghost use Rattle.jwalk_ignore.specs.Callback.Kept.{ignoring_walk};
 ghost use Rattle.jwalk_subtotals.specs.Files.{files_of};
 ghost use Rattle.program_parts.specs.Values.{texts_of as words_of};
+ghost use Rattle.tally_run.specs.OneDevice.{on_devices};
 ghost use Rattle.tally_run.specs.Roots.{CountsRoot, CountsRoots};
 ghost use Rattle.tally_run.specs.Run.{roots_asked};
 ghost use Rattle.tally_run.specs.Walks.{all_below, counted_below, excluded_asked, kept_below, options_asked, CountsBelow};
@@ -67,8 +68,9 @@ fn count_ruled<
     ensures { IfOk result (CountsBelow (S.IsFixed (arc_value (file_system_of walk))
         × X.IsFixed (arc_value (texts_of rules))
         × (rules_held (state_of walk) ≡ no_rules))
-        (ignoring_walk (S.functions (arc_value (file_system_of walk))) (X.functions (arc_value (texts_of rules)))
-        (settings_of rules) (excluded_of (next_of rules)) (options_of walk) (root_of walk))
+        (on_devices asked.now.one_file_system (ignoring_walk (S.functions (arc_value (file_system_of walk)))
+        (X.functions (arc_value (texts_of rules))) (settings_of rules) (excluded_of (next_of rules)) (options_of walk)
+        (root_of walk)))
         asked.now root.now (files_of files) results.old (W.contents out.old) results.new (W.contents out.new)) }
 {
     count_walk(
@@ -162,7 +164,8 @@ impl<
         err: &mut E,
     ) -> Result<Counted, Failure>
         ensures { IfOk result (CountsBelow (S.IsFixed (arc_value self.now.disk))
-            (all_below (S.functions (arc_value self.now.disk)) self.now.asked.now root.now)
+            (on_devices self.now.asked.now.one_file_system
+            (all_below (S.functions (arc_value self.now.disk)) self.now.asked.now root.now))
             self.now.asked.now root.now (files_of files)
             results.old (W.contents out.old) results.new (W.contents out.new)) }
     {
@@ -195,8 +198,8 @@ impl<
         err: &mut E,
     ) -> Result<Counted, Failure>
         ensures { IfOk result (CountsBelow (S.IsFixed (arc_value self.now.disk) × X.IsFixed (arc_value self.now.texts))
-            (kept_below (S.functions (arc_value self.now.disk)) (X.functions (arc_value self.now.texts))
-            self.now.asked.now root.now) self.now.asked.now root.now (files_of files)
+            (on_devices self.now.asked.now.one_file_system (kept_below (S.functions (arc_value self.now.disk))
+            (X.functions (arc_value self.now.texts)) self.now.asked.now root.now)) self.now.asked.now root.now (files_of files)
             results.old (W.contents out.old) results.new (W.contents out.new)) }
     {
         let excluding = excluding_of(alloc, self.asked, root)?;

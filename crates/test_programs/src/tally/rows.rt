@@ -27,14 +27,47 @@ fn a_file_with_two_names_counts_at_the_first_and_each_device_is_one_file_system(
         },
         Call {
             words: &["--plain", "-x", "-b", "/r"],
-            out: Some("16384\t/r/b\n4096\t/r/a\n4096\t/r/c\n28672\t/r\n"),
+            out: Some("16384\t/r/b\n4096\t/r/a\n24576\t/r\n"),
             ..NUMBERED
         },
-        // Entries that aren't read from the first root are counted from the second.
+        // What isn't counted from the first root is from the second.
         Call {
             words: &["--plain", "-x", "-s", "-b", "/r", "/r/c"],
-            out: Some("28672\t/r\n8192\t/r/c\n"),
+            out: Some("24576\t/r\n8192\t/r/c\n"),
             ..NUMBERED
+        },
+    ];
+    assert_eq!(rt; first_wrong(&rt, WAYS, CALLS), None);
+}
+
+/// A file that is mounted in a directory of another device, and one whose device isn't known.
+const MOUNTED: Call<'static> = Call {
+    tree: "d /r\nf 1 /r/own\nf 1 /r/bound\nf 9 /r/unknown\n",
+    known: &[
+        ("/r", 1, 1, 2, 8),
+        ("/r/own", 1, 2, 1, 8),
+        ("/r/bound", 2, 7, 1, 8),
+    ],
+    ..CALL
+};
+
+#[test]
+fn a_file_of_another_device_counts_unless_one_file_system_is_asked_for(rt: HostRuntime) {
+    const CALLS: &[Call] = &[
+        Call {
+            words: &["--plain", "-a", "-b", "/r"],
+            out: Some("4096\t/r/own\n4096\t/r/bound\n9\t/r/unknown\n12297\t/r\n"),
+            ..MOUNTED
+        },
+        Call {
+            words: &["--plain", "-x", "-a", "-b", "/r"],
+            out: Some("4096\t/r/own\n9\t/r/unknown\n8201\t/r\n"),
+            ..MOUNTED
+        },
+        Call {
+            words: &["--plain", "-x", "-s", "-b", "/r", "/r/bound"],
+            out: Some("8201\t/r\n4096\t/r/bound\n"),
+            ..MOUNTED
         },
     ];
     assert_eq!(rt; first_wrong(&rt, WAYS, CALLS), None);

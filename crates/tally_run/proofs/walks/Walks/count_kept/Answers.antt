@@ -11,6 +11,7 @@ use Rattle.jwalk_ignore.proofs.KeptFacts.{ignoring_same}
 use Rattle.program_walks.specs.Crew.{with_crew}
 use Rattle.program_walks.proofs.CrewFacts.{hidden_by_crew}
 use Rattle.tally_run.specs.FollowedRoot.{functions_from}
+use Rattle.tally_run.specs.OneDevice.{on_devices}
 use Rattle.tally_run.specs.Walks.{excluded_asked, options_asked, settings_asked}
 use Rattle.tally_run.proofs.WalkFacts.{below_as}
 use Rattle.tally_run.proofs.walks.Walks.count_kept.Goals as goal
@@ -40,7 +41,7 @@ returns g c =
     (λ counted counts.
     below_as
     (λ always. (subst g.S.FileSystem.IsFixed (sym over) always.0, subst g.X.Texts.IsFixed (sym from) always.1, built.state))
-    (ignoring_same (ap₂ functions_from at_root (ap g.S.FileSystem.functions over)) (ap g.X.Texts.functions from) settings lines options (built.root ∙ c.in_ok-below.ensures.ok)
-    ∙ hidden_by_crew (ignoring (settings_asked asked) texts (excluding excluded)) (is_some c.args.crew.now) (functions_from c.args.root.now (g.S.FileSystem.functions (arc_value self.disk))) (options_asked asked) c.args.root.now no_rules_yet)
+    (ap (on_devices asked.one_file_system) (ignoring_same (ap₂ functions_from at_root (ap g.S.FileSystem.functions over)) (ap g.X.Texts.functions from) settings lines options (built.root ∙ c.in_ok-below.ensures.ok)
+    ∙ hidden_by_crew (ignoring (settings_asked asked) texts (excluding excluded)) (is_some c.args.crew.now) (functions_from c.args.root.now (g.S.FileSystem.functions (arc_value self.disk))) (options_asked asked) c.args.root.now no_rules_yet))
     counts)
     c.count_ruled.ensures
