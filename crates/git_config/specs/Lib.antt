@@ -1,0 +1,4 @@
+pub mod Config
+pub mod ConfigRows
+pub mod Places
+pub mod Readings

@@ -1,0 +1,5 @@
+//! What git's configuration says.
+#![tactic(auto)]
+
+pub mod config;
+mod place;
