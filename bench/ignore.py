@@ -3,6 +3,7 @@
 
     python3 bench/ignore.py [SEED [COUNT]]
     python3 bench/ignore.py speed [PROGRAM ..]      times of `seek` beside `fd` (ignore_speed.py)
+    python3 bench/ignore.py config [PROGRAM]        texts of git's configuration (ignore_config.py)
 
 Makes random ignore files and paths, and asks `git check-ignore` about each in a fresh repository, with the directories
 on disk, since git takes a path's type from there. A row is left out where git's answer is about a directory above the
@@ -17,6 +18,7 @@ import subprocess
 import sys
 import tempfile
 
+import ignore_config
 import ignore_speed
 
 ENVIRONMENT = dict(os.environ, GIT_CONFIG_GLOBAL="/dev/null", GIT_CONFIG_SYSTEM="/dev/null", LC_ALL="C")
@@ -223,6 +225,8 @@ def row_of(rules, path, is_dir, answer):
 def main():
     if sys.argv[1:2] == ["speed"]:
         return ignore_speed.main(sys.argv[2:])
+    if sys.argv[1:2] == ["config"]:
+        return sys.exit(ignore_config.main(sys.argv[2:]))
     seed = int(sys.argv[1]) if len(sys.argv) > 1 else 1
     count = int(sys.argv[2]) if len(sys.argv) > 2 else 20
     rows = [(rules, [(p.rstrip(b"/"), p.endswith(b"/")) for p in paths]) for rules, paths in FIXED]
