@@ -1,1 +1,3 @@
-pub mod ConfigFacts
+pub mod NamedFacts
+pub mod TextFacts
+pub mod UnreadFacts

@@ -1,52 +1,42 @@
 -- A user's excludes.
-use Rattle.std.specs.Prelude.{ℕ, Bool, true, false, List, [], codes, Option, Some, None, option_map, Result, Ok, Err, if◌then◌else◌}
-use Rattle.std.specs.Str.{is_utf8}
+use Rattle.std.specs.Prelude.{ℕ, ◌==◌, List, [], length, codes, Option, Some, None, Result, Ok, Err, if◌then◌else◌}
 use Rattle.std.specs.declared.io.ErrorKind.{ErrorKind}
-use Rattle.std.specs.declared.io.ErrorKind.TheVariants as kind
 use Rattle.jwalk_ignore_rules.specs.Rules.Texts.{Texts}
-use Rattle.user_excludes.specs.Config.{excludes_named}
-use Rattle.user_excludes.specs.Home.{below_home, expanded, in_config}
-use Rattle.user_excludes.specs.declared.home.Home.{Home}
+use Rattle.user_excludes.specs.Home.{below_home, expanded, in_config, Home}
+use Rattle.user_excludes.specs.Named.{and_then, is_missing, unnamed, with_first, Failure, Line, Named, NoValue, Unreadable}
 
--- whether nothing is at a path
-abbrev pub is_missing : ErrorKind → Bool
-is_missing kind.NotFound = true
-is_missing kind.NotADirectory = true
-is_missing _ = false
+-- What is known of the excludes behind the user's configurations and a repository's. The value that was set last counts.
+abbrev pub named_by : Texts → Home → Option (List ℕ) → Result Named Failure
+named_by texts home repository =
+    and_then (with_first texts home (in_config home (codes "git/config")) unnamed)
+    (λ named. and_then (with_first texts home (below_home home (codes ".gitconfig")) named) (with_first texts home repository))
 
--- the path that a configuration of these bytes names
-abbrev pub path_named : Home → List ℕ → Option (List ℕ)
-path_named home bytes = if is_utf8 bytes then option_map (expanded home) (excludes_named bytes) else None
+-- the path of the excludes, if they are set: an empty one is none
+abbrev pub path_set : Home → List ℕ → Option (List ℕ)
+path_set home path = if length path == 0 then None else Some (expanded home path)
 
-abbrev named_by : Home → Result (List ℕ) ErrorKind → Option (List ℕ)
-named_by home (Ok bytes) = path_named home bytes
-named_by home (Err k) = None
+abbrev path_or : Option (List ℕ) → Home → Option (List ℕ) → Option (List ℕ)
+path_or other home (Some path) = path_set home path
+path_or other home None = other
 
--- the path that the configuration at a path names; one that can't be read names none
-abbrev pub named_at : Texts → Home → Option (List ℕ) → Option (List ℕ)
-named_at texts home None = None
-named_at texts home (Some path) = named_by home (texts.bytes_of path)
+abbrev unless_unset : Option Line → Option (List ℕ) → Result (Option (List ℕ)) Failure
+unless_unset None path = Ok path
+unless_unset (Some line) path = Err (NoValue line.file line.line)
 
--- the first that there is
-abbrev pub or_else : Option (List ℕ) → Option (List ℕ) → Option (List ℕ)
-or_else (Some path) other = Some path
-or_else None other = other
-
--- the path of the excludes
-abbrev pub excludes_path : Texts → Home → Option (List ℕ)
-excludes_path texts home =
-    or_else (named_at texts home (below_home home (codes ".gitconfig")))
-    (or_else (named_at texts home (in_config home (codes "git/config"))) (in_config home (codes "git/ignore")))
+-- the path of the excludes by what is known of them
+abbrev pub path_by : Home → Named → Result (Option (List ℕ)) Failure
+path_by home named = unless_unset named.unset (path_or (in_config home (codes "git/ignore")) home named.path)
 
 -- a file's bytes, none if there is no such file
-abbrev bytes_or_none : Result (List ℕ) ErrorKind → Result (List ℕ) ErrorKind
-bytes_or_none (Ok bytes) = Ok bytes
-bytes_or_none (Err k) = if is_missing k then Ok [] else Err k
+abbrev bytes_or_none : List ℕ → Result (List ℕ) ErrorKind → Result (List ℕ) Failure
+bytes_or_none path (Ok bytes) = Ok bytes
+bytes_or_none path (Err k) = if is_missing k then Ok [] else Err (Unreadable path k)
 
-abbrev bytes_at : Texts → Option (List ℕ) → Result (List ℕ) ErrorKind
+abbrev pub bytes_at : Texts → Option (List ℕ) → Result (List ℕ) Failure
 bytes_at texts None = Ok []
-bytes_at texts (Some path) = bytes_or_none (texts.bytes_of path)
+bytes_at texts (Some path) = bytes_or_none path (texts.bytes_of path)
 
--- the bytes of a user's excludes
-abbrev pub user_excludes : Texts → Home → Result (List ℕ) ErrorKind
-user_excludes texts home = bytes_at texts (excludes_path texts home)
+-- the bytes of a user's excludes, in a repository with a configuration at this path
+abbrev pub user_excludes : Texts → Home → Option (List ℕ) → Result (List ℕ) Failure
+user_excludes texts home repository =
+    and_then (and_then (named_by texts home repository) (path_by home)) (bytes_at texts)

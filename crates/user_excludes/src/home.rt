@@ -14,12 +14,43 @@ pub struct Home<'h> {
     pub config: &'h str,
 }
 
+/// The same, kept as long as it is needed.
+#[derive(Drop)]
+pub struct OwnHome {
+    home: String,
+    config: String,
+}
+
+impl OwnHome {
+    ghost use Rattle.user_excludes.specs.Home.{home_value};
+    ghost use Rattle.user_excludes.specs.OwnHome.{own_home_value};
+
+    /// Returns a copy.
+    pub fn of(alloc: Global, home: Home<'_>) -> Result<Self, AllocError>
+        ensures { IfOk result (λ own. own_home_value own ≡ home_value home.entry) }
+    {
+        Ok(OwnHome {
+            home: String::from_str(alloc, home.home)?,
+            config: String::from_str(alloc, home.config)?,
+        })
+    }
+
+    pub(crate) fn lent(&self) -> Home<'_>
+        ensures { home_value result ≡ own_home_value self.now }
+    {
+        Home {
+            home: self.home.as_str(),
+            config: self.config.as_str(),
+        }
+    }
+}
+
 impl<'h> Home<'h> {
-    ghost use Rattle.user_excludes.specs.Home.{below_home, expanded, in_config};
+    ghost use Rattle.user_excludes.specs.Home.{below_home, expanded, home_value, in_config};
 
     /// Returns the path of a name below the user's folder, if that is known.
     pub(crate) fn below(self, alloc: Global, name: &str) -> Result<Option<String>, AllocError>
-        ensures { IfOk result (λ path. option_map string_bytes path ≡ below_home self.entry name.now) }
+        ensures { IfOk result (λ path. option_map string_bytes path ≡ below_home (home_value self.entry) name.now) }
     {
         if self.home.is_empty() {
             return Ok(None);
@@ -29,7 +60,7 @@ impl<'h> Home<'h> {
 
     /// Returns the path of a name in the folder of configurations, if that is known.
     pub(crate) fn in_config(self, alloc: Global, name: &str) -> Result<Option<String>, AllocError>
-        ensures { IfOk result (λ path. option_map string_bytes path ≡ in_config self.entry name.now) }
+        ensures { IfOk result (λ path. option_map string_bytes path ≡ in_config (home_value self.entry) name.now) }
     {
         if !self.config.is_empty() {
             return Ok(Some(join(alloc, self.config, name)?));
@@ -42,7 +73,7 @@ impl<'h> Home<'h> {
 
     /// Returns a path with the user's folder in place of a `~` in front.
     pub(crate) fn expanded(self, alloc: Global, path: &str) -> Result<String, AllocError>
-        ensures { IfOk result (λ it. string_bytes it ≡ expanded self.entry path.now) }
+        ensures { IfOk result (λ it. string_bytes it ≡ expanded (home_value self.entry) path.now) }
     {
         match path.strip_prefix("~/") {
             Some(below) => join(alloc, self.home, below),
