@@ -26,6 +26,29 @@ $ seek --color=always --path-separator=# bad b
 $ seek -L --color=always bad /b
   \x1b[34m/b/\x1b[0m\x1b[35mbad\x1b[0m
 
+# links behind what is no directory lead nowhere, too
+tree
+  d /b
+  f 1 /b/a
+  l a/x	/b/behind
+  l behind	/b/twice
+$ seek -L . /b
+  /b/a
+  /b/behind
+  /b/twice
+$ seek -L -tl . /b
+  /b/behind
+  /b/twice
+$ seek -L -tl -S+0b . /b
+$ seek -tl . /b
+  /b/behind
+  /b/twice
+$ seek -L --color=always ^behind$ /b
+  \x1b[34m/b/\x1b[0m\x1b[35mbehind\x1b[0m
+
 # no colors
+tree
+  d /b
+  l nowhere	/b/bad
 $ seek bad /b
   /b/bad

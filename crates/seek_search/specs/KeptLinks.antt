@@ -1,15 +1,16 @@
 -- Links that lead nowhere, where links are followed.
 use Rattle.std.specs.Prelude.{Bool, true, false, Result, Ok, Err, if◌then◌else◌}
 use Rattle.std.specs.declared.io.ErrorKind.{ErrorKind}
-use Rattle.std.specs.declared.io.ErrorKind.TheVariants.{NotFound}
+use Rattle.std.specs.declared.io.ErrorKind.TheVariants.{NotFound, NotADirectory}
 use Rattle.jwalk.specs.jwalk_model.FileSystem.{Functions}
 use Rattle.jwalk.specs.jwalk_model.FileType.{is_symlink}
 use Rattle.jwalk.specs.jwalk_model.Metadata.{type_of}
 use Rattle.jwalk.specs.jwalk_model.declared.metadata.Metadata.{Metadata}
 
--- whether an error says that nothing is there
+-- whether an error says that nothing is there, or that the path goes on behind what is no directory
 abbrev pub is_missing : ErrorKind → Bool
 is_missing NotFound = true
+is_missing NotADirectory = true
 is_missing _ = false
 
 -- the link at a path whose target is missing, or else that error

@@ -19,7 +19,7 @@ pub(crate) struct KeptLinks<S> {
 fn is_missing(error: &io::Error) -> bool
     ensures { result ≡ is_missing (error_kind error.now) }
 {
-    matches!(error.kind(), ErrorKind::NotFound)
+    matches!(error.kind(), ErrorKind::NotFound | ErrorKind::NotADirectory)
 }
 
 /// The error is that of the path's target.
