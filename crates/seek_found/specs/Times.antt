@@ -1,5 +1,5 @@
 -- The times that a call names, by the clock and the disk.
-use Rattle.std.specs.Prelude.{◌≡◌, ℕ, ℤ, Bool, List, Option, None, Some, option_map, Result, Ok, Err, if◌then◌else◌}
+use Rattle.std.specs.Prelude.{◌≡◌, ℕ, ℤ, pos, Bool, List, Option, None, Some, option_map, Result, Ok, Err, if◌then◌else◌}
 use Rattle.std.specs.declared.io.ErrorKind.{ErrorKind}
 use Rattle.jwalk_model.specs.FileSystem.{Functions}
 use Rattle.jwalk_model.specs.Metadata.{details_of}
@@ -18,9 +18,10 @@ modified_in (Err kind) = None
 abbrev pub file_time : Functions → Bool → List ℕ → Option ℤ
 file_time fs follow path = modified_in (if follow then fs.meta_of path else fs.link_meta_of path)
 
--- The times are those that a call names. The clock is read once, and the time of modification of a named file is known.
-pub record AreTimes (fs : Functions) (asked : Asked) (times : Times) : Type 0 where
-  pub now : ℤ
-  pub after : times.after ≡ option_map (nanoseconds_at now) asked.changed_within
-  pub before : times.before ≡ option_map (nanoseconds_at now) asked.changed_before
-  pub after_file : option_map Some times.after_file ≡ option_map (λ file. file_time fs asked.follow file.now) asked.newer_than
+-- The times are those that a call names, by one time now, in nanoseconds since the beginning of 1970. If the file system
+-- always answers the same, the time of modification of a named file is known.
+pub record AreTimes (fixed : Type 0) (fs : Functions) (asked : Asked) (times : Times) : Type 0 where
+  pub now : ℕ
+  pub after : times.after ≡ option_map (nanoseconds_at (pos now)) asked.changed_within
+  pub before : times.before ≡ option_map (nanoseconds_at (pos now)) asked.changed_before
+  pub after_file : fixed → option_map Some times.after_file ≡ option_map (λ file. file_time fs asked.follow file.now) asked.newer_than

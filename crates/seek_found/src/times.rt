@@ -104,7 +104,7 @@ pub fn times_of<'w, T: Clock, S: FileSystem>(
     disk: &S,
     asked: &Asked<'w>,
 ) -> Result<Times, Untimed<'w>>
-    ensures { S.IsFixed disk.now → IfOk result (AreTimes (S.functions disk.now) asked.now) }
+    ensures { IfOk result (AreTimes (S.IsFixed disk.now) (S.functions disk.now) asked.now) }
 {
     let now = now_of(clock, asked)?;
     let after_file = named_file_time(disk, asked)?;

@@ -25,6 +25,7 @@ use Rattle.program_parts.specs.Values.{texts_of}
 use Rattle.seek_words.specs.declared.asked.Asked.{Asked}
 use Rattle.jwalk.specs.jwalk_model.FileSystem.{Functions}
 use Rattle.jwalk_ignore.specs.Rules.Texts.{Texts}
+use Rattle.jwalk_ignore.specs.Rules.WithExcludes.{with_excludes}
 use Rattle.std.specs.declared.sync.Arc.{Arc}
 use Rattle.jwalk_ignore.specs.declared.callback.states.RulesState.{RulesState}
 use Rattle.seek_found.specs.SoughtTest.{takes_of}
@@ -34,10 +35,12 @@ use Rattle.seek_words.specs.AsksFor.{AskForText}
 use Rattle.seek_words.specs.declared.screen.Screen.{Screen}
 use Rattle.user_excludes.specs.declared.home.Home.{Home}
 use Rattle.jwalk_ignore.specs.jwalk_ignore_rules.declared.rules.with_excludes.WithExcludes.{WithExcludes}
-use Rattle.seek_search.specs.Goes.{ByRead, Honours, LeavesOut, PrintsYielded}
+use Rattle.seek_search.specs.Goes.{ByRead, Finds, Honours, LeavesOut, PrintsYielded}
+use Rattle.seek_search.specs.Printing.{IsFront}
+use Rattle.seek_search.specs.RulesRead.{lines_asked}
 use Rattle.program_walks.specs.Crew.{CrewCallsOf}
 use Rattle.seek_search.specs.Run.{Searches, SearchesFor}
-use Rattle.seek_search.specs.Search.{form_before, sought_before, yielded_by}
+use Rattle.seek_search.specs.Search.{form_before, front_if, sought_before, yielded_by}
 use Rattle.seek_search.specs.declared.based.Based.{Based}
 use Rattle.seek_search.specs.declared.kept_links.KeptLinks.{KeptLinks}
 
@@ -62,9 +65,24 @@ form_over {Z} functions {d} {d'} lines {front} screen asked is form = form (func
 pub quiet_asks_nothing : (fs : Functions) (front : Option (List ℕ)) (screen : Screen) (asked : Asked) → asked.quiet ≡ true → asks (form_before fs front screen asked).painting ≡ false
 quiet_asks_nothing fs front screen asked quiet = ap (λ (b : Bool). asks (form_before fs front screen (record asked { quiet = b })).painting) quiet
 
--- what is known of a search by some texts, and so more
-pub by_read : {X : Type 0} {texts : X} {is be : WithExcludes X → List ℕ → Type 0} → ((reads : WithExcludes X) (lines : List ℕ) → is reads lines → be reads lines) → ByRead texts is → ByRead texts be
-by_read more (reads, behind, (lines, known)) = (reads, behind, (lines, more reads lines known))
+-- what is known of a search by some texts, and so more, by another name of what these answer
+pub by_read : {X : Type 0} {texts : X} {told told' : Type 0} {values values' : Texts} {asked : Asked} {is be : WithExcludes X → List ℕ → Type 0} → (told' → told) → values ≡ values'
+    → ((reads : WithExcludes X) (lines : List ℕ) → is reads lines → be reads lines) → ByRead texts told values asked is → ByRead texts told' values' asked be
+by_read {asked} tells from more read = record {
+  reads = read.reads;
+  behind = read.behind;
+  lines = read.lines;
+  named = λ told'. read.named (tells told') ∙ ap (λ (t : Texts). lines_asked t asked) from;
+  known = more read.reads read.lines read.known;
+}
+
+-- the text in front of a relative path, by another name of what the texts answer
+pub front_as : {told told' : Type 0} {values values' : Texts} → (told' → told) → values ≡ values' → (wanted : Bool) (front : Option (List ℕ)) → IsFront told values wanted front → IsFront told' values' wanted front
+front_as tells from wanted front is = record { wanted_so = is.wanted_so; found = λ told'. is.found (tells told') ∙ ap (front_if wanted) from }
+
+-- the same of texts without a user's excludes
+pub front_behind : {told : Type 0} {excludes : List ℕ} {values : Texts} (wanted : Bool) (front : Option (List ℕ)) → IsFront told (with_excludes excludes values) wanted front → IsFront told values wanted front
+front_behind wanted front is = record { wanted_so = is.wanted_so; found = is.found }
 
 -- the text is printed by the same, with other facts of it
 pub printed_by : {R E : Type 0} (answers : Sought → List (Item R E)) {sought sought' : Sought} {form form' : Form} {old new : Option (List ℕ)} → sought ≡ sought' → form ≡ form' → PrintsClean (answers sought) sought form old new → PrintsClean (answers sought') sought' form' old new
@@ -153,34 +171,39 @@ one_more f before after paths i path below was is =
     ∙ ap (flat_map f) (map-append (λ it. it.now) (take i paths) (last ∷ []))
     ∙ flat_map-append f first (last.now ∷ []) ∙ ap (λ (l : List ℕ). flat_map f first ++ l) (append-nil (f last.now)))
 
-module _ {T C Z B X A E G H F : Type 0} (plain : CrewCallsOf T G (Arc (KeptLinks Z) B) LeavesOut A H F) (honouring : CrewCallsOf T C (Arc (KeptLinks Z) B) (Honours (WithExcludes X) B) A RulesState E) {disk : Z} {still still' : Type 0} {fs : Functions} {screen : Screen} {asked : Asked} {takes : List ℕ → Bool → Bool} {old new : Option (List ℕ)} where
+module _ {T C Z B X A E G H F : Type 0} (plain : CrewCallsOf T G (Arc (KeptLinks Z) B) LeavesOut A H F) (honouring : CrewCallsOf T C (Arc (KeptLinks Z) B) (Honours (WithExcludes X) B) A RulesState E) {disk : Z} {still still' told told' : Type 0} {fs : Functions} {values values' : Texts} {screen : Screen} {asked : Asked} {takes : List ℕ → Bool → Bool} {old new : Option (List ℕ)} where
   -- the lines are printed if the file system is fixed
-  printed_if : (still' → still) → (from : WithExcludes X) (lines : List ℕ) → PrintsYielded plain honouring disk still fs from lines screen asked takes old new true → PrintsYielded plain honouring disk still' fs from lines screen asked takes old new true
-  printed_if fixes from lines prints = record {
+  pub printed_if : (still' → still) → ((wanted : Bool) (front : Option (List ℕ)) → IsFront told values wanted front → IsFront told' values' wanted front) → (from : WithExcludes X) (lines : List ℕ) → PrintsYielded plain honouring disk still told fs values from lines screen asked takes old new true
+      → PrintsYielded plain honouring disk still' told' fs values' from lines screen asked takes old new true
+  printed_if fixes fronts from lines prints = record {
     front = prints.front;
-    in_front = prints.in_front;
+    in_front = fronts asked.full_path prints.front prints.in_front;
     shown = prints.shown;
-    is_shown = prints.is_shown;
+    is_shown = fronts asked.absolute prints.shown prints.is_shown;
     left = prints.left;
     printed = λ known. prints.printed (λ empty. fixes (known.0 empty), λ links. fixes (known.1 links));
   }
 
-module _ {T C Z B X A E G H F : Type 0} (plain : CrewCallsOf T G (Arc (KeptLinks Z) B) LeavesOut A H F) (honouring : CrewCallsOf T C (Arc (KeptLinks Z) B) (Honours (WithExcludes X) B) A RulesState E) {disk : Z} {reads : X} {still still' fixed fixed' : Type 0} {fs fs' : Functions} {texts texts' : Texts} {home : Home} {screen : Screen} {asked : Asked} {sought : Looked} {old old' new : Option (List ℕ)} where
+  -- the same where one of the answers is found
+  pub found_if : {found : Bool} → ((wanted : Bool) (front : Option (List ℕ)) → IsFront told values wanted front → IsFront told' values' wanted front) → (from : WithExcludes X) (lines : List ℕ) → Finds plain honouring disk told fs values from lines asked takes found → Finds plain honouring disk told' fs values' from lines asked takes found
+  found_if fronts from lines finds = record { front = finds.front; in_front = fronts asked.full_path finds.front finds.in_front; answers = finds.answers; yielded = finds.yielded; one = finds.one }
+
+module _ {T C Z B X A E G H F : Type 0} (plain : CrewCallsOf T G (Arc (KeptLinks Z) B) LeavesOut A H F) (honouring : CrewCallsOf T C (Arc (KeptLinks Z) B) (Honours (WithExcludes X) B) A RulesState E) {disk : Z} {reads : X} {still still' told told' : Type 0} {fs fs' : Functions} {texts texts' : Texts} {home : Home} {screen : Screen} {asked : Asked} {sought : Looked} {old old' new : Option (List ℕ)} where
   -- the same search, by other names of the file system, the texts and what was written before
-  pub searches_as : (still' → still) → (fixed' → fixed) → fs ≡ fs' → texts ≡ texts' → old ≡ old' → SearchesFor plain honouring disk reads still fixed fs texts home screen asked sought old new → SearchesFor plain honouring disk reads still' fixed' fs' texts' home screen asked sought old' new
-  searches_as stays fixes over from before s =
-      subst (λ (o : Option (List ℕ)). SearchesFor plain honouring disk reads still' fixed' fs' texts' home screen asked sought o new) before
-      (subst (λ (t : Texts). SearchesFor plain honouring disk reads still' fixed' fs' t home screen asked sought old new) from
-      (subst (λ (f : Functions). SearchesFor plain honouring disk reads still' fixed' f texts home screen asked sought old new) over
+  pub searches_as : (still' → still) → (told' → told) → fs ≡ fs' → texts ≡ texts' → old ≡ old' → SearchesFor plain honouring disk reads still told fs texts home screen asked sought old new → SearchesFor plain honouring disk reads still' told' fs' texts' home screen asked sought old' new
+  searches_as stays tells over from before s =
+      subst (λ (o : Option (List ℕ)). SearchesFor plain honouring disk reads still' told' fs' texts' home screen asked sought o new) before
+      (subst (λ (t : Texts). SearchesFor plain honouring disk reads still' told' fs' t home screen asked sought old new) from
+      (subst (λ (f : Functions). SearchesFor plain honouring disk reads still' told' f texts home screen asked sought old new) over
       (record {
         colored = s.colored;
-        times = λ both. s.times (fixes both);
-        quiet = λ quiet. let found = s.quiet quiet in (found.0, λ empties. found.1 (λ empty. stays (empties empty)));
-        yielded = λ loud. by_read (printed_if plain honouring stays) (s.yielded loud);
-        prints = λ both. s.prints (fixes both);
+        times = record { now = s.times.now; after = s.times.after; before = s.times.before; after_file = λ still'. s.times.after_file (stays still') };
+        quiet = λ quiet. let found = s.quiet quiet in (found.0, λ empties. by_read tells refl (found_if plain honouring (front_as tells refl)) (found.1 (λ empty. stays (empties empty))));
+        yielded = λ loud. by_read tells refl (printed_if plain honouring stays (front_as tells refl)) (s.yielded loud);
+        prints = λ still' told'. s.prints (stays still') (tells told');
       })))
 
-module _ {T C Z B X A E G H F : Type 0} (plain : CrewCallsOf T G (Arc (KeptLinks (Based Z)) B) LeavesOut A H F) (honouring : CrewCallsOf T C (Arc (KeptLinks (Based Z)) B) (Honours (WithExcludes (Based X)) B) A RulesState E) {disk : Z} {reads : X} {still fixed : Type 0} {fs : Functions} {texts : Texts} {home : Home} {screen : Screen} {old new : Option (List ℕ)} where
+module _ {T C Z B X A E G H F : Type 0} (plain : CrewCallsOf T G (Arc (KeptLinks (Based Z)) B) LeavesOut A H F) (honouring : CrewCallsOf T C (Arc (KeptLinks (Based Z)) B) (Honours (WithExcludes (Based X)) B) A RulesState E) {disk : Z} {reads : X} {still told : Type 0} {fs : Functions} {texts : Texts} {home : Home} {screen : Screen} {old new : Option (List ℕ)} where
   -- the same call, by other names of its words
-  pub searches_with : {words words' : List (List ℕ)} → words ≡ words' → AskForText words ⊎ Searches plain honouring disk reads still fixed fs texts home screen words old new → AskForText words' ⊎ Searches plain honouring disk reads still fixed fs texts home screen words' old new
-  searches_with is = subst (λ (w : List (List ℕ)). AskForText w ⊎ Searches plain honouring disk reads still fixed fs texts home screen w old new) is
+  pub searches_with : {words words' : List (List ℕ)} → words ≡ words' → AskForText words ⊎ Searches plain honouring disk reads still told fs texts home screen words old new → AskForText words' ⊎ Searches plain honouring disk reads still told fs texts home screen words' old new
+  searches_with is = subst (λ (w : List (List ℕ)). AskForText w ⊎ Searches plain honouring disk reads still told fs texts home screen w old new) is

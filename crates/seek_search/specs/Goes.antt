@@ -1,5 +1,5 @@
 -- The answers of a search, whatever the disk and the texts answer.
-use Rattle.std.specs.Prelude.{◌≡◌, ◌⊎◌, ℕ, Bool, true, false, List, Option, Some, Result, is_some, MatchBool}
+use Rattle.std.specs.Prelude.{◌≡◌, ◌⊎◌, ℕ, Bool, true, false, List, Option, Some, Result, MatchBool}
 use Rattle.std.specs.Arc.{arc_value}
 use Rattle.std.specs.Iterator.{Drains, Yields}
 use Rattle.std.specs.List.{list_any}
@@ -19,6 +19,7 @@ use Rattle.jwalk.specs.declared.walk_dir.WalkDirGeneric.{WalkDirGeneric}
 use Rattle.jwalk_ignore.specs.Callback.IgnoreViews.{next_of, settings_of, texts_of}
 use Rattle.jwalk_ignore.specs.Callback.States.{rules_held}
 use Rattle.jwalk_ignore.specs.Rules.Chain.{no_rules}
+use Rattle.jwalk_ignore.specs.Rules.Texts.{Texts}
 use Rattle.jwalk_ignore.specs.Rules.WithExcludes.{texts_behind}
 use Rattle.jwalk_ignore.specs.jwalk_ignore_rules.declared.rules.with_excludes.WithExcludes.{WithExcludes}
 use Rattle.seek_words.specs.declared.asked.Asked.{Asked}
@@ -32,6 +33,8 @@ use Rattle.program_walks.specs.Crew.{CrewCallsOf, with_crew}
 use Rattle.jwalk.specs.jwalk_callbacks.Both.{first_of, second_of}
 use Rattle.jwalk.specs.jwalk_callbacks.declared.both.Both.{Both}
 use Rattle.jwalk_ignore.specs.Callback.Excluding.{excluded_of}
+use Rattle.seek_search.specs.Printing.{IsFront}
+use Rattle.seek_search.specs.RulesRead.{lines_asked}
 use Rattle.seek_search.specs.Search.{excluded_asked, form_before, limit_asked, named_below, options_asked, roots_asked, settings_asked, sought_before}
 use Rattle.jwalk_ignore.specs.declared.callback.excluding.Excluding.{Excluding}
 use Rattle.seek_search.specs.KeptLinks.{functions_kept}
@@ -93,24 +96,30 @@ module _ {T C Z B X A E G H F : Type 0} (plain : CrewCallsOf T G (Arc (KeptLinks
   AreYielded disk texts lines asked sought may_stop = AreBelow (YieldedBelow plain honouring (record { disk = disk; follow = asked.follow }) texts lines asked sought) may_stop (roots_asked asked)
 
   -- The line of each answer that is looked for was printed, up to the limit, and the result says whether all answers
-  -- are clean. The absolute path is tested, and printed, if that is asked for. If empty entries are looked for, or the
-  -- disk is asked where links lead, this holds if it always answers the same.
-  pub record PrintsYielded (disk : Z) (fixed : Type 0) (fs : Functions) (texts : X) (lines : List ℕ) (screen : Screen) (asked : Asked) (takes : List ℕ → Bool → Bool) (old new : Option (List ℕ)) (clean : Bool) : Type 0 where
+  -- are clean. The absolute path is tested, and printed, if that is asked for; it is known if the texts always answer
+  -- the same, which `told` says. If empty entries are looked for, or the disk is asked where links lead, this holds if
+  -- the disk always answers the same, which `fixed` says.
+  pub record PrintsYielded (disk : Z) (fixed told : Type 0) (fs : Functions) (values : Texts) (texts : X) (lines : List ℕ) (screen : Screen) (asked : Asked) (takes : List ℕ → Bool → Bool) (old new : Option (List ℕ)) (clean : Bool) : Type 0 where
     pub front : Option (List ℕ)
-    pub in_front : is_some front ≡ asked.full_path
+    pub in_front : IsFront told values asked.full_path front
     pub shown : Option (List ℕ)
-    pub is_shown : is_some shown ≡ asked.absolute
+    pub is_shown : IsFront told values asked.absolute shown
     pub left : Option ℕ
     pub printed : IfAsked fixed (sought_before fs front asked takes) (form_before (functions_kept asked.follow fs) shown screen asked) → PrintsSuch (AreYielded disk texts lines asked (sought_before fs front asked takes) (left ≡ Some 0)) (sought_before fs front asked takes) (form_before (functions_kept asked.follow fs) shown screen asked) (limit_asked asked) left old new clean
 
   -- `found` says whether one of the answers is looked for. If so, the search may stop there.
-  pub record Finds (disk : Z) (fs : Functions) (texts : X) (lines : List ℕ) (asked : Asked) (takes : List ℕ → Bool → Bool) (found : Bool) : Type 0 where
+  pub record Finds (disk : Z) (told : Type 0) (fs : Functions) (values : Texts) (texts : X) (lines : List ℕ) (asked : Asked) (takes : List ℕ → Bool → Bool) (found : Bool) : Type 0 where
     pub front : Option (List ℕ)
-    pub in_front : is_some front ≡ asked.full_path
+    pub in_front : IsFront told values asked.full_path front
     pub answers : List (Item Worth Worth)
     pub yielded : AreYielded disk texts lines asked (sought_before fs front asked takes) (found ≡ true) answers
     pub one : list_any (is_hit (sought_before fs front asked takes)) answers ≡ found
 
--- What is known of a search by these texts, whatever the user's excludes are, and by some lines of ignore files.
-abbrev pub ByRead : {X : Type 0} → X → (WithExcludes X → List ℕ → Type 0) → Type 0
-ByRead {X} texts is = (reads : WithExcludes X) × (texts_behind reads ≡ texts) × ((lines : List ℕ) × is reads lines)
+-- What is known of a search by these texts, whatever the user's excludes are, and by lines of ignore files. If the texts
+-- always answer the same, the lines are those of the files that are asked for.
+pub record ByRead {X : Type 0} (texts : X) (told : Type 0) (values : Texts) (asked : Asked) (is : WithExcludes X → List ℕ → Type 0) : Type 0 where
+  pub reads : WithExcludes X
+  pub behind : texts_behind reads ≡ texts
+  pub lines : List ℕ
+  pub named : told → lines ≡ lines_asked values asked
+  pub known : is reads lines

@@ -100,11 +100,13 @@ impl<
         err: &mut E,
     ) -> Result<Ended, Halt>
         ensures yielded { IfOk result (λ ended. PrintsYielded ⟦<PlainWalk<T, KeptLinks<S>> as Iterator>⟧.next_gives
-            ⟦<HonouringWalk<T, KeptLinks<S>, X> as Iterator>⟧.next_gives self.entry.disk (S.IsFixed self.entry.disk) (S.functions self.entry.disk) self.entry.texts given.now self.entry.screen
+            ⟦<HonouringWalk<T, KeptLinks<S>, X> as Iterator>⟧.next_gives self.entry.disk (S.IsFixed self.entry.disk) (X.IsFixed self.entry.texts)
+            (S.functions self.entry.disk) (X.functions self.entry.texts) self.entry.texts given.now self.entry.screen
             asked.now (takes_by sought.now) (W.contents out.old) (W.contents out.new) ended.clean) }
         ensures found { IfOk result (λ ended. asked.now.quiet ≡ true → (asked.now.kinds.empty ≡ true → S.IsFixed self.entry.disk)
             → Finds ⟦<PlainWalk<T, KeptLinks<S>> as Iterator>⟧.next_gives
-            ⟦<HonouringWalk<T, KeptLinks<S>, X> as Iterator>⟧.next_gives self.entry.disk (S.functions self.entry.disk) self.entry.texts given.now asked.now (takes_by sought.now) ended.full) }
+            ⟦<HonouringWalk<T, KeptLinks<S>, X> as Iterator>⟧.next_gives self.entry.disk (X.IsFixed self.entry.texts)
+            (S.functions self.entry.disk) (X.functions self.entry.texts) self.entry.texts given.now asked.now (takes_by sought.now) ended.full) }
         ensures whole { IfOk result (λ ended. limit_asked asked.now ≡ None → ended.clean ≡ true → S.IsFixed self.entry.disk → X.IsFixed self.entry.texts
             → PrintsRead (S.functions self.entry.disk) (X.functions self.entry.texts) given.now self.entry.screen asked.now sought.now
             (W.contents out.old) (W.contents out.new)) }
@@ -142,14 +144,18 @@ impl<
         out: &mut W,
         err: &mut E,
     ) -> Result<Ended, Halt>
-        ensures yielded { IfOk result (λ ended. ended.clean ≡ true → ByRead self.entry.texts (λ reads lines. PrintsYielded
+        ensures yielded { IfOk result (λ ended. ended.clean ≡ true → ByRead self.entry.texts (X.IsFixed self.entry.texts)
+            (X.functions self.entry.texts) asked.now (λ reads lines. PrintsYielded
             ⟦<PlainWalk<T, KeptLinks<S>> as Iterator>⟧.next_gives
-            ⟦<HonouringWalk<T, KeptLinks<S>, WithExcludes<X>> as Iterator>⟧.next_gives self.entry.disk (S.IsFixed self.entry.disk) (S.functions self.entry.disk) reads lines self.entry.screen
+            ⟦<HonouringWalk<T, KeptLinks<S>, WithExcludes<X>> as Iterator>⟧.next_gives self.entry.disk (S.IsFixed self.entry.disk) (X.IsFixed self.entry.texts)
+            (S.functions self.entry.disk) (X.functions self.entry.texts) reads lines self.entry.screen
             asked.now (takes_by sought.now) (W.contents out.old) (W.contents out.new) true)) }
         ensures found { IfOk result (λ ended. asked.now.quiet ≡ true
-            → (asked.now.kinds.empty ≡ true → S.IsFixed self.entry.disk) → ByRead self.entry.texts (λ reads lines. Finds
+            → (asked.now.kinds.empty ≡ true → S.IsFixed self.entry.disk) → ByRead self.entry.texts (X.IsFixed self.entry.texts)
+            (X.functions self.entry.texts) asked.now (λ reads lines. Finds
             ⟦<PlainWalk<T, KeptLinks<S>> as Iterator>⟧.next_gives
-            ⟦<HonouringWalk<T, KeptLinks<S>, WithExcludes<X>> as Iterator>⟧.next_gives self.entry.disk (S.functions self.entry.disk) reads lines asked.now (takes_by sought.now) ended.full)) }
+            ⟦<HonouringWalk<T, KeptLinks<S>, WithExcludes<X>> as Iterator>⟧.next_gives self.entry.disk (X.IsFixed self.entry.texts)
+            (S.functions self.entry.disk) (X.functions self.entry.texts) reads lines asked.now (takes_by sought.now) ended.full)) }
         ensures whole { IfOk result (λ ended. limit_asked asked.now ≡ None → ended.clean ≡ true → S.IsFixed self.entry.disk → X.IsFixed self.entry.texts
             → PrintsAsked (S.functions self.entry.disk) (X.functions self.entry.texts) self.entry.home self.entry.screen asked.now sought.now
             (W.contents out.old) (W.contents out.new)) }
@@ -197,7 +203,7 @@ impl<
         ensures status { result ≤ 1 }
         ensures done { result ≡ 0 → (times : Times) × (colored : Bool) × SearchesFor ⟦<PlainWalk<T, KeptLinks<S>> as Iterator>⟧.next_gives
             ⟦<HonouringWalk<T, KeptLinks<S>, WithExcludes<X>> as Iterator>⟧.next_gives self.entry.disk self.entry.texts
-            (S.IsFixed self.entry.disk) (S.IsFixed self.entry.disk × X.IsFixed self.entry.texts) (S.functions self.entry.disk) (X.functions self.entry.texts) self.entry.home self.entry.screen
+            (S.IsFixed self.entry.disk) (X.IsFixed self.entry.texts) (S.functions self.entry.disk) (X.functions self.entry.texts) self.entry.home self.entry.screen
             (record asked.entry { times = times; colored = colored }) sought.now (W.contents out.old) (W.contents out.new) }
     {
         match times_of(self.clock, &self.disk, &asked) {
@@ -226,7 +232,7 @@ impl<
         ensures done { result ≡ 0 → AskForText (map string_bytes words.now)
             ⊎ Searches ⟦<PlainWalk<T, KeptLinks<Based<S>>> as Iterator>⟧.next_gives
             ⟦<HonouringWalk<T, KeptLinks<Based<S>>, WithExcludes<Based<X>>> as Iterator>⟧.next_gives self.entry.disk self.entry.texts
-            (S.IsFixed self.entry.disk) (S.IsFixed self.entry.disk × X.IsFixed self.entry.texts) (S.functions self.entry.disk) (X.functions self.entry.texts) self.entry.home self.entry.screen
+            (S.IsFixed self.entry.disk) (X.IsFixed self.entry.texts) (S.functions self.entry.disk) (X.functions self.entry.texts) self.entry.home self.entry.screen
             (map string_bytes words.now) (W.contents out.old) (W.contents out.new) }
     {
         let Seek {
@@ -281,7 +287,7 @@ impl<
         ensures done { result ≡ 0 → AskForText (joined (map string_bytes words.now))
             ⊎ Searches ⟦<PlainWalk<T, KeptLinks<Based<S>>> as Iterator>⟧.next_gives
             ⟦<HonouringWalk<T, KeptLinks<Based<S>>, WithExcludes<Based<X>>> as Iterator>⟧.next_gives self.entry.disk self.entry.texts
-            (S.IsFixed self.entry.disk) (S.IsFixed self.entry.disk × X.IsFixed self.entry.texts) (S.functions self.entry.disk) (X.functions self.entry.texts) self.entry.home self.entry.screen
+            (S.IsFixed self.entry.disk) (X.IsFixed self.entry.texts) (S.functions self.entry.disk) (X.functions self.entry.texts) self.entry.home self.entry.screen
             (joined (map string_bytes words.now)) (W.contents out.old) (W.contents out.new) }
     {
         match joined_words(self.alloc, words) {

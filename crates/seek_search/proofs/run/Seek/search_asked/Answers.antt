@@ -7,6 +7,7 @@ use Rattle.seek_words.specs.Sought.{Sought}
 use Rattle.seek_found.specs.Limit.{is_hit}
 use Rattle.seek_found.proofs.RootsFacts.{found_if_full, printed_such, such_printed_by}
 use Rattle.seek_search.specs.KeptLinks.{functions_kept}
+use Rattle.seek_search.specs.Printing.{IsFront}
 use Rattle.seek_search.specs.Search.{form_before, front_if, positive, roots_asked, sought_before}
 use Rattle.seek_search.specs.declared.kept_links.KeptLinks.{KeptLinks}
 use Rattle.seek_found.proofs.FoundFacts.{asked_if}
@@ -52,9 +53,9 @@ returns-clause-yielded g c =
     IfOk-weaker c.print.result _ _
     (λ ended prints. record {
       front = made.filter.front;
-      in_front = made.filter.is_front.wanted_so;
+      in_front = subst (λ x. IsFront (g.X.Texts.IsFixed x) (g.X.Texts.functions x) asked.full_path made.filter.front) c.in_ok-shared-2.ensures made.filter.is_front;
       shown = made.shown;
-      is_shown = made.is_shown.wanted_so;
+      is_shown = subst (λ x. IsFront (g.X.Texts.IsFixed x) (g.X.Texts.functions x) asked.absolute made.shown) c.in_ok-shared-2.ensures made.is_shown;
       left = c.print.new.printer.left;
       printed = λ known. such_printed_by looked formed made.limit
           (printed_such (same_below _ _ _ asked _ (roots_asked asked) c.in_ok-shared.ensures c.in_ok-shared-2.ensures looked) (prints made.empty (asked_if looked formed stays known)));
@@ -75,7 +76,7 @@ returns-clause-found g c =
     let limited = made.limit ∙ ap (λ b. if b then Some 1 else positive asked.max_results) quiet in
     record {
       front = made.filter.front;
-      in_front = made.filter.is_front.wanted_so;
+      in_front = subst (λ x. IsFront (g.X.Texts.IsFixed x) (g.X.Texts.functions x) asked.full_path made.filter.front) c.in_ok-shared-2.ensures made.filter.is_front;
       answers = yielded.answers;
       yielded = stops_sooner _ _ _ _ _ asked _ _ _ (reached ended.full room) (roots_asked asked) yielded.answers (same_below _ _ _ asked _ (roots_asked asked) c.in_ok-shared.ensures c.in_ok-shared-2.ensures looked yielded.answers yielded.such);
       one = subst (λ (s : Sought). list_any (is_hit s) yielded.answers ≡ ended.full) looked (found_if_full yielded limited ended.full filled room);

@@ -11,11 +11,11 @@ returns-then-asked-clause-done g c = λ zero.
       _,
       record {
         colored = c.is_colored.ensures;
-        times = λ both.
-            let known = c.in-Ok.ensures both.0 in record { now = known.now; after = known.after; before = known.before; after_file = known.after_file };
-        quiet = λ quiet. (refl, λ empties. by_read (λ _ _. subst (Finds _ _ _ _ _ _ _ _) found.1) (found.2 quiet empties));
+        times =
+            let known = c.in-Ok.ensures in record { now = known.now; after = known.after; before = known.before; after_file = known.after_file };
+        quiet = λ quiet. (refl, λ empties. by_read (λ told. told) refl (λ _ _. subst (Finds _ _ _ _ _ _ _ _ _ _) found.1) (found.2 quiet empties));
         yielded = λ loud. absurd (true≢false (sym c.if-asked.true ∙ loud));
-        prints = λ both none. absurd (one_not_none refl (rw c.if-asked.true at none));
+        prints = λ still told none. absurd (one_not_none refl (rw c.if-asked.true at none));
       },
     )
 
@@ -28,10 +28,10 @@ returns-clause-done g c = λ zero.
       _,
       record {
         colored = c.is_colored.ensures;
-        times = λ both.
-            let known = c.in-Ok.ensures both.0 in record { now = known.now; after = known.after; before = known.before; after_file = known.after_file };
+        times =
+            let known = c.in-Ok.ensures in record { now = known.now; after = known.after; before = known.before; after_file = known.after_file };
         quiet = λ quiet. absurd (true≢false (sym quiet ∙ c.if-asked.false));
         yielded = λ loud. prints.2 prints.1;
-        prints = λ both none. whole.2 none whole.1 both.0 both.1;
+        prints = λ still told none. whole.2 none whole.1 still told;
       },
     )

@@ -41,8 +41,8 @@ returns-clause-done g c = λ zero.
       is_over = record { of = over.of; from = over.from };
       from = c.in-Ok-Ok.texts;
       is_from = record { of = from.of; from = from.from };
-      folder = λ both. subst (λ fs. has_folder fs c.in-Ok.read.0 ≡ true) (ap₂ functions_based over.from (ap g.S.FileSystem.functions over.of))
-          (c.has_folder.ensures (subst g.S.FileSystem.IsFixed (sym over.of) both.0) c.if-not-has_folder.false);
-      searches = searches_as _ _ (subst g.S.FileSystem.IsFixed (sym over.of)) (λ both. (subst g.S.FileSystem.IsFixed (sym over.of) both.0, subst g.X.Texts.IsFixed (sym from.of) both.1))
+      folder = λ still. subst (λ fs. has_folder fs c.in-Ok.read.0 ≡ true) (ap₂ functions_based over.from (ap g.S.FileSystem.functions over.of))
+          (c.has_folder.ensures (subst g.S.FileSystem.IsFixed (sym over.of) still) c.if-not-has_folder.false);
+      searches = searches_as _ _ (subst g.S.FileSystem.IsFixed (sym over.of)) (subst g.X.Texts.IsFixed (sym from.of))
           (ap₂ functions_based over.from (ap g.S.FileSystem.functions over.of)) (ap₂ texts_based from.from (ap g.X.Texts.functions from.of)) c.in-Ok.ensures.unwritten done.2;
     })
