@@ -1,9 +1,11 @@
 pub mod AsksFacts
 pub mod CommandFacts
+pub mod DateFacts
 pub mod EmptyFacts
 pub mod EndFacts
 pub mod CaseFacts
 pub mod ExtensionFacts
+pub mod LengthFacts
 pub mod PathFacts
 pub mod SizeFacts
 pub mod TimeFacts

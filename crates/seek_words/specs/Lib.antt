@@ -14,6 +14,10 @@ pub mod Absolute
 pub mod Subject
 pub mod Screen
 pub mod Size
+pub mod Length
+pub mod LengthRows
+pub mod Date
+pub mod DateRows
 pub mod Time
 pub mod Seen
 pub mod Paint

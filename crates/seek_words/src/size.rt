@@ -19,7 +19,7 @@ pub enum Size {
     Exactly(u64),
 }
 
-fn digit_count(text: &[u8]) -> usize
+pub(crate) fn digit_count(text: &[u8]) -> usize
     ensures { result ≡ digit_count text.now }
 {
     let mut count = 0;
@@ -39,7 +39,7 @@ fn with_digit(number: u64, digit: u8) -> Option<u64>
 }
 
 /// Returns `None` if the number has more than 64 bits.
-fn number_of(digits: &[u8]) -> Option<u64>
+pub(crate) fn number_of(digits: &[u8]) -> Option<u64>
     ensures { result ≡ in_64_bits (number_of digits.now) }
 {
     let mut number = 0;
