@@ -32,6 +32,10 @@ $ seek --no-follow -L ^c /t
   /t/down/c.rs
   /t/sub/c.rs
 
+$ seek --dereference ^c /t
+  /t/down/c.rs
+  /t/sub/c.rs
+
 # types
 $ seek -t d . /t
   /t/sub
@@ -301,6 +305,41 @@ $ seek -j -1 txt /t
 !~ '-1'
 = 2
 
+# the last of an option counts
+$ seek -d1 --maxdepth 9 -d2 ^c|^a.rs /t
+  /t/sub/c.rs
+$ seek --min-depth=9 --min-depth 3 . /t
+  /t/sub/deep/a.rs
+$ seek --exact-depth 1 --exact-depth=3 . /t
+  /t/sub/deep/a.rs
+$ seek -j1 --threads=4 txt /t
+  /t/B.TXT
+  /t/a.txt
+$ seek --color=always -c never ^sub /t
+  /t/sub
+$ seek --color=never --color=always ^sub /t
+  \x1b[34m/t/\x1b[0m\x1b[34msub\x1b[0m
+$ seek --path-separator=+ --path-separator=# ^sub t
+  t#sub
+$ seek --base-directory=/none --base-directory /t ^a
+  a.txt
+  sub/deep/a.rs
+$ seek --sort --max-results=0 --max-results=1 txt /t
+  /t/B.TXT
+$ seek --sort -1 --max-results=3 txt /t
+  /t/B.TXT
+  /t/a.txt
+$ seek -1 --max-results=0 txt /t
+  /t/B.TXT
+  /t/a.txt
+$ seek --sort --max-results=2 -1 txt /t
+  /t/B.TXT
+$ seek --sort --max-results=0 -1 txt /t
+  /t/B.TXT
+$ seek --exact-depth=1 -d2 --exact-depth=1 . /t
+!~ --max-depth
+= 2
+
 # short options in one word
 $ seek -HIsd1 hid /t
   /t/.hidden
@@ -353,6 +392,16 @@ $ seek --size=+1ki . /s
   /s/d
 $ seek -S 1025B . /s
   /s/d
+$ seek -S -1M . /s
+  /s/a
+  /s/b
+  /s/c
+  /s/d
+$ seek -S -1mi -S +1KI . /s
+  /s/c
+  /s/d
+$ seek -S 1k --size=+1B . /s
+  /s/b
 $ seek -S+1Kb -S-1KiB . /s
   /s/b
   /s/c

@@ -49,14 +49,27 @@ $ seek -o :7 . /o
   /o/1000-7
   /o/1001-7
 
+-- Numbers with a plus, any owner, and the last of several.
+$ seek -o +1000:!+7 . /o
+  /o/1000-0
+  /o/1000-8
+$ seek -o '' ^1 /o
+  /o/1000-0
+  /o/1000-7
+  /o/1000-8
+  /o/1001-7
+$ seek --owner=: ^1 /o
+  /o/1000-0
+  /o/1000-7
+  /o/1000-8
+  /o/1001-7
+$ seek -o 0 --owner=1001 . /o
+  /o/1001-7
+$ seek -o 0 -o : ^7 /o
+  /o/7-1000
+
 # other texts are no owner
 tree
-$ seek --owner=
-!~ '' is no owner
-= 2
-$ seek --owner=:
-!~ ':' is no owner
-= 2
 $ seek --owner=!
 !~ '!' is no owner
 = 2
@@ -75,8 +88,11 @@ $ seek --owner=root
 $ seek --owner=0:root
 !~ '0:root' is no owner
 = 2
-$ seek --owner=+5
-!~ '+5' is no owner
+$ seek --owner=+
+!~ '+' is no owner
+= 2
+$ seek --owner=++5
+!~ '++5' is no owner
 = 2
 $ seek --owner=-1
 !~ '-1' is no owner

@@ -34,8 +34,8 @@ $ seek --color red
 $ seek -o root
 !~ 'root' is no owner
 = 2
-$ seek --owner=:
-!~ ':' is no owner
+$ seek --owner=::
+!~ '::' is no owner
 = 2
 $ seek *.md /t
 !~ try -g
@@ -54,12 +54,6 @@ $ seek --max-depth
 = 2
 $ seek --min-depth 18446744073709551616 .
 !~ 18446744073709551616
-= 2
-$ seek -j1 --threads=4
-!~ --threads
-= 2
-$ seek -d1 -d2
-!~ --max-depth
 = 2
 $ seek --exact-depth=1 --max-depth=2
 !~ --max-depth

@@ -2,7 +2,7 @@
 use Rattle.std.specs.Prelude.{◌≡◌, ◌⊎◌, ℕ, ◌==◌, Bool, ◌&&◌, ◌||◌, true, false, List, [], ◌++◌, map, bytes_eq, codes, Option, Some, None, option_map, unwrap_or}
 use Rattle.std.specs.List.{list_any}
 use Rattle.clap.specs.Words.{Row, Text, first_of, one_of}
-use Rattle.program_parts.specs.Values.{is_named, values_in, texts_of, IsNumberOf}
+use Rattle.program_parts.specs.Values.{has_value, is_named, values_in, texts_of, IsNumberOf}
 use Rattle.seek_words.specs.Color.{color_in}
 use Rattle.seek_words.specs.Owner.{owner_in}
 use Rattle.seek_words.specs.Size.{size_in}
@@ -14,6 +14,7 @@ use Rattle.seek_words.specs.declared.color.Color.TheVariants.{Auto}
 use Rattle.seek_words.specs.declared.depths.Depths.{Depths}
 use Rattle.seek_words.specs.declared.kinds.Kinds.{Kinds}
 use Rattle.seek_words.specs.declared.asked.Asked.{Asked}
+use Rattle.seek_words.specs.declared.owner.Owner.{Owner}
 
 -- An option that another undoes is asked for only if it is named, and always if the other isn't.
 pub record IsOn (named undone asked : Bool) : Type 0 where
@@ -24,10 +25,12 @@ pub record IsOn (named undone asked : Bool) : Type 0 where
 abbrev pub is_either_named : List Row → Text → Text → Bool
 is_either_named rows id other = is_named rows id || is_named rows other
 
--- The greatest number of printed paths.
+-- The greatest number of printed paths. It is one if the option for that is named, and no number that undoes it.
 pub record AreResultsIn (rows : List Row) (most : Option ℕ) : Type 0 where
-  pub one : is_named rows (codes "one-result") ≡ true → most ≡ Some 1
-  pub named : is_named rows (codes "one-result") ≡ false → IsNumberOf (one_of (codes "max-results") rows) most
+  pub one : Bool
+  pub is_one : IsOn (is_named rows (codes "one-result")) (has_value rows (codes "max-results")) one
+  pub alone : one ≡ true → most ≡ Some 1
+  pub named : one ≡ false → IsNumberOf (one_of (codes "max-results") rows) most
 
 -- Of two options of which the last counts, the one that is named is asked for, and just one of them if both are.
 pub record ChoosesOne (named named' asked asked' : Bool) : Type 0 where
@@ -92,6 +95,10 @@ kinds_in names = record {
 abbrev pub IsColorIn : Option Text → Color → Type 0
 IsColorIn named color = Some color ≡ unwrap_or (option_map color_in named) (Some Auto)
 
+-- The owner that is looked for, if one is.
+abbrev pub IsOwnerIn : Option Text → Option Owner → Type 0
+IsOwnerIn named owner = Some owner ≡ unwrap_or (option_map owner_in named) (Some None)
+
 -- whether a byte is a slash
 abbrev pub is_slash : ℕ → Bool
 is_slash byte = byte == 47
@@ -116,7 +123,7 @@ pub record Asks (rows : List Row) (asked : Asked) : Type 0 where
   pub kinds : asked.kinds ≡ kinds_in (values_in rows (codes "type"))
   pub extensions : texts_of asked.extensions.items ≡ values_in rows (codes "extension")
   pub sizes : map Some asked.sizes.items ≡ map size_in (values_in rows (codes "size"))
-  pub owner : option_map Some asked.owner ≡ option_map owner_in (first_of (codes "owner") rows)
+  pub owner : IsOwnerIn (first_of (codes "owner") rows) asked.owner
   pub changed_within : option_map Some asked.changed_within ≡ option_map time_in (first_of (codes "changed-within") rows)
   pub changed_before : option_map Some asked.changed_before ≡ option_map time_in (first_of (codes "changed-before") rows)
   pub newer_than : option_map (λ it. it.now) asked.newer_than ≡ first_of (codes "newer-than-file") rows

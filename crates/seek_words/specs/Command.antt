@@ -20,19 +20,27 @@ pattern_rule = record (new_rule (codes "pattern")) { value_names = 1 }
 abbrev pub and_rule : Rule
 and_rule = record (valued_rule (codes "and")) { action = Some Append }
 
+-- whether a pattern is a text
+abbrev pub fixed_rule : Rule
+fixed_rule = with_name (codes "literal") (flag_rule (codes "fixed-strings") 70)
+
 -- the reading of a pattern
 abbrev pub pattern_rules : List Rule
 pattern_rules =
-    flag_rule (codes "glob") 103 ∷ flag_rule (codes "fixed-strings") 70 ∷ long_flag_rule (codes "regex") ∷ and_rule ∷ flag_rule (codes "full-path") 112 ∷ []
+    flag_rule (codes "glob") 103 ∷ fixed_rule ∷ long_flag_rule (codes "regex") ∷ and_rule ∷ flag_rule (codes "full-path") 112 ∷ []
 
 -- whether the case of letters counts
 abbrev pub case_rules : List Rule
 case_rules = flag_rule (codes "ignore-case") 105 ∷ flag_rule (codes "case-sensitive") 115 ∷ []
 
+-- whether links are followed
+abbrev pub follow_rule : Rule
+follow_rule = with_name (codes "dereference") (flag_rule (codes "follow") 76)
+
 -- which entries are walked
 abbrev pub walk_rules : List Rule
 walk_rules =
-    flag_rule (codes "hidden") 72 ∷ flag_rule (codes "no-ignore") 73 ∷ flag_rule (codes "unrestricted") 117 ∷ listed_rule (codes "exclude") 69 ∷ flag_rule (codes "follow") 76 ∷ []
+    flag_rule (codes "hidden") 72 ∷ flag_rule (codes "no-ignore") 73 ∷ flag_rule (codes "unrestricted") 117 ∷ listed_rule (codes "exclude") 69 ∷ follow_rule ∷ []
 
 -- more ignore files
 abbrev pub ignore_file_rule : Rule
@@ -76,11 +84,12 @@ filter_rules kinds =
 
 -- the time after which entries were modified
 abbrev pub within_rule : Rule
-within_rule = with_name (codes "change-newer-than") (with_name (codes "newer") (valued_rule (codes "changed-within")))
+within_rule =
+    with_name (codes "change-newer-than") (with_name (codes "changed-after") (with_name (codes "newer") (valued_rule (codes "changed-within"))))
 
 -- the time before which they were
 abbrev pub before_rule : Rule
-before_rule = with_name (codes "change-older-than") (valued_rule (codes "changed-before"))
+before_rule = with_name (codes "change-older-than") (with_name (codes "older") (valued_rule (codes "changed-before")))
 
 -- the times at which entries were modified
 abbrev pub time_rules : List Rule
@@ -128,9 +137,9 @@ pub record AreFilters (args : List Arg) : Type 0 where
   pub names : map (λ it. it.now) kinds.now ≡ kind_names
   pub rules : HaveRules args (filter_rules kinds)
 
--- the command with its name and its version
+-- the command with its name and its version, in which the last of a repeated option counts
 abbrev pub named_app : App
-named_app = record (new_app (codes "seek")) { top = record (new_shape (codes "seek")) { has_version = true } }
+named_app = record (new_app (codes "seek")) { top = record (new_shape (codes "seek")) { has_version = true; args_override_self = true } }
 
 -- the command with the arguments for what is compared
 abbrev pub pattern_app : App

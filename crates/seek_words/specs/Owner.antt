@@ -14,9 +14,14 @@ use Rattle.seek_words.specs.declared.owner.Owner.{Owner}
 abbrev pub in_32_bits : ℕ → Option ℕ
 in_32_bits number = if nat_lt number (2 ^ 32) then Some number else None
 
--- the number of a text of digits alone
+-- a text without a `+` in front
+abbrev pub without_plus : List ℕ → List ℕ
+without_plus [] = []
+without_plus (c ∷ cs) = if c == 43 then cs else c ∷ cs
+
+-- the number of a text of digits, which may have a `+` in front
 abbrev pub id_in : List ℕ → Option ℕ
-id_in text = option_and_then in_32_bits (digits_number text)
+id_in text = option_and_then in_32_bits (digits_number (without_plus text))
 
 -- the test of a text: for a number, or for any but the number after a `!`
 abbrev pub test_in : List ℕ → Option IdTest
@@ -28,9 +33,9 @@ abbrev pub part_in : List ℕ → Option (Option IdTest)
 part_in [] = Some None
 part_in (c ∷ cs) = option_map Some (test_in (c ∷ cs))
 
--- an owner of these parts, if both can be read and one is named
-abbrev pub owner_of : Option (Option IdTest) → Option (Option IdTest) → Option Owner
-owner_of (Some user) (Some group) = if is_some user || is_some group then Some (record { user = user; group = group }) else None
+-- an owner of these parts, if both can be read; if none is named, any owner
+abbrev pub owner_of : Option (Option IdTest) → Option (Option IdTest) → Option (Option Owner)
+owner_of (Some user) (Some group) = Some (if is_some user || is_some group then Some (record { user = user; group = group }) else None)
 owner_of _ _ = None
 
 -- the user of a text, which a colon may end
@@ -41,8 +46,8 @@ user_part = before_first (λ b. b == 58)
 abbrev pub group_part : List ℕ → List ℕ
 group_part = after_first (λ b. b == 58)
 
--- the owner of a text: a user, a colon and a group
-abbrev pub owner_in : List ℕ → Option Owner
+-- the owner of a text, or any: a user, a colon and a group
+abbrev pub owner_in : List ℕ → Option (Option Owner)
 owner_in text = owner_of (part_in (user_part text)) (part_in (group_part text))
 
 -- whether a number passes a test

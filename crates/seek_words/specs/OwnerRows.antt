@@ -6,8 +6,8 @@ use Rattle.seek_words.specs.declared.owner.IdTest.TheVariants.{Is, IsNot}
 use Rattle.seek_words.specs.declared.owner.Owner.{Owner}
 
 -- an owner of these two tests
-abbrev of : Option IdTest → Option IdTest → Option Owner
-of user group = Some (record { user = user; group = group })
+abbrev of : Option IdTest → Option IdTest → Option (Option Owner)
+of user group = Some (Some (record { user = user; group = group }))
 
 user_and_group : owner_in (codes "1000:100") ≡ of (Some (Is 1000)) (Some (Is 100))
 user_and_group = refl
@@ -33,17 +33,20 @@ greatest = refl
 too_great : owner_in (codes "4294967296") ≡ None
 too_great = refl
 
-nothing : owner_in [] ≡ None
-nothing = refl
+any_owner : owner_in [] ≡ Some None
+any_owner = refl
 
-only_a_colon : owner_in (codes ":") ≡ None
+only_a_colon : owner_in (codes ":") ≡ Some None
 only_a_colon = refl
 
 no_number : owner_in (codes "!") ≡ None
 no_number = refl
 
-only_digits : owner_in (codes "+5") ≡ None
-only_digits = refl
+a_plus : owner_in (codes "+5:!+7") ≡ of (Some (Is 5)) (Some (IsNot 7))
+a_plus = refl
+
+only_a_plus : owner_in (codes "+") ≡ None
+only_a_plus = refl
 
 a_name : owner_in (codes "root") ≡ None
 a_name = refl

@@ -2,7 +2,7 @@
 ghost use Rattle.std.specs.Prelude.{◌≡◌, ◌∷◌, [], false, map, IfOk};
 ghost use Rattle.clap.specs.Words.{app_of, rule_of};
 ghost use Rattle.program_parts.specs.Rules.{root_rule, with_rules, HaveRules};
-ghost use Rattle.seek_words.specs.Command.{color_rule, kind_rule, kind_names, and_rule, ignore_file_rule, search_rule, before_rule, quiet_rule, within_rule, max_depth_rule, one_rule, owner_rule, file_system_rule, with_name, pattern_rule, named_app, pattern_rules, case_rules, walk_rules, ignore_rules, reach_rules, time_rules, print_rules, undo_rules, HasRule, AreFilters, IsSeek};
+ghost use Rattle.seek_words.specs.Command.{color_rule, fixed_rule, follow_rule, kind_rule, kind_names, and_rule, ignore_file_rule, search_rule, before_rule, quiet_rule, within_rule, max_depth_rule, one_rule, owner_rule, file_system_rule, with_name, pattern_rule, named_app, pattern_rules, case_rules, walk_rules, ignore_rules, reach_rules, time_rules, print_rules, undo_rules, HasRule, AreFilters, IsSeek};
 
 use clap::{Arg, ArgAction, Command};
 use program_parts::options::{
@@ -54,9 +54,22 @@ fn and_option<'a>(alloc: Global) -> Arg<'a>
     .action(ArgAction::Append)
 }
 
+fn fixed_option<'a>(alloc: Global) -> Result<Arg<'a>, AllocError>
+    ensures { IfOk result (HasRule fixed_rule) }
+{
+    let fixed = flag(
+        alloc,
+        "fixed-strings",
+        'F',
+        "The pattern is a text, which a name has in it",
+    );
+    also_named(fixed, "literal")
+}
+
 fn pattern_options<'a>(alloc: Global) -> Result<Vec<Arg<'a>>, AllocError>
     ensures { IfOk result (λ options. HaveRules options.items pattern_rules) }
 {
+    let fixed = fixed_option(alloc)?;
     Ok(vec![in alloc;
         flag(
             alloc,
@@ -64,12 +77,7 @@ fn pattern_options<'a>(alloc: Global) -> Result<Vec<Arg<'a>>, AllocError>
             'g',
             "The pattern is a glob, which takes the whole name",
         ),
-        flag(
-            alloc,
-            "fixed-strings",
-            'F',
-            "The pattern is a text, which a name has in it",
-        ),
+        fixed,
         long_flag(
             alloc,
             "regex",
@@ -104,9 +112,16 @@ fn case_options<'a>(alloc: Global) -> Result<Vec<Arg<'a>>, AllocError>
     ]?)
 }
 
+fn follow_option<'a>(alloc: Global) -> Result<Arg<'a>, AllocError>
+    ensures { IfOk result (HasRule follow_rule) }
+{
+    also_named(flag(alloc, "follow", 'L', "Follow links"), "dereference")
+}
+
 fn walk_options<'a>(alloc: Global) -> Result<Vec<Arg<'a>>, AllocError>
     ensures { IfOk result (λ options. HaveRules options.items walk_rules) }
 {
+    let follow = follow_option(alloc)?;
     Ok(vec![in alloc;
         flag(alloc, "hidden", 'H', "Hidden names come too"),
         flag(alloc, "no-ignore", 'I', "Read no ignore files"),
@@ -118,7 +133,7 @@ fn walk_options<'a>(alloc: Global) -> Result<Vec<Arg<'a>>, AllocError>
             "LINE",
             "Leave out what this line of an ignore file names",
         ),
-        flag(alloc, "follow", 'L', "Follow links"),
+        follow,
     ]?)
 }
 
@@ -264,14 +279,15 @@ fn within_option<'a>(alloc: Global) -> Result<Arg<'a>, AllocError>
         "TIME",
         "Modified later than this: how long ago, as 2h, or a date",
     );
-    also_named(also_named(within, "newer")?, "change-newer-than")
+    let within = also_named(also_named(within, "newer")?, "changed-after")?;
+    also_named(within, "change-newer-than")
 }
 
 fn before_option<'a>(alloc: Global) -> Result<Arg<'a>, AllocError>
     ensures { IfOk result (HasRule before_rule) }
 {
     let before = valued(alloc, "changed-before", "TIME", "Modified before this");
-    also_named(before, "change-older-than")
+    also_named(also_named(before, "older")?, "change-older-than")
 }
 
 fn time_options<'a>(alloc: Global) -> Result<Vec<Arg<'a>>, AllocError>
@@ -383,6 +399,7 @@ fn named<'a>(alloc: Global) -> Result<Command<'a>, AllocError>
         "What a name has in it: a regular expression [default: any name]",
     );
     Command::new(alloc, "seek")
+        .args_override_self(true)
         .version("1.0")
         .about("Prints the paths of entries by their names")
         .arg(pattern)?

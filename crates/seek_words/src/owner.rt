@@ -1,7 +1,7 @@
 //! Owners of files, by number.
 ghost use Rattle.std.specs.Prelude.{◌≡◌};
 ghost use Rattle.std.specs.Option.{option_copied};
-ghost use Rattle.seek_words.specs.Owner.{id_in, part_in, test_in, user_part, group_part, passes_any};
+ghost use Rattle.seek_words.specs.Owner.{id_in, part_in, test_in, user_part, group_part, passes_any, without_plus};
 
 use crate::seen::details_seen;
 use crate::size::digits_number;
@@ -38,11 +38,20 @@ pub struct Owner {
     pub group: Option<IdTest>,
 }
 
-/// Returns `None` if the text isn't of digits alone, or if the number has more than 32 bits.
+fn without_plus(text: &[u8]) -> &[u8]
+    ensures { result.now ≡ without_plus text.now }
+{
+    match text {
+        [b'+', digits @ ..] => digits,
+        digits => digits,
+    }
+}
+
+/// Returns `None` if the text isn't of digits behind a `+` or none, or if the number has more than 32 bits.
 fn id_in(text: &[u8]) -> Option<u32>
     ensures { result ≡ id_in text.now }
 {
-    u32::try_from(digits_number(text)?).ok()
+    u32::try_from(digits_number(without_plus(text))?).ok()
 }
 
 fn test_in(text: &[u8]) -> Option<IdTest>
@@ -87,16 +96,17 @@ impl Owner {
     ghost use Rattle.seek_words.specs.Owner.{is_owned, owner_in};
 
     /// Reads an owner: `USER:GROUP`, `USER`, `USER:` or `:GROUP`. Each is a number of at most 32 bits in decimal digits,
-    /// or a `!` and a number for any but that. Returns `None` for any other text.
-    pub fn read(text: &str) -> Option<Self>
+    /// or a `!` and a number for any but that. Returns `Some(None)` for any owner: the empty text and `:`. Returns `None`
+    /// for any other text.
+    pub fn read(text: &str) -> Option<Option<Self>>
         ensures { result ≡ owner_in text.now }
     {
         let (user, group) = parts_of(text);
         let (user, group) = (part_in(user)?, part_in(group)?);
         if user.is_none() && group.is_none() {
-            return None;
+            return Some(None);
         }
-        Some(Owner { user, group })
+        Some(Some(Owner { user, group }))
     }
 
     /// Returns whether an entry with this metadata is looked for. If the metadata isn't known, the entry isn't.

@@ -2,12 +2,11 @@
 ghost use Rattle.std.specs.Prelude.{◌≡◌, [], codes, is_some, map, option_map, true, unwrap_or, IfOk, IfErr, Some};
 ghost use Rattle.std.specs.List.{list_any};
 ghost use Rattle.clap.specs.Words.{found_of, rows_of, first_of};
-ghost use Rattle.program_parts.specs.Values.{is_named, values_in, texts_of};
-ghost use Rattle.seek_words.specs.Asks.{is_either_named, ChoosesOne, IsOn, IsCaseIn, IsColorIn, AreReadingsIn, roots_in, depths_by, AreDepthsIn, names_one, kinds_in, is_slash, AreResultsIn, Asks};
+ghost use Rattle.program_parts.specs.Values.{has_value, is_named, values_in, texts_of};
+ghost use Rattle.seek_words.specs.Asks.{is_either_named, ChoosesOne, IsOn, IsCaseIn, IsColorIn, IsOwnerIn, AreReadingsIn, roots_in, depths_by, AreDepthsIn, names_one, kinds_in, is_slash, AreResultsIn, Asks};
 ghost use Rattle.seek_words.specs.AsksFor.{AskFor};
 ghost use Rattle.seek_words.specs.Conflict.{has_conflict};
 ghost use Rattle.seek_words.specs.Refusal.{IsRefusedFor, IsRefusedColor, IsRefusedOwner, IsRefusedSize, IsRefusedTime, IsRefusedValue};
-ghost use Rattle.seek_words.specs.Owner.{owner_in};
 ghost use Rattle.seek_words.specs.Size.{size_in};
 ghost use Rattle.seek_words.specs.Time.{time_in};
 
@@ -43,10 +42,19 @@ fn value_of<'w>(found: &ArgMatches<'w>, id: &str) -> Option<&'w str>
     found.get_str(id)
 }
 
+/// Returns whether one result is asked for, and no number of results behind it.
+fn is_one_result(found: &ArgMatches<'_>) -> bool
+    ensures { IsOn (is_named (rows_of (found_of found.now)) (codes "one-result")) (has_value (rows_of (found_of found.now)) (codes "max-results")) result }
+{
+    is_named(found, "one-result")
+        && !(has_value(found, "max-results")
+            && last_place(found, "max-results") > last_place(found, "one-result"))
+}
+
 fn results_of(found: &ArgMatches<'_>) -> Option<usize>
     ensures { AreResultsIn (rows_of (found_of found.now)) result }
 {
-    if is_named(found, "one-result") {
+    if is_one_result(found) {
         return Some(1);
     }
     number_of(found, "max-results")
@@ -216,14 +224,14 @@ fn sizes_named<'w>(alloc: Global, found: &ArgMatches<'w>) -> Result<Vec<Size>, R
 }
 
 fn owner_named<'w>(found: &ArgMatches<'w>) -> Result<Option<Owner>, Refusal<'w>>
-    ensures owner { IfOk result (λ owner. option_map Some owner ≡ option_map owner_in (first_of (codes "owner") (rows_of (found_of found.now)))) }
+    ensures owner { IfOk result (IsOwnerIn (first_of (codes "owner") (rows_of (found_of found.now)))) }
     ensures refused { IfErr result (IsRefusedOwner (first_of (codes "owner") (rows_of (found_of found.now)))) }
 {
     let Some(text) = value_of(found, "owner") else {
         return Ok(None);
     };
     match Owner::read(text) {
-        Some(owner) => Ok(Some(owner)),
+        Some(owner) => Ok(owner),
         None => Err(Refusal::NoOwner(text)),
     }
 }

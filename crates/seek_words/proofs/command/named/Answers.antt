@@ -12,7 +12,8 @@ returns c =
     let pattern : rule_of c.help-pattern.result ≡ pattern_rule = search rules in
     let named : app_of c.about.result ≡ named_app
     = ap app_of_fields c.about.ensures ∙ ap app_of_fields c.version.ensures
-    ∙ ap (λ (a : App). record a { top = record a.top { has_version = true } }) c.new-2.ensures.app in
+    ∙ ap (λ (a : App). record a { top = record a.top { has_version = true } }) (ap app_of_fields c.args_override_self.ensures
+    ∙ ap (λ (a : App). record a { top = record a.top { args_override_self = true } }) c.new-2.ensures.app) in
     IfOk-weaker c.arg-2.result _ _
     (λ all adds. one_added adds c.root_option.ensures.local c.root_option.ensures.rule (one_added c.in_ok-arg.ensures local pattern named))
     c.arg-2.ensures
