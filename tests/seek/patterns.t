@@ -58,7 +58,91 @@ $ seek ^\Sb*.t /t
   /t/a.txt
   /t/sub/notes.tar.gz
 
+# an upper case letter by an escape or a class, and letters of other escapes and of groups
+tree
+  d /c
+  f 1 /c/AB
+  f 1 /c/aB
+  f 1 /c/ab
+$ seek \x5cx41b /c
+$ seek \x5cx41B /c
+  /c/AB
+$ seek \x5cx{41} /c
+  /c/AB
+$ seek \u0041 /c
+  /c/AB
+$ seek \U00000041 /c
+  /c/AB
+$ seek \x5cx61b /c
+  /c/AB
+  /c/aB
+  /c/ab
+$ seek ^[[:upper:]] /c
+  /c/AB
+$ seek ^[[:lower:]]b /c
+  /c/AB
+  /c/aB
+  /c/ab
+$ seek ^\p{Lu} /c
+  /c/AB
+$ seek \Aab|^\Sb /c
+  /c/AB
+  /c/aB
+  /c/ab
+$ seek \AaB /c
+  /c/aB
+$ seek (?P<Name>a)b /c
+  /c/AB
+  /c/aB
+  /c/ab
+$ seek (?U)ab /c
+  /c/AB
+  /c/aB
+  /c/ab
+$ seek a(?:B) /c
+  /c/aB
+$ seek -g \A* /c
+  /c/AB
+$ seek -g [[:upper:]]* /c
+  /c/AB
+$ seek -g [[:lower:]]b /c
+  /c/AB
+  /c/aB
+  /c/ab
+$ seek -F \A /c
+
+# case counts for all patterns if it does for one
+$ seek a --and B /c
+  /c/aB
+$ seek a --and b /c
+  /c/AB
+  /c/aB
+  /c/ab
+$ seek --and=\x5cx42 a /c
+  /c/aB
+$ seek -F b --and A /c
+$ seek -g a* --and *B /c
+  /c/aB
+$ seek -i a --and B /c
+  /c/AB
+  /c/aB
+  /c/ab
+$ seek -s a --and b /c
+  /c/ab
+
 # ignore case
+tree
+  d /t
+  f 1 /t/a.txt
+  f 1 /t/B.TXT
+  f 1 /t/.hidden
+  d /t/sub
+  f 1 /t/sub/c.rs
+  f 1 /t/sub/notes.tar.gz
+  d /t/sub/deep
+  f 1 /t/sub/deep/a.rs
+  l a.txt	/t/link
+  l sub	/t/down
 $ seek -i TXT /t
   /t/B.TXT
   /t/a.txt

@@ -23,13 +23,13 @@ status_of Memory = 1
 -- The reason why a pattern isn't a glob: it is malformed, or short for too many texts. Or memory ran out.
 abbrev pub IsNoGlob : Asked → List ℕ → BadPattern → Type 0
 IsNoGlob asked text (Expression pattern error) = ⊥
-IsNoGlob asked text (Glob pattern) = glob_in (is_ignored asked.case text) text ≡ None
+IsNoGlob asked text (Glob pattern) = glob_in (is_ignored asked.case) text ≡ None
 IsNoGlob asked text (Braces pattern) = expansions text ≡ None
 IsNoGlob asked text Memory = Unit {0}
 
 -- The reason why a pattern isn't a regular expression, as the grammar says for an error of syntax, or memory ran out.
 abbrev pub IsNoExpression : Asked → List ℕ → BadPattern → Type 0
-IsNoExpression asked text (Expression pattern error) = (error ≢ OutOfMemory) × IsRefusal (config_for asked.case (source_of asked text)) (source_of asked text) error
+IsNoExpression asked text (Expression pattern error) = (error ≢ OutOfMemory) × IsRefusal (config_for asked.case) (source_of asked text) error
 IsNoExpression asked text (Glob pattern) = ⊥
 IsNoExpression asked text (Braces pattern) = ⊥
 IsNoExpression asked text Memory = Unit {0}

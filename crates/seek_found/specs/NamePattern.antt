@@ -30,13 +30,13 @@ source_of asked pattern = if asked.fixed then encode_utf8_all (escaped_text (cha
 -- The regular expression of a pattern, read with the options that are asked for.
 pub record IsExpressionOf (asked : Asked) (pattern : List ℕ) (expression : Regex) : Type 0 where
   pub source : regex_source expression ≡ source_of asked pattern
-  pub options : regex_config expression ≡ config_for asked.case (source_of asked pattern)
+  pub options : regex_config expression ≡ config_for asked.case
   pub literal : asked.fixed ≡ true → ReadsAsText (regex_source expression) pattern
   pub read : IsReadFromSource expression
 
 -- The glob of a pattern.
 abbrev pub IsGlobOf : Asked → List ℕ → CodeGlob → Type 0
-IsGlobOf asked pattern glob = glob_in (is_ignored asked.case pattern) pattern ≡ Some (glob_value glob)
+IsGlobOf asked pattern glob = glob_in (is_ignored asked.case) pattern ≡ Some (glob_value glob)
 
 -- The meaning of a pattern, read in the way that is asked for.
 abbrev pub IsPatternOf : Asked → List ℕ → NamePattern → Type 0

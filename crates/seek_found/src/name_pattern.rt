@@ -56,7 +56,7 @@ impl NamePattern {
         let Some(texts) = expansions(alloc, pattern)? else {
             return Err(BadPattern::Braces(pattern));
         };
-        let ignores_case = asked.case.is_ignored(pattern);
+        let ignores_case = asked.case.is_ignored();
         match Glob::read(alloc, texts.as_slice(), ignores_case)? {
             Some(glob) => Ok(glob),
             None => Err(BadPattern::Glob(pattern)),

@@ -1,8 +1,9 @@
 -- The meaning of words, by the values of options.
-use Rattle.std.specs.Prelude.{◌≡◌, ◌⊎◌, ℕ, ◌==◌, Bool, ◌&&◌, ◌||◌, true, false, List, [], ◌++◌, map, bytes_eq, codes, Option, Some, None, option_map, unwrap_or}
+use Rattle.std.specs.Prelude.{◌≡◌, ◌⊎◌, ℕ, ◌==◌, Bool, ◌&&◌, ◌||◌, true, false, List, [], ◌∷◌, ◌++◌, map, bytes_eq, codes, Option, Some, None, option_map, unwrap_or, if◌then◌else◌}
 use Rattle.std.specs.List.{list_any}
 use Rattle.clap.specs.Words.{Row, Text, first_of, one_of}
 use Rattle.program_parts.specs.Values.{has_value, is_named, values_in, texts_of, IsNumberOf}
+use Rattle.seek_words.specs.Case.{smart_case}
 use Rattle.seek_words.specs.Color.{color_in}
 use Rattle.seek_words.specs.Owner.{owner_in}
 use Rattle.seek_words.specs.Size.{size_in}
@@ -39,18 +40,16 @@ pub record ChoosesOne (named named' asked asked' : Bool) : Type 0 where
   pub some : (asked || asked') ≡ (named || named')
   pub one : (asked && asked') ≡ false
 
-abbrev ignores : Case → Bool
-ignores Ignored = true
-ignores _ = false
+-- whether the case of letters counts, by the option for one of both, and else by the patterns
+abbrev pub chosen_case : Bool → Bool → Case → Case
+chosen_case ignores keeps smart = if ignores then Ignored else if keeps then Kept else smart
 
-abbrev keeps : Case → Bool
-keeps Kept = true
-keeps _ = false
-
--- Whether the case of letters counts.
-abbrev pub IsCaseIn : List Row → Case → Type 0
-IsCaseIn rows case =
-    ChoosesOne (is_named rows (codes "ignore-case")) (is_named rows (codes "case-sensitive")) (ignores case) (keeps case)
+-- Whether the case of letters counts. Of the options for that the last one decides, and without them the patterns.
+pub record IsCaseIn (rows : List Row) (smart case : Case) : Type 0 where
+  pub ignores : Bool
+  pub keeps : Bool
+  pub named : ChoosesOne (is_named rows (codes "ignore-case")) (is_named rows (codes "case-sensitive")) ignores keeps
+  pub chosen : case ≡ chosen_case ignores keeps smart
 
 -- Whether the pattern is a glob or a text. It is neither if the word for regular expressions undoes these.
 abbrev pub AreReadingsIn : List Row → Bool → Bool → Type 0
@@ -111,7 +110,7 @@ pub record Asks (rows : List Row) (asked : Asked) : Type 0 where
   pub readings : AreReadingsIn rows asked.glob asked.fixed
   pub others : texts_of asked.others.items ≡ values_in rows (codes "and")
   pub full_path : asked.full_path ≡ is_named rows (codes "full-path")
-  pub case : IsCaseIn rows asked.case
+  pub case : IsCaseIn rows (smart_case asked.glob asked.fixed (asked.pattern.now ∷ texts_of asked.others.items)) asked.case
   pub hidden : IsOn (is_either_named rows (codes "hidden") (codes "unrestricted")) (is_named rows (codes "no-hidden")) asked.hidden
   pub no_ignore : IsOn (is_either_named rows (codes "no-ignore") (codes "unrestricted")) (is_named rows (codes "ignore")) asked.no_ignore
   pub no_vcs : IsOn (is_named rows (codes "no-ignore-vcs")) (is_named rows (codes "ignore-vcs")) asked.no_vcs

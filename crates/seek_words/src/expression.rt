@@ -15,12 +15,12 @@ use std::alloc::Global;
 /// If the pattern is bad or too large, or if memory runs out.
 pub fn read_expression(alloc: Global, pattern: &str, case: Case) -> Result<Regex, Error>
     ensures source { IfOk result (λ it. regex_source it ≡ pattern.now) }
-    ensures options { IfOk result (λ it. regex_config it ≡ config_for case pattern.now) }
+    ensures options { IfOk result (λ it. regex_config it ≡ config_for case) }
     ensures read { IfOk result IsReadFromSource }
-    ensures rejected { IfErr result (IsRefusal (config_for case pattern.now) pattern.now) }
+    ensures rejected { IfErr result (IsRefusal (config_for case) pattern.now) }
 {
     RegexBuilder::new(pattern)
-        .case_insensitive(case.is_ignored(pattern))
+        .case_insensitive(case.is_ignored())
         .dot_matches_new_line(true)
         .build(alloc)
 }

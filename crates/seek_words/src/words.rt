@@ -3,7 +3,7 @@ ghost use Rattle.std.specs.Prelude.{◌≡◌, [], codes, is_some, map, option_m
 ghost use Rattle.std.specs.List.{list_any};
 ghost use Rattle.clap.specs.Words.{found_of, rows_of, first_of};
 ghost use Rattle.program_parts.specs.Values.{has_value, is_named, values_in, texts_of};
-ghost use Rattle.seek_words.specs.Asks.{is_either_named, ChoosesOne, IsOn, IsCaseIn, IsColorIn, IsOwnerIn, AreReadingsIn, roots_in, depths_by, AreDepthsIn, names_one, kinds_in, is_slash, AreResultsIn, Asks};
+ghost use Rattle.seek_words.specs.Asks.{is_either_named, ChoosesOne, IsOn, chosen_case, IsCaseIn, IsColorIn, IsOwnerIn, AreReadingsIn, roots_in, depths_by, AreDepthsIn, names_one, kinds_in, is_slash, AreResultsIn, Asks};
 ghost use Rattle.seek_words.specs.AsksFor.{AskFor};
 ghost use Rattle.seek_words.specs.Conflict.{has_conflict};
 ghost use Rattle.seek_words.specs.Refusal.{IsRefusedFor, IsRefusedColor, IsRefusedOwner, IsRefusedSize, IsRefusedTime, IsRefusedValue};
@@ -11,7 +11,7 @@ ghost use Rattle.seek_words.specs.Size.{size_in};
 ghost use Rattle.seek_words.specs.Time.{time_in};
 
 use crate::asked::Asked;
-use crate::case::Case;
+use crate::case::{Case, smart_case};
 use crate::color::Color;
 use crate::command::command;
 use crate::depths::Depths;
@@ -130,14 +130,23 @@ fn readings_of(found: &ArgMatches<'_>) -> (bool, bool)
     last_named(found, "glob", "fixed-strings")
 }
 
-fn case_of(found: &ArgMatches<'_>) -> Case
-    ensures { IsCaseIn (rows_of (found_of found.now)) result }
+fn chosen_case(ignores: bool, keeps: bool, smart: Case) -> Case
+    ensures { result ≡ chosen_case ignores keeps smart }
 {
-    match last_named(found, "ignore-case", "case-sensitive") {
-        (true, _) => Case::Ignored,
-        (_, true) => Case::Kept,
-        _ => Case::Smart,
+    if ignores {
+        Case::Ignored
+    } else if keeps {
+        Case::Kept
+    } else {
+        smart
     }
+}
+
+fn case_of(found: &ArgMatches<'_>, smart: Case) -> Case
+    ensures { IsCaseIn (rows_of (found_of found.now)) smart result }
+{
+    let (ignores, keeps) = last_named(found, "ignore-case", "case-sensitive");
+    chosen_case(ignores, keeps, smart)
 }
 
 fn color_of<'w>(found: &ArgMatches<'w>) -> Result<Color, Refusal<'w>>
@@ -268,15 +277,18 @@ fn asked_of<'w>(alloc: Global, found: &ArgMatches<'w>) -> Result<Asked<'w>, Refu
     let color = color_of(found)?;
     let kinds = kinds_named(alloc, found)?;
     let (glob, fixed) = readings_of(found);
+    let pattern = pattern_of(found);
+    let others = values_of(alloc, found, "and")?;
+    let smart = smart_case(pattern, others.as_slice(), glob, fixed);
     Ok(Asked {
-        pattern: pattern_of(found),
+        pattern,
         roots: roots_of(alloc, found)?,
         base: value_of(found, "base-directory"),
         glob,
         fixed,
-        others: values_of(alloc, found, "and")?,
+        others,
         full_path: is_named(found, "full-path"),
-        case: case_of(found),
+        case: case_of(found, smart),
         hidden: is_either_on(found, "hidden", "unrestricted", "no-hidden"),
         no_ignore: is_either_on(found, "no-ignore", "unrestricted", "ignore"),
         no_vcs: is_on(found, "no-ignore-vcs", "ignore-vcs"),

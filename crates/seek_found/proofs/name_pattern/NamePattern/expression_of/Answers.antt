@@ -1,6 +1,5 @@
 use Rattle.std.proofs.Common.{◌≡◌, ◌∙◌, ℕ, List, ap, rules, string_bytes, subst, sym}
 use Rattle.regex.specs.Patterns.{ReadsAsText}
-use Rattle.seek_words.specs.Expression.{config_for}
 use Rattle.seek_found.proofs.name_pattern.NamePattern.expression_of.Goals as goal
 
 pub returns-in-Ok-clause-expression : goal.returns-in-Ok-clause-expression
@@ -9,7 +8,7 @@ returns-in-Ok-clause-expression c =
     let same = text ∙ c.in_ok-source.ensures.source in
     record {
       source = c.in-Ok.ensures.source ∙ same;
-      options = c.in-Ok.ensures.options ∙ ap (config_for c.args.asked.now.case) same;
+      options = c.in-Ok.ensures.options;
       literal = λ fixed. subst (λ (s : List ℕ). ReadsAsText s c.args.pattern.now) (sym (c.in-Ok.ensures.source ∙ text)) (c.in_ok-source.ensures.literal fixed);
       read = c.in-Ok.ensures.read;
     }
