@@ -127,25 +127,26 @@ $ tally --plain -b --apparent /r/k
 
 # a link that leads nowhere or through a file is an error if links are followed
 tree
-  d /r
-  f 7 /r/f
-  l none	/r/n
-  l f/x	/r/t
-$ tally --plain -a -b --apparent --sort /r
-  7	/r/f
-  4	/r/n
-  3	/r/t
-  14+{folders /r}	/r
-$ tally --plain -a -L --sort -b --apparent /r
-  7	/r/f
-  7+{folders /r}	/r
-! tally: /r/n: No such file or directory (os error 2)
-! tally: /r/t: Not a directory (os error 20)
+  f 7 /r/a/f
+  l none	/r/a/n
+  l ../a/f/x	/r/b/t
+$ tally --plain -a -b --apparent --sort /r/a
+  7	/r/a/f
+  4	/r/a/n
+  11+{folders /r/a}	/r/a
+$ tally --plain -a -L -b --apparent /r/a
+  7	/r/a/f
+  7+{folders /r/a}	/r/a
+! tally: /r/a/n: No such file or directory (os error 2)
 = 1
-$ tally --plain -s -b --apparent /r/n /r/t /r/f
-  7	/r/f
-! tally: /r/n: No such file or directory (os error 2)
-! tally: /r/t: Not a directory (os error 20)
+$ tally --plain -a -L -b --apparent /r/b
+  {folders /r/b}	/r/b
+! tally: /r/b/t: Not a directory (os error 20)
+= 1
+$ tally --plain -s -b --apparent /r/a/n /r/b/t /r/a/f
+  7	/r/a/f
+! tally: /r/a/n: No such file or directory (os error 2)
+! tally: /r/b/t: Not a directory (os error 20)
 = 1
 
 # a link back to a directory above it is an error if links are followed

@@ -93,15 +93,19 @@ $ tally --plain -a -b --apparent /r
   3	/r/k
   1	/r/l
   11+{folders /r}	/r
--- The link counts itself and everything in the directory that it leads to.
+-- A root that is a link counts as the directory that it leads to.
 $ tally --plain -b --apparent /r/l
-  8	/r/l
+  7+{folders /r/d}	/r/l
 
 # no dots behind options that take nothing
 $ tally --help
 ~   -s, --summarize   \x20
 
 # a root is written as it was named, and what is below it behind that
+tree
+  f 3 /t/group 2/c.txt
+  f 4 /t/group 2/e.txt
+  f 5 /t/group 1/d.txt
 $ tally --plain -b --apparent '/t/group 1/'
   5+{folders /t/group 1}	/t/group 1/
 $ tally --plain -a -b --apparent '/t/group 1/'

@@ -42,8 +42,8 @@ fn borrowed(alloc: Global, lines: &[String]) -> Result<Vec<&str>, AllocError>
     Ok(texts)
 }
 
-/// Returns the callback that leaves out what is asked for below a root, with its errors. Where a walk without ignore files
-/// skips hidden names, it leaves out theirs too.
+/// Returns the callback that leaves out what is asked for below a root, with its errors. Where a walk without ignore
+/// files skips hidden names, it leaves out theirs too.
 pub(crate) fn excluding_of(
     alloc: Global,
     asked: &Asked<'_>,

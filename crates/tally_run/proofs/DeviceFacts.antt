@@ -91,6 +91,7 @@ module _ {C A I R E : Type 0} (next : I → Option (Result (DirEntry C A R E) (E
       stays = stays_on start now new before.dropped (x ∷ []) [] (item x ∷ []) before.none (λ later. one_stays (root_of now) (root_of new) (item x) later (ap root_of begun) stay);
     }
 
+module _ {C A I R E : Type 0} (next : I → Option (Result (DirEntry C A R E) (Error A)) → I → Type 0) where
   -- the answers of all calls, and what stays of them
   yields_staying : (ys : List (Result (DirEntry C A R E) (Error A))) (start end : OneDevice I) → Yields (Stays next) start ys end
       → (xs : List (Result (DirEntry C A R E) (Error A))) × Yields next (source_of start) xs (source_of end) × YieldsStaying start xs (map item ys) end

@@ -1,5 +1,5 @@
 //! The walks below roots.
-ghost use Rattle.std.specs.Prelude.{◌≡◌, length, string_bytes, IfOk};
+ghost use Rattle.std.specs.Prelude.{◌≡◌, length, IfOk};
 ghost use Rattle.std.specs.Arc.{arc_value};
 ghost use Rattle.jwalk.specs.jwalk_job.Options.{options_value};
 ghost use Rattle.jwalk.specs.WalkDir.{file_system_of, options_of, root_of, state_of};
@@ -10,6 +10,7 @@ ghost use Rattle.jwalk_ignore.specs.Callback.IgnoreViews.{next_of, settings_of, 
 ghost use Rattle.jwalk_ignore.specs.Callback.Kept.{ignoring_walk};
 ghost use Rattle.jwalk_subtotals.specs.Files.{files_of};
 ghost use Rattle.program_parts.specs.Values.{texts_of as words_of};
+ghost use Rattle.tally_run.specs.FollowedRoot.{disk_in, root_in};
 ghost use Rattle.tally_run.specs.OneDevice.{on_devices};
 ghost use Rattle.tally_run.specs.Roots.{CountsRoot, CountsRoots};
 ghost use Rattle.tally_run.specs.Run.{roots_asked};
@@ -37,8 +38,8 @@ use std::io::Write;
 use std::sync::Arc;
 use tally_words::asked::Asked;
 
-/// Returns the callback that leaves out what is asked for below a root, with its errors. Where a walk without ignore files
-/// skips hidden names, it leaves out theirs too.
+/// Returns the callback that leaves out what is asked for below a root, with its errors. Where a walk without ignore
+/// files skips hidden names, it leaves out theirs too.
 fn excluding_of(alloc: Global, asked: &Asked<'_>, root: &str) -> Result<Excluding, AllocError>
     ensures { IfOk result (λ it. excluded_of it ≡ excluded_asked asked.now root.now) }
 {
@@ -143,8 +144,8 @@ impl<
 
     /// Returns the disk of the walk below a root.
     fn disk_from(&self, alloc: Global, root: &str) -> Result<Arc<FollowedRoot<S>>, AllocError>
-        ensures disk { IfOk result (λ it. arc_value (arc_value it).disk ≡ arc_value self.now.disk) }
-        ensures root { IfOk result (λ it. string_bytes (arc_value it).root ≡ root.now) }
+        ensures disk { IfOk result (λ it. disk_in it ≡ arc_value self.now.disk) }
+        ensures root { IfOk result (λ it. root_in it ≡ root.now) }
     {
         let from = FollowedRoot {
             disk: self.disk.clone()?,

@@ -6,7 +6,7 @@ abbrev pub invariant-loop-yielded : goal.invariant-loop-yielded
 invariant-loop-yielded g l =
     record {
       can : CanGoOn g.I.Iterator.can_next g.I.Iterator.remaining l.subtotals;
-      so_far : TakenSoFar (Gives g.I.Iterator.next_gives) l.fn.root.now l.fn.shown l.fn.subtotals l.fn.results (g.W.Write.contents l.fn.out)
+      so_far : TakenSoFar (Gives g.I.Iterator.next_gives) l.fn.root l.fn.shown l.fn.subtotals l.fn.results (g.W.Write.contents l.fn.out)
           l.subtotals l.results (g.W.Write.contents l.out) l.clean;
     }
 

@@ -1,4 +1,4 @@
-use Rattle.std.proofs.Common.{◌≡◌, ◌∙◌, ap, ap₂, refl, string_bytes, subst, sym}
+use Rattle.std.proofs.Common.{◌≡◌, ◌∙◌, ap, ap₂, refl, subst, sym}
 use Rattle.std.specs.Prelude.{is_some}
 use Rattle.std.specs.Arc.{arc_value}
 use Rattle.std.proofs.lemmas.Result.{IfOk-weaker}
@@ -9,7 +9,7 @@ use Rattle.jwalk_ignore.specs.Callback.Kept.{given_excluding}
 use Rattle.jwalk_ignore.proofs.KeptFacts.{whole_of}
 use Rattle.program_walks.specs.Crew.{with_crew}
 use Rattle.program_walks.proofs.CrewFacts.{same_by_crew}
-use Rattle.tally_run.specs.FollowedRoot.{functions_from}
+use Rattle.tally_run.specs.FollowedRoot.{disk_in, functions_from, root_in}
 use Rattle.tally_run.specs.Walks.{excluded_asked, options_asked}
 use Rattle.tally_run.proofs.WalkFacts.{below_counted}
 use Rattle.tally_run.proofs.walks.Walks.count_all.Goals as goal
@@ -22,10 +22,10 @@ returns g c =
     let set = c.process_read_dir-walk.ensures in
     let walk = c.process_read_dir-walk.result in
     let excluded = excluded_asked asked c.args.root.now in
-    let over : arc_value (arc_value (file_system_of walk)).disk ≡ arc_value self.disk
-    = ap (λ it. arc_value (arc_value it).disk) (set.file_system ∙ built.file_system) ∙ c.in_ok-disk.ensures.disk in
-    let from : string_bytes (arc_value (file_system_of walk)).root ≡ c.args.root.now
-    = ap (λ it. string_bytes (arc_value it).root) (set.file_system ∙ built.file_system) ∙ c.in_ok-disk.ensures.root in
+    let over : disk_in (file_system_of walk) ≡ arc_value self.disk
+    = ap disk_in (set.file_system ∙ built.file_system) ∙ c.in_ok-disk.ensures.disk in
+    let from : root_in (file_system_of walk) ≡ c.args.root.now
+    = ap root_in (set.file_system ∙ built.file_system) ∙ c.in_ok-disk.ensures.root in
     let lines : excluded_of (callback_of walk) ≡ excluded
     = ap excluded_of set.callback ∙ c.in_ok-excluding.ensures in
     let options : options_of walk ≡ with_crew (is_some c.args.crew.now) (options_asked asked)

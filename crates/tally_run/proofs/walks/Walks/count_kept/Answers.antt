@@ -1,4 +1,4 @@
-use Rattle.std.proofs.Common.{◌≡◌, ◌∙◌, true, ap, ap₂, string_bytes, subst, sym}
+use Rattle.std.proofs.Common.{◌≡◌, ◌∙◌, true, ap, ap₂, subst, sym}
 use Rattle.std.specs.Prelude.{is_some}
 use Rattle.std.specs.Arc.{arc_value}
 use Rattle.std.proofs.lemmas.Result.{IfOk-weaker}
@@ -10,7 +10,7 @@ use Rattle.jwalk_ignore.specs.Callback.Settings.{Settings}
 use Rattle.jwalk_ignore.proofs.KeptFacts.{ignoring_same}
 use Rattle.program_walks.specs.Crew.{with_crew}
 use Rattle.program_walks.proofs.CrewFacts.{hidden_by_crew}
-use Rattle.tally_run.specs.FollowedRoot.{functions_from}
+use Rattle.tally_run.specs.FollowedRoot.{disk_in, functions_from, root_in}
 use Rattle.tally_run.specs.OneDevice.{on_devices}
 use Rattle.tally_run.specs.Walks.{excluded_asked, options_asked, settings_asked}
 use Rattle.tally_run.proofs.WalkFacts.{below_as}
@@ -23,8 +23,8 @@ returns g c =
     let built = c.in_ok-walk.ensures in
     let walk = c.in_ok-walk.walk in
     let rules = c.then-rules.result in
-    let over : arc_value (arc_value (file_system_of walk)).disk ≡ arc_value self.disk = ap (λ it. arc_value (arc_value it).disk) built.file_system ∙ c.in_ok-disk.ensures.disk in
-    let at_root : string_bytes (arc_value (file_system_of walk)).root ≡ c.args.root.now = ap (λ it. string_bytes (arc_value it).root) built.file_system ∙ c.in_ok-disk.ensures.root in
+    let over : disk_in (file_system_of walk) ≡ arc_value self.disk = ap disk_in built.file_system ∙ c.in_ok-disk.ensures.disk in
+    let at_root : root_in (file_system_of walk) ≡ c.args.root.now = ap root_in built.file_system ∙ c.in_ok-disk.ensures.root in
     let excluded = excluded_asked asked c.args.root.now in
     let texts = g.X.Texts.functions (arc_value self.texts) in
     let from : arc_value (texts_in rules) ≡ arc_value self.texts
