@@ -1,8 +1,5 @@
 //! Walks with callbacks and their answers, each read in every way.
-mod both;
-mod called;
-mod closures;
-mod ready;
+mod callback;
 mod refusals;
 mod rows;
 mod table;

@@ -1,33 +1,23 @@
-//! Walks by name, each with a callback.
-use crate::rows::callbacks::both::{cuts_then_drops, drops_then_cuts};
-use crate::rows::callbacks::closures::{Change, by_closure};
-use crate::rows::callbacks::ready::{keep_files, leave_out_target, skip_three};
-use jwalk::read_dir::ProcessReadDir;
+//! Walks by name, each with callbacks.
+use crate::rows::callbacks::callback::{Callback, called};
+use jwalk::read_dir::{Both, ProcessReadDir};
 use std::alloc::{AllocError, Global};
 use std::thread::Threads;
 use test_fixtures::answers::Answer;
 use test_fixtures::trees::{Step, tree};
 use test_fixtures::ways::{Asked, Setting, Way};
 
-/// A callback's change to each list.
+/// What is called with each list.
 #[derive(Clone, Copy)]
-pub enum Callback {
-    /// A closure's change.
-    Changes(Change),
-    /// Directories of three names can't be entered.
-    SkipThree,
-    /// Only the files at depth 1 are kept, except one.
-    KeepFiles,
-    /// Directories of the name `target` are left out.
-    LeaveOutTarget,
-    /// A name is dropped from each list, and then each list is cut after two items.
-    DropsThenCuts,
-    /// Each list is cut after two items, and then a name is dropped from it.
-    CutsThenDrops,
+pub enum Callbacks {
+    /// One callback.
+    One(Callback),
+    /// `Both` of two callbacks.
+    Two(Callback, Callback),
 }
 
 // All callbacks have one type, since each type of a walk costs time.
-impl ProcessReadDir<((), ()), Global> for Callback {
+impl ProcessReadDir<((), ()), Global> for Callbacks {
     ghost IsLawful = { λ _. Unit {0} };
 
     ghost Makes = { λ _ _. ⊥ };
@@ -39,20 +29,18 @@ impl ProcessReadDir<((), ()), Global> for Callback {
         state: &mut (),
         list: &mut Vec<Answer>,
     ) -> Result<(), AllocError> {
-        match self {
-            Callback::Changes(change) => by_closure(*change, depth, path, state, list),
-            Callback::SkipThree => skip_three(depth, path, state, list),
-            Callback::KeepFiles => keep_files(depth, path, state, list),
-            Callback::LeaveOutTarget => leave_out_target(depth, path, state, list),
-            Callback::DropsThenCuts => drops_then_cuts(depth, path, state, list),
-            Callback::CutsThenDrops => cuts_then_drops(depth, path, state, list),
+        match *self {
+            Callbacks::One(callback) => called(&callback, depth, path, state, list),
+            Callbacks::Two(first, second) => {
+                called(&Both::new(first, second), depth, path, state, list)
+            }
         }
     }
 }
 
-/// A walk by name with a callback, and its answers.
+/// A walk by name with callbacks, and its answers.
 pub struct Row {
-    pub callback: Callback,
+    pub callbacks: Callbacks,
     pub steps: &'static [Step],
     pub root: &'static str,
     pub answers: &'static str,
@@ -69,6 +57,6 @@ impl Row {
             root: self.root,
             settings: &[Setting::Sort],
         };
-        asked.shows(rt, self.callback, way, self.answers)
+        asked.shows(rt, self.callbacks, way, self.answers)
     }
 }
