@@ -1,4 +1,5 @@
 """Folders of scenes: what is in them, the paths of words, and the sizes that a disk decides."""
+import contextlib
 import os
 import pathlib
 import re
@@ -125,6 +126,11 @@ class Folder:
         for kind, _, path in self.lines:
             if kind in b"mx" and os.path.isdir(self.at(path)):
                 os.chmod(self.at(path), 0o700)
+        # From below, as Python removes no thousand directories in one another at once.
+        for kind, _, path in reversed(self.lines):
+            if kind == b"d":
+                with contextlib.suppress(OSError):
+                    os.rmdir(self.at(path))
         self.temporary.cleanup()
 
     def at(self, path):

@@ -93,7 +93,7 @@ def called(program, words, goal, given, **how):
 def how_of(row, scene, folder):
     """Returns where, by whom and with which variables the row is called."""
     variables = {**VARIABLES, "HOME": folder.path + b"/home/u", **row.variables}
-    return {"cwd": folder.path, "env": variables, **(NOBODY if scene.nobody and os.geteuid() == 0 else {})}
+    return {"cwd": folder.at(row.place), "env": variables, **(NOBODY if scene.nobody and os.geteuid() == 0 else {})}
 
 
 def outcome(program, row, scene, folder, way):

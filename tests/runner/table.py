@@ -41,6 +41,8 @@ class Row:
     err: Output = dataclasses.field(default_factory=Output)
     status: int = 0
     any_order: bool = False
+    # The directory of the tree in which the program is called.
+    place: bytes = b"/"
 
 
 @dataclasses.dataclass
@@ -129,6 +131,8 @@ class Reader:
             self.row().status = int(rest)
         elif line == b"any order":
             self.row().any_order = True
+        elif head == b"in" and rest:
+            self.row().place = unescaped(rest)
         else:
             self.refuse(f"no line of a file of rows: {decoded(line)}")
 

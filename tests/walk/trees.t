@@ -192,3 +192,11 @@ input
 $ walk --tree /r
   0 d /r
   1 f /r/<<one of many names *6>>{0000..1199}
+
+# a tree of many pieces of input and output comes whole and in order
+input
+  d /r
+  d /r/directory number {0..2999}\x0af 1 /r/directory number {0..2999}/x
+$ walk --tree /r
+  0 d /r
+  1 d /r/directory number {0..2999}\x0a2 f /r/directory number {0..2999}/x

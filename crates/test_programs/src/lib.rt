@@ -1,4 +1,4 @@
-//! What rows of text files can't say of the programs `walk` and `tally`, and walks over a disk.
+//! What rows of text files can't say of the programs `walk` and `tally`, and of walks over a disk.
 #![tactic(auto)]
 
 #[cfg(test)]
@@ -7,5 +7,7 @@ mod disk;
 mod output;
 #[cfg(test)]
 mod tally;
+#[cfg(test)]
+mod tree_disk;
 #[cfg(test)]
 mod walk;

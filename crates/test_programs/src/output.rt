@@ -16,7 +16,7 @@ pub(crate) struct Output {
     taken: Vec<u8>,
     /// The number of bytes that had been taken at the last flush.
     flushed: usize,
-    failures: Arc<AtomicUsize>,
+    pub(crate) failures: Arc<AtomicUsize>,
 }
 
 impl Output {
@@ -28,11 +28,6 @@ impl Output {
             flushed: 0,
             failures: Arc::new(alloc, AtomicUsize::new(0))?,
         })
-    }
-
-    /// Returns the number of its failures, now and later.
-    pub(crate) fn failures(&self) -> Result<Arc<AtomicUsize>, AllocError> {
-        self.failures.clone()
     }
 
     /// Returns whether it took this text and nothing else. An output that has failed did so once, and any other was

@@ -1,60 +1,55 @@
 //! Walks over a disk whose answers are in a table.
-use crate::disk::told::{Call, Calls, Readings, Told, ToldDisk};
-use crate::disk::walks::{Walk, Wanted, yields};
+use crate::disk::found;
+use crate::disk::told::{Call, Counts, Part, Told, ToldDisk};
 use jwalk::file_system::RealFs;
 use std::alloc::{AllocError, Global};
+use std::cell::Cell;
 use std::io::ErrorKind;
 use std::rc::Rc;
+use test_fixtures::answers::are_lines;
 use test_fixtures::ways::Setting;
 
 /// A disk, and what a walk over it yields, in the order of the listing.
 #[derive(Clone, Copy)]
 struct Row {
-    readings: Readings,
+    /// The readings of the directory, in order.
+    readings: &'static [Part],
+    /// How many opens are interrupted, from the first on.
+    interrupted: usize,
     /// The calls that fail, each at a path.
     failing: &'static [(Call, &'static str)],
     /// The error of the calls that fail.
     kind: ErrorKind,
     settings: &'static [Setting],
     lines: &'static str,
-    /// How often the walk opens a directory, looks at a path, looks at the target of a path, and reads the text of a
-    /// link, if that is counted.
-    counts: Option<(usize, usize, usize, usize)>,
+    /// How often the walk calls the disk, if that is counted.
+    counts: Option<Counts>,
 }
 
 fn holds(alloc: Global, row: &Row) -> Result<bool, AllocError> {
     let told = Told {
         readings: row.readings,
+        interrupted: row.interrupted,
         failing: row.failing,
         kind: row.kind,
     };
-    let calls = Rc::new(alloc, Calls::none())?;
-    let disk = RealFs::new(ToldDisk::new(told, calls.clone()?));
-    let walk = Walk {
-        root: "/t",
-        settings: row.settings,
+    let calls = Rc::new(alloc, Cell::new((0, 0, 0, 0)))?;
+    let disk = ToldDisk {
+        told,
+        calls: calls.clone()?,
     };
-    let is_so = yields(alloc, disk, &walk, Wanted::Lines(row.lines))?;
+    let found = found(alloc, RealFs::new(disk), "/t", row.settings, false)?;
     let is_counted = match row.counts {
-        Some(counts) => calls.counts() == counts,
+        Some(counts) => calls.get() == counts,
         None => true,
     };
-    Ok(is_so && is_counted)
-}
-
-/// Returns the number of the first row that is wrong, counted from 0.
-fn first_wrong(alloc: Global, rows: &[Row]) -> Option<usize> {
-    for (number, row) in rows.iter().enumerate() {
-        if !matches!(holds(alloc, row), Ok(true)) {
-            return Some(number);
-        }
-    }
-    None
+    Ok(is_counted && are_lines(alloc, found.as_slice(), row.lines))
 }
 
 /// A walk that follows no links, over a directory with a file, a link, a directory and a hidden file.
 const LISTED: Row = Row {
-    readings: Readings::FourNames,
+    readings: &[Part::Names(b"a\0l\0s\0.h\0")],
+    interrupted: 0,
     failing: &[],
     kind: ErrorKind::NotFound,
     settings: &[],
@@ -76,135 +71,151 @@ const NO_MEMORY: Row = Row {
     ..FOLLOWED
 };
 
-#[test]
-fn a_look_at_the_root_and_at_each_name_and_more_for_followed_links(rt: HostRuntime) {
-    const ROWS: &[Row] = &[
-        Row {
-            counts: Some((2, 5, 0, 0)),
-            ..LISTED
-        },
-        Row {
-            counts: Some((3, 5, 1, 1)),
-            ..FOLLOWED
-        },
-    ];
-    assert_eq!(rt; first_wrong(rt.alloc(), ROWS), None);
-}
+/// A look at the root and at each name, and more for followed links.
+const COUNTED: &[Row] = &[
+    Row {
+        counts: Some((2, 5, 0, 0)),
+        ..LISTED
+    },
+    Row {
+        counts: Some((3, 5, 1, 1)),
+        ..FOLLOWED
+    },
+];
+
+/// Readings of the directory.
+const READINGS: &[Row] = &[
+    // A name that is no text is an error among the others. The directory itself and the one above it are none.
+    Row {
+        readings: &[
+            Part::Names(b".\0..\0b\0a\xff\0c\0"),
+            Part::Names(b"\xc3\0d\0"),
+        ],
+        lines: "0 d /t; 1 f /t/b; ! 1 - InvalidFilename; 1 f /t/c; ! 1 - InvalidFilename; 1 f /t/d",
+        ..LISTED
+    },
+    Row {
+        readings: &[
+            Part::Names(b"b\0a\0"),
+            Part::Names(b"c\0"),
+            Part::Fails(ErrorKind::InvalidData),
+        ],
+        lines: "0 d /t; 1 f /t/b; 1 f /t/a; 1 f /t/c; ! 1 - InvalidData",
+        ..LISTED
+    },
+    // An open or a reading that was interrupted is made again.
+    Row {
+        readings: &[
+            Part::Fails(ErrorKind::Interrupted),
+            Part::Names(b"b\0"),
+            Part::Fails(ErrorKind::Interrupted),
+            Part::Fails(ErrorKind::Interrupted),
+            Part::Names(b"a\0"),
+        ],
+        interrupted: 2,
+        lines: "0 d /t; 1 f /t/b; 1 f /t/a",
+        ..LISTED
+    },
+    Row {
+        readings: &[Part::Names(b"b\0a\0"), Part::Fails(ErrorKind::OutOfMemory)],
+        lines: "! 0 - memory",
+        ..LISTED
+    },
+];
+
+/// Calls that fail.
+const FAILING: &[Row] = &[
+    // An open that is always interrupted ends.
+    Row {
+        failing: &[(Call::Open, "/t/")],
+        kind: ErrorKind::Interrupted,
+        lines: "0 d /t ! 0 /t Interrupted",
+        ..LISTED
+    },
+    // The type of a name is told, whether it is hidden or not.
+    Row {
+        failing: &[(Call::Look, "/t/a"), (Call::Look, "/t/.h")],
+        kind: ErrorKind::PermissionDenied,
+        lines: "0 d /t; ! 1 /t/a PermissionDenied; 1 L /t/l; 1 d /t/s; ! 1 /t/.h PermissionDenied",
+        ..LISTED
+    },
+    Row {
+        failing: &[(Call::Open, "/t/s/")],
+        kind: ErrorKind::PermissionDenied,
+        lines: "0 d /t; 1 f /t/a; 1 L /t/l; 1 d /t/s ! 1 /t/s PermissionDenied",
+        ..LISTED
+    },
+    Row {
+        failing: &[(Call::Look, "/t")],
+        lines: "! 0 /t NotFound",
+        ..FOLLOWED
+    },
+    Row {
+        failing: &[(Call::Open, "/t/")],
+        lines: "0 d /t ! 0 /t NotFound",
+        ..FOLLOWED
+    },
+    Row {
+        failing: &[(Call::Look, "/t/s")],
+        lines: "0 d /t; 1 f /t/a; 1 D /t/l; ! 1 /t/s NotFound",
+        ..FOLLOWED
+    },
+    Row {
+        failing: &[(Call::Open, "/t/s/")],
+        lines: "0 d /t; 1 f /t/a; 1 D /t/l; 1 d /t/s ! 1 /t/s NotFound",
+        ..FOLLOWED
+    },
+    Row {
+        failing: &[(Call::Follow, "/t/l")],
+        lines: "0 d /t; 1 f /t/a; ! 1 /t/l NotFound; 1 d /t/s",
+        ..FOLLOWED
+    },
+    Row {
+        failing: &[(Call::Text, "/t/l")],
+        lines: "0 d /t; 1 f /t/a; ! 1 - NotFound; 1 d /t/s",
+        ..FOLLOWED
+    },
+];
+
+/// Memory runs out in each call.
+const REFUSED: &[Row] = &[
+    Row {
+        failing: &[(Call::Look, "/t")],
+        ..NO_MEMORY
+    },
+    Row {
+        failing: &[(Call::Open, "/t/")],
+        ..NO_MEMORY
+    },
+    Row {
+        failing: &[(Call::Look, "/t/s")],
+        ..NO_MEMORY
+    },
+    Row {
+        failing: &[(Call::Open, "/t/s/")],
+        lines: "0 d /t; 1 f /t/a; 1 D /t/l; ! 0 - memory",
+        ..NO_MEMORY
+    },
+    Row {
+        failing: &[(Call::Follow, "/t/l")],
+        ..NO_MEMORY
+    },
+    Row {
+        failing: &[(Call::Text, "/t/l")],
+        ..NO_MEMORY
+    },
+];
 
 #[test]
-fn readings_of_a_directory(rt: HostRuntime) {
-    const ROWS: &[Row] = &[
-        // A name that is no text is an error among the others.
-        Row {
-            readings: Readings::NamesThatAreNoTexts,
-            lines: "0 d /t; 1 f /t/b; ! 1 - InvalidFilename; 1 f /t/c; ! 1 - InvalidFilename; 1 f /t/d",
-            ..LISTED
-        },
-        Row {
-            readings: Readings::FaultAfterThreeNames,
-            lines: "0 d /t; 1 f /t/b; 1 f /t/a; 1 f /t/c; ! 1 - InvalidData",
-            ..LISTED
-        },
-        // An open or a reading that was interrupted is made again.
-        Row {
-            readings: Readings::Interrupted,
-            lines: "0 d /t; 1 f /t/b; 1 f /t/a",
-            ..LISTED
-        },
-        Row {
-            readings: Readings::NoMemoryAfterTwoNames,
-            lines: "! 0 - memory",
-            ..LISTED
-        },
-    ];
-    assert_eq!(rt; first_wrong(rt.alloc(), ROWS), None);
-}
-
-#[test]
-fn calls_that_fail(rt: HostRuntime) {
-    const ROWS: &[Row] = &[
-        // An open that is always interrupted ends.
-        Row {
-            failing: &[(Call::Open, "/t/")],
-            kind: ErrorKind::Interrupted,
-            lines: "0 d /t ! 0 /t Interrupted",
-            ..LISTED
-        },
-        // The type of a name is told, whether it is hidden or not.
-        Row {
-            failing: &[(Call::Look, "/t/a"), (Call::Look, "/t/.h")],
-            kind: ErrorKind::PermissionDenied,
-            lines: "0 d /t; ! 1 /t/a PermissionDenied; 1 L /t/l; 1 d /t/s; ! 1 /t/.h PermissionDenied",
-            ..LISTED
-        },
-        Row {
-            failing: &[(Call::Open, "/t/s/")],
-            kind: ErrorKind::PermissionDenied,
-            lines: "0 d /t; 1 f /t/a; 1 L /t/l; 1 d /t/s ! 1 /t/s PermissionDenied",
-            ..LISTED
-        },
-        Row {
-            failing: &[(Call::Look, "/t")],
-            lines: "! 0 /t NotFound",
-            ..FOLLOWED
-        },
-        Row {
-            failing: &[(Call::Open, "/t/")],
-            lines: "0 d /t ! 0 /t NotFound",
-            ..FOLLOWED
-        },
-        Row {
-            failing: &[(Call::Look, "/t/s")],
-            lines: "0 d /t; 1 f /t/a; 1 D /t/l; ! 1 /t/s NotFound",
-            ..FOLLOWED
-        },
-        Row {
-            failing: &[(Call::Open, "/t/s/")],
-            lines: "0 d /t; 1 f /t/a; 1 D /t/l; 1 d /t/s ! 1 /t/s NotFound",
-            ..FOLLOWED
-        },
-        Row {
-            failing: &[(Call::Follow, "/t/l")],
-            lines: "0 d /t; 1 f /t/a; ! 1 /t/l NotFound; 1 d /t/s",
-            ..FOLLOWED
-        },
-        Row {
-            failing: &[(Call::Text, "/t/l")],
-            lines: "0 d /t; 1 f /t/a; ! 1 - NotFound; 1 d /t/s",
-            ..FOLLOWED
-        },
-    ];
-    assert_eq!(rt; first_wrong(rt.alloc(), ROWS), None);
-}
-
-#[test]
-fn memory_runs_out_in_each_call(rt: HostRuntime) {
-    const ROWS: &[Row] = &[
-        Row {
-            failing: &[(Call::Look, "/t")],
-            ..NO_MEMORY
-        },
-        Row {
-            failing: &[(Call::Open, "/t/")],
-            ..NO_MEMORY
-        },
-        Row {
-            failing: &[(Call::Look, "/t/s")],
-            ..NO_MEMORY
-        },
-        Row {
-            failing: &[(Call::Open, "/t/s/")],
-            lines: "0 d /t; 1 f /t/a; 1 D /t/l; ! 0 - memory",
-            ..NO_MEMORY
-        },
-        Row {
-            failing: &[(Call::Follow, "/t/l")],
-            ..NO_MEMORY
-        },
-        Row {
-            failing: &[(Call::Text, "/t/l")],
-            ..NO_MEMORY
-        },
-    ];
-    assert_eq!(rt; first_wrong(rt.alloc(), ROWS), None);
+fn walks_over_a_disk_whose_answers_are_in_a_table(rt: HostRuntime) {
+    for (name, rows) in [
+        ("counted", COUNTED),
+        ("readings", READINGS),
+        ("failing", FAILING),
+        ("memory", REFUSED),
+    ] {
+        for (number, row) in rows.iter().enumerate() {
+            assert!(rt; holds(rt.alloc(), row) == Ok(true), "{name}, row {number}");
+        }
+    }
 }

@@ -1,30 +1,10 @@
 //! A walk over a directory on the disk that is removed under way.
-ghost use Rattle.jwalk.specs.DirEntryIter.{reads_of};
-
-use jwalk::entries::Entries;
+use crate::disk::folder::{Made, make, path_in};
 use jwalk::file_system::{FileSystem, RealFs};
-use jwalk::readings::Readings;
-use std::alloc::Global;
-use std::io;
 use std::test::Fail;
-use test_fixtures::answers::{Answer, are_lines};
+use std::{fs, io};
+use test_fixtures::answers::are_lines;
 use test_fixtures::builders::{Builder, builder};
-use test_fixtures::folder::{Step, make, path_in, remove};
-
-/// Adds the first answer, removes the directory, and adds the other answers.
-fn add_around_removal<B: Readings<((), ()), Global>>(
-    rt: &HostRuntime,
-    walk: &mut Entries<((), ()), Global, B>,
-    removed: &str,
-    found: &mut Vec<Answer>,
-) -> io::Result<()>
-    requires { B.can_read (B.base (reads_of walk.old)) }
-{
-    walk.fill(1, found)?;
-    remove(rt, removed)?;
-    walk.fill(usize::MAX, found)?;
-    Ok(())
-}
 
 /// Returns whether a walk by name has these lines if the directory is removed after the first answer.
 fn yields_around_removal<S: FileSystem>(
@@ -35,9 +15,11 @@ fn yields_around_removal<S: FileSystem>(
     lines: &str,
 ) -> io::Result<bool> {
     let mut found = Vec::new(rt.alloc());
-    let walk: Builder<S> = builder(rt.alloc(), disk, root)?.sort(true);
-    let added = add_around_removal(rt, &mut walk.into_iter(), removed, &mut found);
-    added?;
+    let walk: Builder<S> = builder(rt.alloc(), disk, root)?;
+    let mut walk = walk.sort(true).into_iter();
+    walk.fill(1, &mut found)?;
+    fs::remove_dir_all(rt, removed)?;
+    walk.fill(usize::MAX, &mut found)?;
     Ok(are_lines(rt.alloc(), found.as_slice(), lines))
 }
 
@@ -59,17 +41,17 @@ fn shows_removal(rt: &HostRuntime, folder: &str) -> io::Result<bool> {
 
 #[test]
 fn a_directory_that_is_removed_under_way(rt: HostRuntime) -> Result<(), Fail> {
-    const STEPS: &[Step] = &[
-        Step::Dir("/a"),
-        Step::Zeros(1, "/a/x"),
-        Step::Dir("/b"),
-        Step::Zeros(1, "/b/x"),
-        Step::Dir("/c"),
-        Step::Zeros(1, "/c/x"),
+    const STEPS: &[(&str, Made)] = &[
+        ("/a", Made::Dir),
+        ("/a/x", Made::File(1)),
+        ("/b", Made::Dir),
+        ("/b/x", Made::File(1)),
+        ("/c", Made::Dir),
+        ("/c/x", Made::File(1)),
     ];
     let folder = make(&rt, "removed", STEPS)?;
     let is_shown = shows_removal(&rt, folder.as_str());
-    remove(&rt, folder.as_str())?;
+    fs::remove_dir_all(&rt, folder.as_str())?;
     assert!(rt; is_shown?);
     Ok(())
 }

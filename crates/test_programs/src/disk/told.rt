@@ -11,32 +11,15 @@ use std::rt::Files;
 
 /// One part of the reading of a directory.
 #[derive(Clone, Copy)]
-enum Part {
+pub(super) enum Part {
     /// Names, each ended by a NUL.
     Names(&'static [u8]),
     Fails(ErrorKind),
 }
 
-/// The readings of a directory, in order.
-#[derive(Clone, Copy)]
-pub enum Readings {
-    Nothing,
-    /// `a`, `l`, `s` and `.h`.
-    FourNames,
-    /// The directory itself and the one above it, `b`, a name that isn't text, and `c`; then another such name, and
-    /// `d`.
-    NamesThatAreNoTexts,
-    /// `b` and `a`; then `c`; then an error.
-    FaultAfterThreeNames,
-    /// `b`, and then `a`, with interruptions before and between. The first two opens are interrupted too.
-    Interrupted,
-    /// `b` and `a`; then memory runs out.
-    NoMemoryAfterTwoNames,
-}
-
 /// A call to a disk.
 #[derive(Clone, Copy, PartialEq, Eq)]
-pub enum Call {
+pub(super) enum Call {
     /// Opens a directory, by a path that ends in a slash.
     Open,
     /// Looks at a path.
@@ -50,67 +33,32 @@ pub enum Call {
 /// The table of a disk. The disk has the directory `/t`, in which the directory `/t/s` is empty and the link `/t/l`
 /// leads to an empty directory elsewhere. Everything else is a file.
 #[derive(Clone, Copy)]
-pub struct Told {
-    /// The readings of `/t`.
-    pub readings: Readings,
+pub(super) struct Told {
+    /// The readings of `/t`, in order.
+    pub(super) readings: &'static [Part],
+    /// How many opens are interrupted, from the first on.
+    pub(super) interrupted: usize,
     /// The calls that fail, each at a path.
-    pub failing: &'static [(Call, &'static str)],
+    pub(super) failing: &'static [(Call, &'static str)],
     /// The error of the calls that fail.
-    pub kind: ErrorKind,
+    pub(super) kind: ErrorKind,
 }
 
-/// The number of calls of each sort.
-#[derive(Drop)]
-pub struct Calls {
-    opens: Cell<usize>,
-    looks: Cell<usize>,
-    follows: Cell<usize>,
-    texts: Cell<usize>,
-}
+/// How often a disk opens a directory, looks at a path, looks at the target of a path, and reads the text of a link.
+pub(super) type Counts = (usize, usize, usize, usize);
 
 /// A disk whose answers are in a table, with counts of its calls that others see.
 #[derive(Drop)]
-pub struct ToldDisk {
-    told: Told,
-    calls: Rc<Calls>,
+pub(super) struct ToldDisk {
+    pub(super) told: Told,
+    pub(super) calls: Rc<Cell<Counts>>,
 }
 
 /// A directory that is being read.
 #[derive(Drop)]
-pub struct ToldDir {
-    readings: Readings,
+pub(super) struct ToldDir {
+    readings: &'static [Part],
     next: usize,
-}
-
-impl Readings {
-    fn parts(self) -> &'static [Part] {
-        const FOUR: &[Part] = &[Part::Names(b"a\0l\0s\0.h\0")];
-        const NO_TEXTS: &[Part] = &[
-            Part::Names(b".\0..\0b\0a\xff\0c\0"),
-            Part::Names(b"\xc3\0d\0"),
-        ];
-        const FAULT: &[Part] = &[
-            Part::Names(b"b\0a\0"),
-            Part::Names(b"c\0"),
-            Part::Fails(ErrorKind::InvalidData),
-        ];
-        const INTERRUPTED: &[Part] = &[
-            Part::Fails(ErrorKind::Interrupted),
-            Part::Names(b"b\0"),
-            Part::Fails(ErrorKind::Interrupted),
-            Part::Fails(ErrorKind::Interrupted),
-            Part::Names(b"a\0"),
-        ];
-        const NO_MEMORY: &[Part] = &[Part::Names(b"b\0a\0"), Part::Fails(ErrorKind::OutOfMemory)];
-        match self {
-            Readings::Nothing => &[],
-            Readings::FourNames => FOUR,
-            Readings::NamesThatAreNoTexts => NO_TEXTS,
-            Readings::FaultAfterThreeNames => FAULT,
-            Readings::Interrupted => INTERRUPTED,
-            Readings::NoMemoryAfterTwoNames => NO_MEMORY,
-        }
-    }
 }
 
 fn fill(mut names: &[u8], buf: &mut [u8]) -> io::Result<usize>
@@ -121,7 +69,7 @@ fn fill(mut names: &[u8], buf: &mut [u8]) -> io::Result<usize>
 
 impl Read for ToldDir {
     fn read(&mut self, buf: &mut [u8]) -> io::Result<usize> {
-        let Some(part) = self.readings.parts().get(self.next) else {
+        let Some(part) = self.readings.get(self.next) else {
             return Ok(0);
         };
         self.next = self.next.wrapping_add(1);
@@ -132,65 +80,26 @@ impl Read for ToldDir {
     }
 }
 
-impl Calls {
-    pub fn none() -> Self {
-        Calls {
-            opens: Cell::new(0),
-            looks: Cell::new(0),
-            follows: Cell::new(0),
-            texts: Cell::new(0),
-        }
-    }
-
-    fn counter(&self, call: Call) -> &Cell<usize> {
-        match call {
-            Call::Open => &self.opens,
-            Call::Look => &self.looks,
-            Call::Follow => &self.follows,
-            Call::Text => &self.texts,
-        }
-    }
-
-    fn add(&self, call: Call) {
-        let counter = self.counter(call);
-        counter.set(counter.get().wrapping_add(1));
-    }
-
-    /// Returns the number of calls that open a directory, look at a path, look at the target of a path, and read the
-    /// text of a link.
-    pub(super) fn counts(&self) -> (usize, usize, usize, usize) {
-        (
-            self.opens.get(),
-            self.looks.get(),
-            self.follows.get(),
-            self.texts.get(),
-        )
-    }
-}
-
 fn unsupported<T>() -> io::Result<T> {
     Err(io::Error::from(ErrorKind::Unsupported))
 }
 
 impl ToldDisk {
-    pub fn new(told: Told, calls: Rc<Calls>) -> Self {
-        ToldDisk { told, calls }
-    }
-
     /// Counts the call first.
     fn called(&self, call: Call, path: &str) -> io::Result<()> {
-        self.calls.add(call);
+        let (opens, looks, follows, texts) = self.calls.get();
+        self.calls.set(match call {
+            Call::Open => (opens.wrapping_add(1), looks, follows, texts),
+            Call::Look => (opens, looks.wrapping_add(1), follows, texts),
+            Call::Follow => (opens, looks, follows.wrapping_add(1), texts),
+            Call::Text => (opens, looks, follows, texts.wrapping_add(1)),
+        });
         for (failing, at) in self.told.failing {
             if *failing == call && *at == path {
                 return Err(io::Error::from(self.told.kind));
             }
         }
         Ok(())
-    }
-
-    /// The first two opens are. The open has been counted by then.
-    fn is_open_interrupted(&self) -> bool {
-        matches!(self.told.readings, Readings::Interrupted) && self.calls.opens.get() <= 2
     }
 }
 
@@ -205,13 +114,13 @@ impl Files for ToldDisk {
 
     fn open_dir(&self, path: &str) -> io::Result<ToldDir> {
         self.called(Call::Open, path)?;
-        if self.is_open_interrupted() {
+        if self.calls.get().0 <= self.told.interrupted {
             return Err(io::Error::from(ErrorKind::Interrupted));
         }
         let readings = if path == "/t/" {
             self.told.readings
         } else {
-            Readings::Nothing
+            &[]
         };
         Ok(ToldDir { readings, next: 0 })
     }

@@ -1,7 +1,7 @@
 //! Calls of the program, and what they come to.
 use crate::output::Output;
 use crate::tally::clock::Hasty;
-use crate::tally::disk::{Disk, Known};
+use crate::tree_disk::{Disk, Known};
 use jwalk::Host as Runtime;
 use jwalk::file_system::FileSystem;
 use jwalk_ignore::memory_texts::MemoryTexts;
@@ -11,9 +11,8 @@ use tally_run::run::run;
 use tally_run::screen::Screen;
 use test_fixtures::host::Host;
 use test_fixtures::texts::texts;
-use test_fixtures::watched::{Failing, Watched};
+use test_fixtures::watched::Failing;
 use walk_text::failure::Failure;
-use walk_text::tree::build_tree;
 
 /// A call, and its outcome.
 #[derive(Clone, Copy)]
@@ -73,37 +72,18 @@ fn ran<R: Runtime, S: FileSystem + Send + Sync + 'static, W: Write>(
     (status, err)
 }
 
-fn disk_of(alloc: Global, call: &Call<'_>) -> Result<Disk, Failure> {
-    let tree = build_tree(alloc, call.tree.as_bytes())?;
-    Ok(Disk {
-        tree: Watched::new(tree, call.failing),
-        known: call.known,
-    })
-}
-
 /// Returns whether a call has its outcome. The option `threads` precedes its words.
-fn comes(rt: &impl Host, threads: &str, call: &Call<'_>) -> Result<bool, Failure> {
+pub(super) fn comes(rt: &impl Host, threads: &str, call: &Call<'_>) -> Result<bool, Failure> {
     let alloc: Global = rt.alloc();
     let hasty = Hasty::new(rt, call.millis)?;
     let words = texts(alloc, &["tally", threads], call.words)?;
     let mut out = Output::taking(alloc, call.room)?;
-    let disk = disk_of(alloc, call)?;
+    let mut disk = Disk::new(alloc, call.tree, call.failing, out.failures.clone()?)?;
+    disk.known = call.known;
     let (status, err) = ran(&hasty, alloc, disk, words.as_slice(), call.screen, &mut out);
     let is_right = match call.out {
         Some(text) => out.is(text),
         None => true,
     };
     Ok(is_right && err.as_slice() == call.err.as_bytes() && status == call.status)
-}
-
-/// Returns the number of the first call that has another outcome with one of the options for threads, counted from 0.
-pub(super) fn first_wrong(rt: &impl Host, threads: &[&str], calls: &[Call<'_>]) -> Option<usize> {
-    for (number, call) in calls.iter().enumerate() {
-        for option in threads {
-            if !matches!(comes(rt, option, call), Ok(true)) {
-                return Some(number);
-            }
-        }
-    }
-    None
 }

@@ -1,17 +1,20 @@
 //! Subtotals where each request for memory is refused, or all from each on.
-use crate::tally::disk::{Disk, KNOWN, TREE};
+use crate::tally::disk::{KNOWN, TREE};
+use crate::tree_disk::Disk;
 use jwalk::file_system::FileSystem;
 use jwalk::read_dir::NoProcess;
-use jwalk::{ClientState, DirEntryIter, WalkDirGeneric};
+use jwalk::{DirEntryIter, WalkDirGeneric};
 use jwalk_subtotals::iter::Subtotals;
-use jwalk_subtotals::{SubtotalError, SubtotalOptions, WithSubtotal, subtotals};
+use jwalk_subtotals::{SubtotalError, SubtotalOptions, subtotals};
 use std::alloc::{Allocator, Global};
+use std::sync::Arc;
+use std::sync::atomic::AtomicUsize;
 use test_fixtures::refused::outcome::Outcome;
 use test_fixtures::refused::turns::{MOST, Repeated, first_wrong};
 use test_fixtures::refusing_alloc::Refusing;
-use test_fixtures::watched::{Failing, Watched};
+use test_fixtures::watched::Failing;
 use test_fixtures::width::Width;
-use walk_text::tree::build_tree;
+use walk_text::failure::Failure;
 
 /// The whole tree, in blocks.
 const OPTIONS: SubtotalOptions = SubtotalOptions {
@@ -44,41 +47,23 @@ struct Play {
 /// A walk without states or a callback.
 type Walk<S, A> = DirEntryIter<((), ()), S, NoProcess, A>;
 
-/// The return of a call for subtotals.
-type Yielded<C, A> = Option<Result<WithSubtotal<C, A>, SubtotalError<A>>>;
-
-/// Memory may run out for the walk or for the subtotals.
-fn is_refusal<C: ClientState, A: Allocator + Copy>(yielded: &Yielded<C, A>) -> bool {
-    match yielded {
-        Some(Err(SubtotalError::Memory)) => true,
-        Some(Err(SubtotalError::Walk(error))) => error.is_memory(),
-        _ => false,
-    }
-}
-
-fn is_row<C: ClientState, A: Allocator + Copy>(
-    yielded: &Yielded<C, A>,
-    (name, bytes): &(&str, u128),
-) -> bool {
-    match yielded {
-        Some(Ok(found)) => found.entry.file_name() == *name && found.subtotal.bytes == *bytes,
-        _ => false,
-    }
-}
-
 /// Returns the outcome of these subtotals: the first rows come, and then one error, or all rows, and nothing more.
+/// Memory may run out for the walk or for the subtotals.
 fn outcome_of<S: FileSystem, A: Allocator + Copy>(
     all: &mut Subtotals<((), ()), A, Walk<S, A>>,
 ) -> Outcome {
     let mut came = Outcome::Whole;
-    for (number, row) in ROWS.iter().enumerate() {
-        let yielded = all.next();
-        if is_refusal(&yielded) {
+    for (number, (name, bytes)) in ROWS.iter().enumerate() {
+        let is_refused = match &all.next() {
+            Some(Ok(found)) if found.entry.file_name() == *name && found.subtotal.bytes == *bytes =>
+                { false }
+            Some(Err(SubtotalError::Memory)) => true,
+            Some(Err(SubtotalError::Walk(error))) if error.is_memory() => true,
+            _ => return Outcome::Wrong,
+        };
+        if is_refused {
             came = Outcome::Refused(number);
             break;
-        }
-        if !is_row(&yielded, row) {
-            return Outcome::Wrong;
         }
     }
     let is_over = all.next().is_none();
@@ -112,14 +97,19 @@ impl Repeated for Play {
     }
 }
 
+fn disk(alloc: Global) -> Result<Disk, Failure> {
+    let failures = Arc::new(alloc, AtomicUsize::new(0))?;
+    let mut disk = Disk::new(alloc, TREE, Failing::Never, failures)?;
+    disk.known = KNOWN;
+    Ok(disk)
+}
+
 #[test]
 fn a_beginning_comes_and_one_error_where_memory_is_refused(rt: HostRuntime) {
     for width in &[Width::Serial, Width::Batches(8)] {
         for many in &[1, MOST] {
-            let wrong = match build_tree(rt.alloc(), TREE.as_bytes()) {
-                Ok(tree) => {
-                    let tree = Watched::new(tree, Failing::Never);
-                    let disk = Disk { tree, known: KNOWN };
+            let wrong = match disk(rt.alloc()) {
+                Ok(disk) => {
                     let play = Play {
                         disk,
                         width: *width,

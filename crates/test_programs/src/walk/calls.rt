@@ -1,17 +1,16 @@
 //! Calls of the program, and what they come to.
 use crate::output::Output;
-use crate::walk::disk::Disk;
+use crate::tree_disk::Disk;
 use crate::walk::input::Input;
 use jwalk::file_system::FileSystem;
-use std::alloc::{AllocError, Global};
 use std::io::{Read, Write};
 use std::sync::Arc;
+use std::sync::atomic::Ordering;
 use test_fixtures::host::Host;
 use test_fixtures::texts::texts;
-use test_fixtures::watched::{Failing, Watched};
+use test_fixtures::watched::Failing;
 use walk_run::run::run;
 use walk_text::failure::Failure;
-use walk_text::tree::build_tree;
 
 /// A call, and its outcome.
 #[derive(Clone, Copy)]
@@ -63,40 +62,22 @@ fn ran<R: Host, S: FileSystem + Send + Sync + 'static, I: Read, W: Write>(
     (status, err)
 }
 
-fn shared(alloc: Global, disk: Disk) -> Result<Arc<Disk>, AllocError> {
-    Ok(Arc::new(alloc, disk)?)
-}
-
-fn disk_of(alloc: Global, call: &Call<'_>, out: &Output) -> Result<Arc<Disk>, Failure> {
-    let tree = build_tree(alloc, call.tree.as_bytes())?;
-    let tree = Watched::new(tree, call.failing);
-    let disk = Disk::new(tree, call.failing_call, out.failures()?);
-    Ok(shared(alloc, disk)?)
-}
-
 /// Returns whether the tree was called no more often than it may be. After the output failed, only a crew calls it.
 fn is_left(disk: &Disk, call: &Call<'_>) -> bool {
     let is_ahead = call.words.iter().any(|word| *word == "--crew");
-    disk.calls() <= call.most_calls && (is_ahead || disk.late_calls() == 0)
+    disk.calls() <= call.most_calls && (is_ahead || disk.late.load(Ordering::SeqCst) == 0)
 }
 
 /// Returns whether a call has its outcome.
-fn comes(rt: &impl Host, call: &Call<'_>) -> Result<bool, Failure> {
-    let mut out = Output::taking(rt.alloc(), call.room)?;
-    let disk = disk_of(rt.alloc(), call, &out)?;
-    let words = texts(rt.alloc(), &[], call.words)?;
+pub(super) fn comes(rt: &impl Host, call: &Call<'_>) -> Result<bool, Failure> {
+    let alloc = rt.alloc();
+    let mut out = Output::taking(alloc, call.room)?;
+    let mut disk = Disk::new(alloc, call.tree, call.failing, out.failures.clone()?)?;
+    disk.failing_call = call.failing_call;
+    let disk = Arc::new(alloc, disk)?;
+    let words = texts(alloc, &[], call.words)?;
     let mut input = call.input;
     let (status, err) = ran(rt, disk.clone()?, words.as_slice(), &mut input, &mut out);
     let is_right = out.is(call.out) && err.as_slice() == call.err.as_bytes();
     Ok(is_right && status == call.status && is_left(&disk, call))
-}
-
-/// Returns the number of the first call that has another outcome, counted from 0.
-pub(super) fn first_wrong(rt: &impl Host, calls: &[Call<'_>]) -> Option<usize> {
-    for (number, call) in calls.iter().enumerate() {
-        if !matches!(comes(rt, call), Ok(true)) {
-            return Some(number);
-        }
-    }
-    None
 }

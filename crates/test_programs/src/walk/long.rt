@@ -1,6 +1,5 @@
-//! Trees whose lines are written in several pieces.
-use crate::walk::calls::{CALL, Call, first_wrong};
-use crate::walk::input::Input;
+//! A long tree whose output is closed.
+use crate::walk::calls::{CALL, Call, comes};
 use std::alloc::AllocError;
 
 /// Adds the lines of a directory and of `count` directories in it, each of one file, to a tree, and the lines of their
@@ -18,41 +17,6 @@ fn push_dirs(tree: &mut String, out: &mut String, count: u64) -> Result<(), Allo
             "1 d /r/directory number {number}\n2 f /r/directory number {number}/x\n"
         )?;
     }
-    Ok(())
-}
-
-/// The calls read from the disk or from the input, in each way.
-#[test]
-fn a_long_tree_comes_whole_and_in_order(rt: HostRuntime) -> Result<(), AllocError> {
-    let mut tree = String::new(rt.alloc());
-    let mut out = String::new(rt.alloc());
-    push_dirs(&mut tree, &mut out, 3000)?;
-    let on_disk = Call {
-        tree: tree.as_str(),
-        out: out.as_str(),
-        ..CALL
-    };
-    let in_input = Call {
-        words: &["--tree", "/r"],
-        input: Input {
-            left: tree.as_bytes(),
-            error: None,
-        },
-        out: out.as_str(),
-        ..CALL
-    };
-    let calls = [
-        in_input,
-        Call {
-            words: &["--batch", "8", "/r"],
-            ..on_disk
-        },
-        Call {
-            words: &["--crew", "2", "/r"],
-            ..on_disk
-        },
-    ];
-    assert_eq!(rt; first_wrong(&rt, &calls), None);
     Ok(())
 }
 
@@ -86,6 +50,8 @@ fn nothing_is_asked_once_a_write_has_failed(rt: HostRuntime) -> Result<(), Alloc
             ..closed
         },
     ];
-    assert_eq!(rt; first_wrong(&rt, &calls), None);
+    for (number, call) in calls.iter().enumerate() {
+        assert!(rt; matches!(comes(&rt, call), Ok(true)), "call {number}");
+    }
     Ok(())
 }
