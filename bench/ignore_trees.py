@@ -127,10 +127,20 @@ def row_of(number, lines, left):
     return [*said, "$ seek -H . /r", *(f"  /r/{path}" for path in left), ""]
 
 
-def table_of(number, lines, left):
-    """The lines of a table of walks for a tree, in a string of Rust."""
-    said = [f"# tree {number}", "repository", *indented(lines), "$ walk /r", *indented(left)]
-    return [line.replace("\\", "\\\\").replace('"', '\\"') for line in said]
+def quoted(text):
+    """A literal of Rust. A `|` ends each line of rules."""
+    for mark, code in ("\\", "\\\\"), ('"', '\\"'), ("|", "\\n"):
+        text = text.replace(mark, code)
+    return f'"{text}"'
+
+
+def scene_of(number, lines, left):
+    """The scene of a tree in a table of walks, in Rust."""
+    tree = [f"            {quoted(line)}," for line in [".git/", *lines]]
+    items = quoted("".join(f"{path}|" for path in left))
+    row = [f"// Tree {number}.", "Row {", f"    yields: Yields::Items({items}),", "    ..ROW", "},"]
+    rows = [f"            {line}" for line in row]
+    return ["    Scene {", "        tree: &[", *tree, "        ],", "        rows: &[", *rows, "        ],", "        ..SCENE", "    },"]
 
 
 def pieces_of(text):
@@ -187,9 +197,10 @@ def write(seed):
         file.write("\n".join(line for number, row in rows for line in row_of(number, *row)))
     with open(TREES, "w") as file:
         file.write("//! Small trees with ignore files, and the part of each that git 2.39 keeps. `bench/ignore_trees.py` writes them.\n")
-        file.write("pub(crate) const TABLE: &str = \"\\\n")
-        file.write("\n".join(line for number, row in rows if row in first for line in table_of(number, *row)))
-        file.write("\n\";\n")
+        file.write("use crate::ignore::planted::{ROW, Row, SCENE, Scene, Yields};\n\n")
+        file.write("pub(crate) const TREES: &[Scene] = &[\n")
+        file.write("".join(f"{line}\n" for number, row in rows if row in first for line in scene_of(number, *row)))
+        file.write("];\n")
 
 
 def against(program, count, seed):

@@ -4,17 +4,26 @@ mod planted;
 mod refused;
 mod rows;
 mod rules;
-mod table;
 mod trees;
 mod walks;
 
-use crate::ignore::rows::TABLES;
-use crate::ignore::walks::assert_left;
+use crate::ignore::rows::{FORCE, LINKS, UNREAD};
+use crate::ignore::trees::TREES;
+use crate::ignore::walks::are_right;
 
 #[test]
 fn walks_leave_what_rules_say(rt: HostRuntime) {
-    for table in TABLES {
-        assert_left(&rt, table);
+    for (name, scenes) in [
+        ("force", FORCE),
+        ("unread", UNREAD),
+        ("links", LINKS),
+        ("trees", TREES),
+    ] {
+        for (number, scene) in scenes.iter().enumerate() {
+            assert!(rt;
+                matches!(are_right(&rt, scene), Ok(true)),
+                "{name}, scene {number}"
+            );
+        }
     }
-    assert_left(&rt, trees::TABLE);
 }

@@ -1,41 +1,49 @@
-//! What walks yield, as texts.
-use crate::ignore::planted::Rules;
+//! What walks yield, beside what they must.
+use crate::ignore::planted::{Row, Yields};
+use jwalk_ignore::states::RulesState;
 use std::alloc::{AllocError, Global};
 use test_fixtures::answers::Answer;
 
-/// Drops `/r/` from the path.
-fn push_path(text: &mut String, path: &str) -> Result<(), AllocError> {
-    text.push_str(path.strip_prefix("/r/").unwrap_or(path))
-}
+/// The states of a walk without states of its own.
+pub(crate) type Rules = (RulesState, ());
 
-/// An entry has its path, an error a mark, its depth and its path.
-fn push_item(text: &mut String, answer: &Answer<Rules>) -> Result<(), AllocError> {
-    match answer {
-        Ok(entry) => push_path(text, entry.path()?.as_str())?,
-        Err(error) => {
-            let depth = error.depth();
-            write!(text, "! {depth} ")?;
-            push_path(text, error.path().unwrap_or("?"))?;
-        }
-    }
-    text.push_str("\n")
-}
-
-/// Leaves out the root. Each item is on a line.
-pub(crate) fn text_of(alloc: Global, answers: &[Answer<Rules>]) -> Result<String, AllocError> {
+/// Returns the items without the root, each on a line.
+fn text_of(alloc: Global, answers: &[Answer<Rules>]) -> Result<String, AllocError> {
     let mut text = String::new(alloc);
     for answer in answers {
-        match answer {
-            Ok(entry) if entry.depth == 0 => {}
-            _ => push_item(&mut text, answer)?,
-        }
+        let path = match answer {
+            Ok(entry) if entry.depth == 0 => continue,
+            Ok(entry) => entry.path()?,
+            Err(error) => {
+                let depth = error.depth();
+                write!(text, "! {depth} ")?;
+                String::from_str(alloc, error.path().unwrap_or("?"))?
+            }
+        };
+        let path = path.as_str();
+        text.push_str(path.strip_prefix("/r/").unwrap_or(path))?;
+        text.push_str("\n")?;
     }
     Ok(text)
 }
 
-/// Returns the numbers of entries, without the root, and of errors.
-pub(crate) fn counts_of(answers: &[Answer<Rules>]) -> (usize, usize) {
-    let errors = answers.iter().filter(|answer| answer.is_err()).count();
-    let entries = answers.len().saturating_sub(errors);
-    (entries.saturating_sub(1), errors)
+/// Returns whether a walk yields what its row says.
+pub(crate) fn is_right(
+    alloc: Global,
+    row: &Row,
+    answers: &[Answer<Rules>],
+) -> Result<bool, AllocError> {
+    match row.yields {
+        Yields::Items(items) => Ok(text_of(alloc, answers)?.as_str() == items),
+        Yields::Numbers(entries, errors) => {
+            let mut failed: usize = 0;
+            for answer in answers {
+                if answer.is_err() {
+                    failed = failed.saturating_add(1);
+                }
+            }
+            let all = entries.saturating_add(errors).saturating_add(1);
+            Ok(failed == errors && answers.len() == all)
+        }
+    }
 }

@@ -1,13 +1,12 @@
 //! Walks with rules, where each request for memory is refused, or all from each on.
-use crate::ignore::planted::Planted;
-use crate::ignore::table::{Row, read_table};
-use jwalk::file_system::{FileSystem, MemoryFs};
+use crate::ignore::planted::{Planted, SCENE, Scene};
+use jwalk::file_system::{BuildError, FileSystem, MemoryFs};
 use jwalk::read_dir::ProcessReadDir;
 use jwalk::{ClientState, WalkDirGeneric};
 use jwalk_ignore::chain::Chain;
 use jwalk_ignore::ignore_files::IgnoreFiles;
 use jwalk_ignore::memory_texts::MemoryTexts;
-use std::alloc::{AllocError, Allocator, Global};
+use std::alloc::{Allocator, Global};
 use std::sync::atomic::{AtomicUsize, Ordering};
 use test_fixtures::refused::counting::Counting;
 use test_fixtures::refused::outcome::{Call, Outcome, WAYS, comes};
@@ -15,49 +14,64 @@ use test_fixtures::refused::turns::{MOST, Repeated, first_wrong};
 use test_fixtures::refusing_alloc::Refusing;
 use test_fixtures::width::Width;
 
-/// Walks over a tree with each kind of rules. The texts have `.git`, as a walk may begin further down.
-const TABLE: &str = "\
-# the whole tree
-repository
-  .git/info/exclude=x|
-  .ignore=b|
-  .gitignore=*.o|
-  a.o
-  b
-  c
-  s/
-  s/.gitignore=d|!k.o|
-  s/d
-  s/e
-  s/j.o
-  s/k.o
-  x
-rules /r/.git=
-$ walk /r
-  0 d /r
-  1 f /r/c
-  1 d /r/s
-  2 f /r/s/e
-  2 f /r/s/k.o
-# below a directory with rules from above
-$ walk /r/s
-  0 d /r/s
-  1 f /r/s/e
-  1 f /r/s/k.o
-# without the rules of a file
-repository
-  .ignore=b|
-  b
-  s/
-  s/.gitignore=d|
-  s/d
-denied /r/s/.gitignore
-$ walk /r
-  0 d /r
-  1 d /r/s
-  ! 2 /r/s/.gitignore PermissionDenied
-  2 f /r/s/d
-";
+/// A tree with each kind of rules. The texts have `.git`, as a walk may begin further down.
+const WHOLE: Scene = Scene {
+    tree: &[
+        ".git/",
+        ".git/info/exclude=x\n",
+        ".ignore=b\n",
+        ".gitignore=*.o\n",
+        "a.o",
+        "b",
+        "c",
+        "s/",
+        "s/.gitignore=d\n!k.o\n",
+        "s/d",
+        "s/e",
+        "s/j.o",
+        "s/k.o",
+        "x",
+    ],
+    rules: &[("/r/.git", "")],
+    ..SCENE
+};
+
+/// A tree with a file of rules that can't be read.
+const DENIED: Scene = Scene {
+    tree: &[".git/", ".ignore=b\n", "b", "s/", "s/.gitignore=d\n", "s/d"],
+    denied: &["/r/s/.gitignore"],
+    ..SCENE
+};
+
+/// A tree, a root, and the lines of the walk from it.
+type Lines = (Scene, &'static str, &'static [&'static str]);
+
+const ROWS: &[Lines] = &[
+    (
+        WHOLE,
+        "/r",
+        &[
+            "0 d /r",
+            "1 f /r/c",
+            "1 d /r/s",
+            "2 f /r/s/e",
+            "2 f /r/s/k.o",
+        ],
+    ),
+    // Below a directory with rules from above.
+    (WHOLE, "/r/s", &["0 d /r/s", "1 f /r/s/e", "1 f /r/s/k.o"]),
+    // Without the rules of a file.
+    (
+        DENIED,
+        "/r",
+        &[
+            "0 d /r",
+            "1 d /r/s",
+            "! 2 /r/s/.gitignore PermissionDenied",
+            "2 f /r/s/d",
+        ],
+    ),
+];
 
 /// A walk that has not begun and has rules.
 type Walk<'f, A> = WalkDirGeneric<
@@ -155,30 +169,23 @@ fn is_reported_in_place(alloc: Global, play: Play<'_>) -> bool {
     false
 }
 
-/// Walks over the tree of a row by itself, and looks where the memory of rules runs out, if the row is of the whole tree.
-fn is_right_row(alloc: Global, planted: &Planted, row: &Row<'_>) -> Result<bool, AllocError> {
-    let lines: Vec<&str> = row.items.as_str().lines().collect(alloc)?;
-    let within = AtomicUsize::new(0);
-    let play = Play {
-        planted,
-        root: row.root,
-        lines: lines.as_slice(),
-        width: Width::Serial,
-        call: Call::IntoIter,
-        within: &within,
-    };
-    let is_whole = row.name == "the whole tree";
-    Ok(is_right(alloc, play) && (!is_whole || is_reported_in_place(alloc, play)))
-}
-
+/// Where the memory of rules runs out is looked at for the first row, which is of the whole tree.
 #[test]
-fn requests_of_walks_with_rules_are_refused(rt: HostRuntime) {
-    let scenes = read_table(rt.alloc(), TABLE).unwrap_or(Vec::new(rt.alloc()));
-    assert_eq!(rt; scenes.len(), 2);
-    for scene in &scenes {
-        for row in &scene.rows {
-            let is_right = is_right_row(rt.alloc(), &scene.planted, row);
-            assert!(rt; is_right == Ok(true), "{}", row.name);
-        }
+fn requests_of_walks_with_rules_are_refused(rt: HostRuntime) -> Result<(), BuildError> {
+    for (number, (scene, root, lines)) in ROWS.iter().enumerate() {
+        let planted = Planted::new(rt.alloc(), scene)?;
+        let within = AtomicUsize::new(0);
+        let play = Play {
+            planted: &planted,
+            root: *root,
+            lines: *lines,
+            width: Width::Serial,
+            call: Call::IntoIter,
+            within: &within,
+        };
+        let is_right = is_right(rt.alloc(), play);
+        let is_in_place = number > 0 || is_reported_in_place(rt.alloc(), play);
+        assert!(rt; is_right && is_in_place, "row {number}");
     }
+    Ok(())
 }

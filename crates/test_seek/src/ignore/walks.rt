@@ -1,15 +1,13 @@
 //! Walks that honour ignore files, in each way and over a crew.
-use crate::ignore::left::{counts_of, text_of};
-use crate::ignore::planted::Rules;
-use crate::ignore::table::{Row, Scene, read_table};
-use jwalk::file_system::MemoryFs;
+use crate::ignore::left::{Rules, is_right};
+use crate::ignore::planted::{Planted, Row, Scene};
+use jwalk::file_system::{BuildError, MemoryFs};
 use jwalk::read_dir::ProcessReadDir;
 use jwalk::{Crew, Parallelism, WalkDirGeneric};
 use jwalk_ignore::ignore_files::IgnoreFiles;
 use jwalk_ignore::memory_texts::MemoryTexts;
 use jwalk_ignore::states::RulesState;
 use std::alloc::{AllocError, Global};
-use std::process::Abort;
 use std::sync::Arc;
 use test_fixtures::answers::Answer;
 use test_fixtures::by_crew::all_by_crew;
@@ -60,27 +58,20 @@ fn rules_by(texts: Arc<MemoryTexts>, settings: &str) -> SharedRules {
 struct Play<'p> {
     fs: &'p Arc<MemoryFs>,
     texts: &'p Arc<MemoryTexts>,
-    row: &'p Row<'p>,
+    row: &'p Row,
 }
 
 impl Play<'_> {
-    fn follows(&self) -> bool {
-        self.row.settings == "follow"
-    }
-
-    fn rules(&self) -> Result<SharedRules, AllocError> {
-        Ok(rules_by(self.texts.clone()?, self.row.settings))
-    }
-
     fn found<R: Host>(&self, rt: &R, way: Way) -> Result<Vec<Answer<Rules>>, AllocError> {
         const BY_NAME: &[Setting] = &[Setting::Sort, Setting::Hidden];
         const FOLLOWING: &[Setting] = &[Setting::Sort, Setting::Hidden, Setting::Follow];
+        let follows = self.row.settings == "follow";
         let asked = Asked {
             fs: &**self.fs,
             root: self.row.root,
-            settings: if self.follows() { FOLLOWING } else { BY_NAME },
+            settings: if follows { FOLLOWING } else { BY_NAME },
         };
-        asked.found(rt, self.rules()?, way)
+        asked.found(rt, rules_by(self.texts.clone()?, self.row.settings), way)
     }
 
     fn found_by_crew<R: Host>(
@@ -89,86 +80,45 @@ impl Play<'_> {
         pool: &Arc<Crew<R>>,
     ) -> Result<Vec<Answer<Rules>>, AllocError> {
         let root = String::from_str(alloc, self.row.root)?;
+        let rules = rules_by(self.texts.clone()?, self.row.settings);
         let walk = WalkDirGeneric::<Rules, _, _, _, _>::with_crew(self.fs.clone()?, root)
             .sort(true)
             .skip_hidden(false)
-            .follow_links(self.follows())
+            .follow_links(self.row.settings == "follow")
             .parallelism(Parallelism::RayonExistingPool {
                 pool: pool.clone()?,
                 busy_timeout: None,
             });
-        all_by_crew(alloc, walk.process_read_dir(self.rules()?))
+        all_by_crew(alloc, walk.process_read_dir(rules))
     }
 
-    /// Appends the items if they aren't those of the row.
-    fn tell_wrong(&self, found: &[Answer<Rules>], told: &mut String) -> Result<(), AllocError> {
-        let items = text_of(*told.allocator(), found)?;
-        let is_right = match self.row.counts {
-            Some(counts) => counts_of(found) == counts,
-            None => items.as_str() == self.row.items.as_str(),
-        };
-        if is_right {
-            return Ok(());
-        }
-        let Row { name, root, .. } = self.row;
-        write!(told, "{name}: walk {root}\n{items}")
-    }
-
-    /// Walks over a crew and in each way. Appends the items of walks that don't yield what the row says.
-    fn tell<R: Host>(
-        &self,
-        rt: &R,
-        pool: &Arc<Crew<R>>,
-        told: &mut String,
-    ) -> Result<(), AllocError> {
-        self.tell_wrong(&self.found_by_crew(rt.alloc(), pool)?, told)?;
+    /// Returns whether the walk yields what the row says, over a crew and in each way.
+    fn is_right<R: Host>(&self, rt: &R, pool: &Arc<Crew<R>>) -> Result<bool, AllocError> {
+        let by_crew = self.found_by_crew(rt.alloc(), pool)?;
+        let mut are_right = is_right(rt.alloc(), self.row, by_crew.as_slice())?;
         for way in WAYS {
-            self.tell_wrong(&self.found(rt, *way)?, told)?;
+            let found = self.found(rt, *way)?;
+            are_right &= is_right(rt.alloc(), self.row, found.as_slice())?;
         }
-        Ok(())
+        Ok(are_right)
     }
 }
 
-/// Appends the items of walks that don't yield what their rows say.
-fn tell_scene<R: Host>(
-    rt: &R,
-    pool: &Arc<Crew<R>>,
-    scene: Scene<'_>,
-    told: &mut String,
-) -> Result<(), AllocError> {
-    let Scene { planted, rows } = scene;
+/// Returns whether the walks of a scene yield what its rows say.
+pub(crate) fn are_right<R: Host>(rt: &R, scene: &Scene) -> Result<bool, BuildError> {
+    let planted = Planted::new(rt.alloc(), scene)?;
     let fs = Arc::new(rt.alloc(), planted.fs)?;
     let texts = Arc::new(rt.alloc(), planted.texts)?;
-    for row in &rows {
+    // The crew serves one walk at a time.
+    let pool = Arc::new(rt.alloc(), Crew::new(rt.clone()?, 1, 2))?;
+    let mut are_right = true;
+    for row in scene.rows {
         let play = Play {
             fs: &fs,
             texts: &texts,
             row,
         };
-        play.tell(rt, pool, told)?;
+        are_right &= play.is_right(rt, &pool)?;
     }
-    Ok(())
-}
-
-/// Returns the items of walks that don't yield what their rows say, or a line that no table has.
-fn wrong_in<R: Host>(rt: &R, table: &str) -> Result<String, AllocError> {
-    let scenes = match read_table(rt.alloc(), table) {
-        Ok(scenes) => scenes,
-        Err(line) => return String::from_str(rt.alloc(), line),
-    };
-    // The crew serves one walk at a time.
-    let pool = Arc::new(rt.alloc(), Crew::new(rt.clone()?, 1, 2))?;
-    let mut told = String::new(rt.alloc());
-    for scene in scenes {
-        tell_scene(rt, &pool, scene, &mut told)?;
-    }
-    Ok(told)
-}
-
-/// Asserts that each walk yields what its row says, in each way and over a crew of two.
-pub(crate) fn assert_left(rt: &(impl Abort + Host), table: &str) {
-    match wrong_in(rt, table) {
-        Ok(told) => assert_eq!(rt; told.as_str(), ""),
-        Err(AllocError) => panic!(rt; "no memory"),
-    }
+    Ok(are_right)
 }

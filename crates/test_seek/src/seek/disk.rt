@@ -2,7 +2,9 @@
 ghost use Rattle.jwalk.specs.jwalk_model.Tree.{functions_of, only_root};
 ghost use Rattle.jwalk_ignore.specs.Rules.Texts.{no_texts};
 
-use jwalk::file_system::{Fault, FileSystem, FileType, Listed, MemoryFs, Metadata, Seen};
+use jwalk::file_system::{
+    Details, Fault, FileSystem, FileType, Identity, Listed, MemoryFs, Metadata, Moment, Seen,
+};
 use jwalk_ignore::memory_texts::MemoryTexts;
 use jwalk_ignore::texts::Texts;
 use std::alloc::Allocator;
@@ -33,29 +35,61 @@ pub(crate) enum Failure {
 }
 
 /// The question that fails.
-#[derive(Drop)]
+#[derive(Clone, Copy)]
 pub(crate) enum Failing {
     Never,
     /// This question about this path.
-    At(Question, String, Failure),
+    At(Question, Failure, &'static str),
     /// The question with this number, counted from 0.
     Turn(usize, Failure),
 }
 
-impl Failing {
-    fn failure(&self, question: Question, path: &str, turn: usize) -> Option<Failure> {
-        match self {
-            Failing::At(at, of, failure) if *at == question && of.as_str() == path => {
-                Some(*failure)
-            }
-            Failing::Turn(at, failure) if *at == turn => Some(*failure),
-            _ => None,
-        }
-    }
+/// What a list says of a path.
+#[derive(Clone, Copy)]
+pub(crate) enum Told {
+    /// Its type alone.
+    Type(FileType),
+    /// Its type and its length.
+    Length(FileType, u64),
+    /// Its type, length, mode, number of names, user and group, and seconds since 1970 for each of its times.
+    Whole(FileType, u64, u32, u64, (u32, u32), i64),
+    /// It can't be told.
+    Unknown(ErrorKind),
 }
 
-/// What a list says of a path.
-pub(crate) type Told = Result<Seen, ErrorKind>;
+impl Told {
+    fn seen(self) -> Result<Seen, ErrorKind> {
+        let (metadata, mode, links, (uid, gid), seconds) = match self {
+            Told::Type(file_type) => return Ok(Seen::TypeAlone(file_type)),
+            Told::Length(file_type, len) => {
+                return Ok(Seen::Whole(Metadata::new(file_type, len)));
+            }
+            Told::Whole(file_type, len, mode, links, owners, seconds) => {
+                (Metadata::new(file_type, len), mode, links, owners, seconds)
+            }
+            Told::Unknown(kind) => return Err(kind),
+        };
+        let modified = Moment {
+            seconds,
+            nanoseconds: 0,
+        };
+        Ok(Seen::Whole(metadata.with_details(Details {
+            identity: Identity {
+                device: 1,
+                inode: 1,
+            },
+            links,
+            blocks: 0,
+            modified,
+            accessed: modified,
+            changed: modified,
+            created: None,
+            mode,
+            uid,
+            gid,
+        })))
+    }
+}
 
 /// How often a disk was asked for a list, for the metadata of a path itself, for what a link leads to, and for rules.
 pub(crate) type Asked = [usize; 4];
@@ -71,84 +105,58 @@ pub(crate) fn sum(asked: Asked) -> usize {
 /// A tree and files of rules in memory.
 #[derive(Drop)]
 pub(crate) struct Disk {
-    tree: MemoryFs,
-    texts: MemoryTexts,
+    pub(crate) tree: MemoryFs,
+    pub(crate) texts: MemoryTexts,
     /// Paths, with what lists say of them in place of the tree.
-    seen: Vec<(String, Told)>,
-    failing: Failing,
-    lists: AtomicUsize,
-    looks: AtomicUsize,
-    follows: AtomicUsize,
-    rules: AtomicUsize,
+    pub(crate) seen: &'static [(&'static str, Told)],
+    pub(crate) failing: Failing,
+    /// The questions for lists, for metadata of paths themselves, for what links lead to, and for rules.
+    pub(crate) counts: [AtomicUsize; 4],
 }
 
 impl Disk {
-    pub(crate) fn new(
-        tree: MemoryFs,
-        texts: MemoryTexts,
-        seen: Vec<(String, Told)>,
-        failing: Failing,
-    ) -> Self {
-        Disk {
-            tree,
-            texts,
-            seen,
-            failing,
-            lists: AtomicUsize::new(0),
-            looks: AtomicUsize::new(0),
-            follows: AtomicUsize::new(0),
-            rules: AtomicUsize::new(0),
-        }
-    }
-
     pub(crate) fn asked(&self) -> Asked {
+        let [lists, looks, follows, rules] = &self.counts;
         [
-            self.lists.load(Ordering::SeqCst),
-            self.looks.load(Ordering::SeqCst),
-            self.follows.load(Ordering::SeqCst),
-            self.rules.load(Ordering::SeqCst),
+            lists.load(Ordering::SeqCst),
+            looks.load(Ordering::SeqCst),
+            follows.load(Ordering::SeqCst),
+            rules.load(Ordering::SeqCst),
         ]
-    }
-
-    fn count(&self, question: Question) -> &AtomicUsize {
-        match question {
-            Question::List => &self.lists,
-            Question::Look => &self.looks,
-            Question::Follow => &self.follows,
-            Question::Read | Question::Place => &self.rules,
-        }
     }
 
     /// Fails if this is the question that does.
     fn ask(&self, question: Question, path: &str) -> Result<(), Fault> {
         let turn = sum(self.asked());
-        self.count(question).fetch_add(1, Ordering::SeqCst);
-        match self.failing.failure(question, path, turn) {
-            Some(Failure::Memory) => Err(Fault::Memory),
-            Some(Failure::Io(kind)) => Err(Fault::Io(io::Error::from(kind))),
-            None => Ok(()),
+        let [lists, looks, follows, rules] = &self.counts;
+        let count = match question {
+            Question::List => lists,
+            Question::Look => looks,
+            Question::Follow => follows,
+            Question::Read | Question::Place => rules,
+        };
+        count.fetch_add(1, Ordering::SeqCst);
+        let failure = match self.failing {
+            Failing::At(at, failure, of) if at == question && of == path => failure,
+            Failing::Turn(at, failure) if at == turn => failure,
+            _ => return Ok(()),
+        };
+        match failure {
+            Failure::Memory => Err(Fault::Memory),
+            Failure::Io(kind) => Err(Fault::Io(io::Error::from(kind))),
         }
-    }
-
-    fn metadata_told(&self, path: &str) -> Option<Metadata> {
-        for (at, told) in &self.seen {
-            if at.as_str() == path {
-                return told.as_ref().ok()?.metadata();
-            }
-        }
-        None
     }
 
     /// Gives an item of a list what is told of its path.
     fn tell<A: Allocator + Copy>(&self, folder: &str, item: &mut Listed<A>) {
-        for (at, told) in &self.seen {
-            let Some(rest) = at.as_str().strip_prefix(folder) else {
+        for (at, told) in self.seen {
+            let Some(rest) = at.strip_prefix(folder) else {
                 continue;
             };
             if rest.strip_prefix("/") == Some(item.name.as_str()) {
-                item.seen = match told {
-                    Ok(seen) => Ok(*seen),
-                    Err(kind) => Err(io::Error::from(*kind)),
+                item.seen = match told.seen() {
+                    Ok(seen) => Ok(seen),
+                    Err(kind) => Err(io::Error::from(kind)),
                 };
             }
         }
@@ -182,10 +190,14 @@ impl FileSystem for Disk {
 
     fn symlink_metadata(&self, path: &str) -> Result<Metadata, Fault> {
         self.ask(Question::Look, path)?;
-        match self.metadata_told(path) {
-            Some(metadata) => Ok(metadata),
-            None => self.tree.symlink_metadata(path),
+        for (at, told) in self.seen {
+            if *at == path
+                && let Ok(Seen::Whole(metadata)) = told.seen()
+            {
+                return Ok(metadata);
+            }
         }
+        self.tree.symlink_metadata(path)
     }
 
     fn read_link<A: Allocator + Copy>(&self, alloc: A, path: &str) -> Result<String<A>, Fault> {
