@@ -60,39 +60,9 @@ pub fn lend_alone<S: FileSystem>(
 #[derive(Drop)]
 pub struct Takes {
     /// The greatest number of answers, or `None` if all are taken, and nothing may come after them.
-    count: Option<usize>,
+    pub count: Option<usize>,
     /// The answers.
     pub found: Vec<Answer>,
-}
-
-impl Takes {
-    /// Returns a visit that takes the first answers.
-    pub fn first(alloc: Global, count: usize) -> Self {
-        Takes {
-            count: Some(count),
-            found: Vec::new(alloc),
-        }
-    }
-
-    /// Returns a visit that takes all answers.
-    pub fn all(alloc: Global) -> Self {
-        Takes {
-            count: None,
-            found: Vec::new(alloc),
-        }
-    }
-
-    /// Returns the answers after the visit. If the walk didn't begin, the error is the only answer.
-    fn after(mut self, visited: Result<bool, Error>) -> Result<Vec<Answer>, AllocError> {
-        match visited {
-            Ok(true) => Ok(self.found),
-            Ok(false) => Err(AllocError),
-            Err(error) => {
-                self.found.push(Err(error))?;
-                Ok(self.found)
-            }
-        }
-    }
 }
 
 impl Visit<((), ()), Global> for Takes {
@@ -153,7 +123,8 @@ impl<'a, S: FileSystem + Send + Sync + 'static> ByCrew<'a, S> {
         self.lend(rt.alloc(), pool, visit)
     }
 
-    /// Returns all that the walk yields. A crew of its own reads for it, with the given number of workers.
+    /// Returns all that the walk yields. A crew of its own reads for it, with the given number of workers. If the walk
+    /// doesn't begin, the error is the only answer.
     pub fn found<R: Host, P: ProcessReadDir<((), ()), Global> + Send + Sync + 'static>(
         &self,
         rt: &R,
@@ -164,9 +135,16 @@ impl<'a, S: FileSystem + Send + Sync + 'static> ByCrew<'a, S> {
     {
         let pool = Arc::new(rt.alloc(), Crew::new(rt.clone()?, 1, workers))?;
         let walk = self.builder(rt.alloc(), pool)?.process_read_dir(process);
-        let mut takes = Takes::all(rt.alloc());
-        let visited = lend(walk, &mut takes);
-        takes.after(visited)
+        let mut takes = Takes {
+            count: None,
+            found: Vec::new(rt.alloc()),
+        };
+        match lend(walk, &mut takes) {
+            Ok(true) => {}
+            Ok(false) => return Err(AllocError),
+            Err(error) => takes.found.push(Err(error))?,
+        }
+        Ok(takes.found)
     }
 
     /// Returns whether the walk yields these lines when a crew of the given number of workers reads for it.

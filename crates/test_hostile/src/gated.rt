@@ -7,11 +7,8 @@ use std::io;
 
 /// What comes before each call to a tree, which may make the call fail.
 pub trait Gate {
-    /// Comes before a directory is listed.
-    fn before_list(&self, path: &str) -> Result<(), Fault>;
-
-    /// Comes before each other call.
-    fn before_look(&self) -> Result<(), Fault>;
+    /// Comes before the directory of a path is listed, and, without a path, before each other call.
+    fn before(&self, listed: Option<&str>) -> Result<(), Fault>;
 }
 
 /// A tree behind a gate.
@@ -31,22 +28,22 @@ impl<G: Gate + Drop> FileSystem for Gated<G> {
         alloc: A,
         path: &str,
     ) -> Result<Vec<io::Result<Listed<A>>, A>, Fault> {
-        self.gate.before_list(path)?;
+        self.gate.before(Some(path))?;
         self.fs.read_dir(alloc, path)
     }
 
     fn metadata(&self, path: &str) -> Result<Metadata, Fault> {
-        self.gate.before_look()?;
+        self.gate.before(None)?;
         self.fs.metadata(path)
     }
 
     fn symlink_metadata(&self, path: &str) -> Result<Metadata, Fault> {
-        self.gate.before_look()?;
+        self.gate.before(None)?;
         self.fs.symlink_metadata(path)
     }
 
     fn read_link<A: Allocator + Copy>(&self, alloc: A, path: &str) -> Result<String<A>, Fault> {
-        self.gate.before_look()?;
+        self.gate.before(None)?;
         self.fs.read_link(alloc, path)
     }
 }

@@ -2,7 +2,6 @@
 mod descriptors;
 mod disk;
 mod endless;
-mod failing_calls;
 mod identities;
 mod lies;
 mod one_file_system;

@@ -76,10 +76,6 @@ enum Step {
     HandsOut(Result<&'static [usize], HandOutRefusal>),
 }
 
-fn is_at(item: &Item<'_>, indices: &[usize]) -> bool {
-    is(&item.index_path, indices)
-}
-
 fn finishes<'m>(
     player: &Player<'m>,
     board: &mut Names<'m>,
@@ -98,11 +94,11 @@ fn finishes<'m>(
 fn goes<'m>(player: &Player<'m>, board: &mut Names<'m>, step: &Step) -> bool {
     match step {
         Step::Takes(wanted) => match take(player, board) {
-            Ok(item) => matches!(wanted, Ok(indices) if is_at(&item, *indices)),
+            Ok(item) => matches!(wanted, Ok(indices) if is(&item.index_path, *indices)),
             Err(refusal) => wanted.err() == Some(refusal),
         },
         Step::HandsOut(wanted) => match hand_out(player, board) {
-            Ok(item) => matches!(wanted, Ok(indices) if is_at(&item, *indices)),
+            Ok(item) => matches!(wanted, Ok(indices) if is(&item.index_path, *indices)),
             Err(refusal) => wanted.err() == Some(refusal),
         },
         Step::Finishes(indices, children) => finishes(player, board, *indices, *children),
@@ -125,15 +121,14 @@ const STEPS: &[Step] = &[
     Step::Takes(Err(TakeRefusal::Done)),
 ];
 
-fn board<'m>(player: &Player<'m>) -> Option<Names<'m>> {
-    Board::new(Vec::from_slice(player.memory, &["r"]).ok()?).ok()
-}
-
 struct OfBoard;
 
 impl Play for OfBoard {
     fn is_right(&self, player: &Player<'_>) -> bool {
-        let Some(mut board) = board(player) else {
+        let Ok(roots) = Vec::from_slice(player.memory, &["r"]) else {
+            return false;
+        };
+        let Ok(mut board) = Board::new(roots) else {
             return false;
         };
         for step in STEPS {

@@ -3,69 +3,56 @@ use crate::refused::memory::{Memory, Play, Player, all_are_right};
 use jwalk_fs::file_system::FileSystem;
 use jwalk_memory_fs::build_error::BuildError;
 use jwalk_memory_fs::memory_fs::MemoryFs;
-use jwalk_model::metadata::Metadata;
 use std::io::ErrorKind;
 
 type Tree<'m> = MemoryFs<Memory<'m>>;
 
+/// A call at a path.
+#[derive(Clone, Copy)]
 enum Call {
-    Dir(&'static str),
-    File(&'static str),
-    Link(&'static str),
-    Deny(&'static str),
-    Remove(&'static str),
+    Dir,
+    File,
+    Link,
+    Deny,
+    Remove,
 }
 
-impl Call {
-    fn path(&self) -> &'static str {
-        match self {
-            Call::Dir(path)
-            | Call::File(path)
-            | Call::Link(path)
-            | Call::Deny(path)
-            | Call::Remove(path) => *path,
-        }
+fn make(fs: &mut Tree<'_>, call: Call, path: &str) -> Result<(), BuildError> {
+    match call {
+        Call::Dir => fs.add_dir(path),
+        Call::File => fs.add_file(path, 7),
+        Call::Link => fs.add_link(path, "a text that is long enough to take memory"),
+        Call::Deny => fs.deny(path, ErrorKind::PermissionDenied),
+        Call::Remove => fs.remove(path),
     }
-
-    fn make(&self, fs: &mut Tree<'_>) -> Result<(), BuildError> {
-        match self {
-            Call::Dir(path) => fs.add_dir(path),
-            Call::File(path) => fs.add_file(path, 7),
-            Call::Link(path) => fs.add_link(path, "a text that is long enough to take memory"),
-            Call::Deny(path) => fs.deny(path, ErrorKind::PermissionDenied),
-            Call::Remove(path) => fs.remove(path),
-        }
-    }
-}
-
-fn at<S: FileSystem>(fs: &S, path: &str) -> Option<Metadata> {
-    fs.symlink_metadata(path).ok()
 }
 
 /// The first attempt has a request refused, and must change nothing then. The second has all granted.
-fn is_made(player: &Player<'_>, fs: &mut Tree<'_>, call: &Call) -> bool {
-    let before = at(&*fs, call.path());
+fn is_made(player: &Player<'_>, fs: &mut Tree<'_>, call: Call, path: &str) -> bool {
+    let before = fs.symlink_metadata(path).ok();
     player.refuse();
-    let first = call.make(fs);
+    let first = make(fs, call, path);
     player.grant();
     match first {
         Ok(()) => true,
-        Err(BuildError::Memory) => at(&*fs, call.path()) == before && call.make(fs).is_ok(),
+        Err(BuildError::Memory) => {
+            fs.symlink_metadata(path).ok() == before && make(fs, call, path).is_ok()
+        }
         Err(_) => false,
     }
 }
 
-const CALLS: &[Call] = &[
-    Call::Dir("/r"),
-    Call::Dir("/r/a"),
-    Call::File("/r/a/f"),
-    Call::Link("/r/l"),
-    Call::Dir("/r/b"),
-    Call::File("/r/b/g"),
-    Call::Deny("/r/b"),
-    Call::Remove("/r/l"),
-    Call::Remove("/r/a"),
-    Call::Dir("/r/c"),
+const CALLS: &[(Call, &str)] = &[
+    (Call::Dir, "/r"),
+    (Call::Dir, "/r/a"),
+    (Call::File, "/r/a/f"),
+    (Call::Link, "/r/l"),
+    (Call::Dir, "/r/b"),
+    (Call::File, "/r/b/g"),
+    (Call::Deny, "/r/b"),
+    (Call::Remove, "/r/l"),
+    (Call::Remove, "/r/a"),
+    (Call::Dir, "/r/c"),
 ];
 
 struct OfBuilding;
@@ -73,8 +60,8 @@ struct OfBuilding;
 impl Play for OfBuilding {
     fn is_right(&self, player: &Player<'_>) -> bool {
         let mut fs = MemoryFs::new(player.memory);
-        for call in CALLS {
-            if !is_made(player, &mut fs, call) {
+        for (call, path) in CALLS {
+            if !is_made(player, &mut fs, *call, *path) {
                 return false;
             }
         }

@@ -1,6 +1,6 @@
 //! Walks over heaps of every size.
 use crate::refused::goes::Play;
-use crate::refused::rows::{HANDED_ON, MOVED, ROWS, Row};
+use crate::refused::rows::ROWS;
 use linked_list_allocator::LocalHeap;
 use std::alloc::Global;
 use test_fixtures::refused::outcome::{Outcome, WAYS};
@@ -37,39 +37,24 @@ fn first_wrong(alloc: Global, play: Play<'_>) -> Option<usize> {
     Some(usize::MAX)
 }
 
-/// Returns the size of the first heap over which the walk of the row comes out wrong, in any way.
-fn wrong_of(alloc: Global, row: &Row) -> Option<usize> {
-    let Ok(fs) = tree(alloc, row.steps) else {
-        return Some(0);
-    };
-    for (width, call) in WAYS {
-        let play = Play {
-            fs: &fs,
-            row,
-            width: *width,
-            call: *call,
-        };
-        let wrong = first_wrong(alloc, play);
-        if wrong.is_some() {
-            return wrong;
-        }
-    }
-    None
-}
-
 #[test]
 fn a_limit_on_bytes(rt: HostRuntime) {
-    for row in ROWS {
-        assert_eq!(rt; wrong_of(rt.alloc(), row), None);
+    for (number, row) in ROWS.iter().enumerate() {
+        let fs = tree(rt.alloc(), row.steps);
+        for (width, call) in WAYS {
+            let wrong = match &fs {
+                Ok(fs) => {
+                    let play = Play {
+                        fs,
+                        row,
+                        width: *width,
+                        call: *call,
+                    };
+                    first_wrong(rt.alloc(), play)
+                }
+                Err(_) => Some(0),
+            };
+            assert_eq!(rt; wrong, None, "row {number}");
+        }
     }
-}
-
-#[test]
-fn a_limit_on_bytes_where_a_directory_is_moved(rt: HostRuntime) {
-    assert_eq!(rt; wrong_of(rt.alloc(), &MOVED), None);
-}
-
-#[test]
-fn a_limit_on_bytes_where_names_are_handed_on(rt: HostRuntime) {
-    assert_eq!(rt; wrong_of(rt.alloc(), &HANDED_ON), None);
 }

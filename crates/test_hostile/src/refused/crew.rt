@@ -5,7 +5,7 @@ use jwalk::entries::Entries;
 use jwalk::file_system::{FileSystem, MemoryFs};
 use jwalk::read_dir::{NoProcess, ProcessReadDir};
 use jwalk::readings::Readings;
-use jwalk::{ClientState, Crew, Error, Parallelism, WalkDirGeneric};
+use jwalk::{ClientState, Crew, Parallelism, WalkDirGeneric};
 use std::alloc::{Allocator, Global};
 use std::sync::Arc;
 use std::thread;
@@ -20,15 +20,6 @@ use test_fixtures::trees::tree;
 
 /// Memory that lives as long as the process, as a crew's threads may.
 type Memory = &'static Refusing<Global>;
-
-/// A crew of which no thread could be started is busy.
-fn not_begun<A: Allocator + Copy>(error: &Error<A>) -> Outcome {
-    if error.is_memory() || error.is_busy() {
-        Outcome::Refused(0)
-    } else {
-        Outcome::Wrong
-    }
-}
 
 /// A visit of a walk that must yield these lines.
 #[derive(Drop)]
@@ -79,7 +70,9 @@ where
     };
     match lend(walk.process_read_dir(process), &mut yields) {
         Ok(_) => yields.came,
-        Err(error) => not_begun(&error),
+        // A crew of which no thread could be started is busy.
+        Err(error) if error.is_memory() || error.is_busy() => Outcome::Refused(0),
+        Err(_) => Outcome::Wrong,
     }
 }
 
@@ -108,41 +101,22 @@ fn are_back<R: Host>(rt: &R, memory: Memory, before: usize) -> bool {
     false
 }
 
-#[derive(Clone, Copy)]
-struct Refusals {
-    /// The number of the first request.
-    first: usize,
-    many: usize,
-}
-
-/// Returns how the walk comes out, or `None` if the crew or the tree can't be shared.
-fn comes_refused<R: Host>(
-    rt: &R,
-    memory: Memory,
-    fs: &Arc<MemoryFs>,
-    pool: &Arc<Crew<R>, Memory>,
-    row: &Row,
-    refusals: Refusals,
-) -> Option<Outcome> {
-    let fs = fs.clone().ok()?;
-    let pool = pool.clone().ok()?;
-    memory.refuse(refusals.first, refusals.many);
-    Some(comes(rt.alloc(), memory, fs, pool, row))
-}
-
-/// Returns how many requests were refused. Returns `None` if the walk came out wrong, if it left a place in use, or if
-/// pieces stayed out.
+/// Returns how many requests were refused, of `many` from the request of number `first` on. Returns `None` if the walk
+/// came out wrong, if it left a place in use, or if pieces stayed out.
 fn refused<R: Host>(
     rt: &R,
     memory: Memory,
     fs: &Arc<MemoryFs>,
     pool: &Arc<Crew<R>, Memory>,
     row: &Row,
-    refusals: Refusals,
+    (first, many): (usize, usize),
 ) -> Option<usize> {
     memory.refuse(0, 0);
     let before = memory.pieces();
-    let came = comes_refused(rt, memory, fs, pool, row, refusals)?;
+    let walked = fs.clone().ok()?;
+    let crew = pool.clone().ok()?;
+    memory.refuse(first, many);
+    let came = comes(rt.alloc(), memory, walked, crew, row);
     let is_free = pool.in_use() == 0;
     let is_right = came != Outcome::Wrong && is_free && are_back(rt, memory, before);
     let refused = memory.refused();
@@ -153,18 +127,16 @@ fn refused<R: Host>(
     }
 }
 
-fn plays_on<R: Host>(
-    rt: &R,
-    memory: Memory,
-    fs: &Arc<MemoryFs>,
-    pool: &Arc<Crew<R>, Memory>,
-    row: &Row,
-    many: usize,
-) -> Option<usize> {
+/// Returns how many requests were refused one after another until five walks of the row met no refusal, or `None` if
+/// one came out wrong. The memory is for the crew of two, too.
+fn plays<R: Host>(rt: &R, row: &Row, many: usize) -> Option<usize> {
+    let alloc = rt.alloc();
+    let memory: Memory = Box::leak(Box::new(alloc, Refusing::new(alloc)).ok()?);
+    let fs = Arc::new(alloc, tree(alloc, row.steps).ok()?).ok()?;
+    let pool = Arc::new(memory, Crew::new(rt.clone().ok()?, 1, 2)).ok()?;
     let mut quiet: usize = 0;
     for first in 1..MOST {
-        let refusals = Refusals { first, many };
-        if refused(rt, memory, fs, pool, row, refusals)? > 0 {
+        if refused(rt, memory, &fs, &pool, row, (first, many))? > 0 {
             quiet = 0;
         } else {
             quiet = quiet.saturating_add(1);
@@ -176,49 +148,13 @@ fn plays_on<R: Host>(
     None
 }
 
-fn memory(alloc: Global) -> Option<Memory> {
-    Some(Box::leak(Box::new(alloc, Refusing::new(alloc)).ok()?))
-}
-
-fn tree_of(alloc: Global, row: &Row) -> Option<Arc<MemoryFs>> {
-    Arc::new(alloc, tree(alloc, row.steps).ok()?).ok()
-}
-
-/// Returns a crew of two, which the memory is for too.
-fn crew_of_two<R: Host>(rt: &R, memory: Memory) -> Option<Arc<Crew<R>, Memory>> {
-    Arc::new(memory, Crew::new(rt.clone().ok()?, 1, 2)).ok()
-}
-
-/// Returns how many requests were refused one after another until five walks of the row met no refusal, or `None` if
-/// one came out wrong.
-fn plays<R: Host>(rt: &R, row: &Row, many: usize) -> Option<usize> {
-    let memory = memory(rt.alloc())?;
-    let fs = tree_of(rt.alloc(), row)?;
-    let pool = crew_of_two(rt, memory)?;
-    plays_on(rt, memory, &fs, &pool, row, many)
-}
-
 /// Refuses each request alone, and all from each on. More than 20 must be met.
-fn is_right<R: Host>(rt: &R, row: &Row) -> bool {
-    for many in [1, usize::MAX] {
-        if !matches!(plays(rt, row, many), Some(number) if number > 20) {
-            return false;
-        }
-    }
-    true
-}
-
 #[test]
 fn requests_refused_with_a_crew(rt: HostRuntime) {
-    assert!(rt; is_right(&rt, &GROUPS));
-}
-
-#[test]
-fn requests_refused_with_a_crew_where_a_directory_is_moved(rt: HostRuntime) {
-    assert!(rt; is_right(&rt, &MOVED));
-}
-
-#[test]
-fn requests_refused_with_a_crew_where_names_are_handed_on(rt: HostRuntime) {
-    assert!(rt; is_right(&rt, &HANDED_ON));
+    for (number, row) in [GROUPS, MOVED, HANDED_ON].iter().enumerate() {
+        for many in [1, usize::MAX] {
+            let met = plays(&rt, row, many);
+            assert!(rt; matches!(met, Some(met) if met > 20), "row {number}");
+        }
+    }
 }

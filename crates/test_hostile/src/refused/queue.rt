@@ -91,12 +91,6 @@ impl Play for OfQueue {
     }
 }
 
-#[test]
-fn each_push_and_step_of_a_queue_is_refused_and_made_again(rt: HostRuntime) {
-    assert!(rt; all_are_right(rt.alloc(), &OfQueue(Ordering::Relaxed, RELAXED)));
-    assert!(rt; all_are_right(rt.alloc(), &OfQueue(Ordering::Strict, STRICT)));
-}
-
 /// The first attempt has a request refused, the second has all granted.
 fn passes<'m>(
     player: &Player<'m>,
@@ -149,6 +143,8 @@ impl Play for OfMatcher {
 }
 
 #[test]
-fn each_pass_of_a_matcher_is_refused_and_made_again(rt: HostRuntime) {
+fn each_step_of_a_queue_and_of_its_matcher_is_refused_and_made_again(rt: HostRuntime) {
+    assert!(rt; all_are_right(rt.alloc(), &OfQueue(Ordering::Relaxed, RELAXED)));
+    assert!(rt; all_are_right(rt.alloc(), &OfQueue(Ordering::Strict, STRICT)));
     assert!(rt; all_are_right(rt.alloc(), &OfMatcher));
 }

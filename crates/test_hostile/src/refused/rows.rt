@@ -58,9 +58,11 @@ pub const HANDED_ON: Row = Row {
     lines: &["0 d /t", "1 d /t/group 1 with t", "1 d /t/group 2 with t"],
 };
 
-/// The groups, one that can't be listed, and a loop.
+/// The groups, one that can't be listed, a loop, and walks with callbacks.
 pub const ROWS: &[Row] = &[
     GROUPS,
+    MOVED,
+    HANDED_ON,
     Row {
         steps: DENIED,
         root: "/t",

@@ -9,14 +9,18 @@ use std::thread::Threads;
 use test_fixtures::refused::callbacks::Texts;
 use test_fixtures::refused::lines::Shown;
 use test_fixtures::refused::on_threads::comes;
-use test_fixtures::refused::outcome::{CALLS, Outcome, WAYS};
+use test_fixtures::refused::outcome::{Call, Outcome, WAYS};
 use test_fixtures::refused::turns::{MOST, Repeated, Run, run_of};
 use test_fixtures::refusing_alloc::Refusing;
 use test_fixtures::trees::tree;
 use test_fixtures::width::Width;
 
-/// Enough for two threads.
-const WIDE: Width = Width::Batches(64);
+/// Batches that are wide enough for two threads.
+const WIDE_WAYS: &[(Width, Call)] = &[
+    (Width::Batches(64), Call::TryIntoIter),
+    (Width::Batches(64), Call::IntoIter),
+    (Width::Batches(64), Call::Fill),
+];
 
 /// The number of directories from which threads share a batch.
 const SHARED: usize = 32;
@@ -60,23 +64,20 @@ fn comes_over<R: Threads + AllocGlobal + Sync, A: Allocator + Copy + Send + Sync
     }
 }
 
-/// A walk may come whole after a refusal if its answers are all asked for at once, or if threads share its batches.
-fn may_be_whole(play: Play<'_>) -> bool {
-    play.may_be_whole() || play.row.lines.len() > SHARED
-}
-
-/// Returns the number of the first request from which the walk comes out wrong. A trait's method can't start threads,
-/// so the runs are here.
+/// Returns the number of the first request from which the walk comes out wrong. It may come whole after a refusal if its
+/// answers are all asked for at once, or if threads share its batches. A trait's method can't start threads, so the runs
+/// are here.
 fn first_wrong<R: Threads + AllocGlobal + Sync>(
     rt: &R,
     play: Play<'_>,
     many: usize,
 ) -> Option<usize> {
     let memory = Refusing::new(rt.alloc());
+    let may_be_whole = play.may_be_whole() || play.row.lines.len() > SHARED;
     for number in 1..MOST {
         memory.refuse(number, many);
         let came = comes_over(rt, &memory, play);
-        match run_of(&memory, number, came, may_be_whole(play)) {
+        match run_of(&memory, number, came, may_be_whole) {
             Run::Refused => {}
             Run::Quiet => return None,
             Run::Wrong => return Some(number),
@@ -85,43 +86,27 @@ fn first_wrong<R: Threads + AllocGlobal + Sync>(
     Some(MOST)
 }
 
-/// Refuses each request alone, and all from each on.
-fn is_right<R: Threads + AllocGlobal + Sync>(rt: &R, play: Play<'_>) -> bool {
-    first_wrong(rt, play, 1).is_none() && first_wrong(rt, play, usize::MAX).is_none()
-}
-
-fn is_right_widely<R: Threads + AllocGlobal + Sync>(rt: &R, fs: &MemoryFs, row: &Row) -> bool {
-    for call in CALLS {
+/// Reads in these ways, and refuses each request alone, and all from each on.
+fn is_right<R: Threads + AllocGlobal + Sync>(
+    rt: &R,
+    fs: &MemoryFs,
+    row: &Row,
+    ways: &[(Width, Call)],
+) -> bool {
+    for (width, call) in ways {
         let play = Play {
             fs,
-            row,
-            width: WIDE,
-            call: *call,
-        };
-        if !is_right(rt, play) {
-            return false;
-        }
-    }
-    true
-}
-
-/// Reads in each way.
-fn is_right_always<R: Threads + AllocGlobal + Sync>(rt: &R, row: &Row) -> bool {
-    let Ok(fs) = tree(rt.alloc(), row.steps) else {
-        return false;
-    };
-    for (width, call) in WAYS {
-        let play = Play {
-            fs: &fs,
             row,
             width: *width,
             call: *call,
         };
-        if !is_right(rt, play) {
-            return false;
+        for many in [1, usize::MAX] {
+            if first_wrong(rt, play, many).is_some() {
+                return false;
+            }
         }
     }
-    is_right_widely(rt, &fs, row)
+    true
 }
 
 const WIDE_ROW: Row = Row {
@@ -176,21 +161,19 @@ const WIDE_ROW: Row = Row {
 
 #[test]
 fn requests_refused_on_threads(rt: HostRuntime) {
-    assert!(rt; is_right_always(&rt, &GROUPS));
+    for (number, row) in [GROUPS, MOVED, HANDED_ON].iter().enumerate() {
+        let fs = tree(rt.alloc(), row.steps);
+        for ways in [WAYS, WIDE_WAYS] {
+            assert!(rt;
+                matches!(&fs, Ok(fs) if is_right(&rt, fs, row, ways)),
+                "row {number}"
+            );
+        }
+    }
 }
 
 #[test]
 fn requests_refused_on_threads_that_share_a_batch(rt: HostRuntime) {
     let wide = wide(rt.alloc());
-    assert!(rt; matches!(&wide, Ok(fs) if is_right_widely(&rt, fs, &WIDE_ROW)));
-}
-
-#[test]
-fn requests_refused_on_threads_where_a_directory_is_moved(rt: HostRuntime) {
-    assert!(rt; is_right_always(&rt, &MOVED));
-}
-
-#[test]
-fn requests_refused_on_threads_where_names_are_handed_on(rt: HostRuntime) {
-    assert!(rt; is_right_always(&rt, &HANDED_ON));
+    assert!(rt; matches!(&wide, Ok(fs) if is_right(&rt, fs, &WIDE_ROW, WIDE_WAYS)));
 }

@@ -43,25 +43,22 @@ fn refused_within(alloc: Global, play: Play<'_>) -> Option<usize> {
 /// the groups for a copy of the state and the name.
 const REQUESTS: usize = 5;
 
-fn all_are_refused(alloc: Global) -> bool {
-    let Ok(fs) = tree(alloc, HANDED_ON.steps) else {
-        return false;
-    };
-    for (width, call) in WAYS {
-        let play = Play {
-            fs: &fs,
-            row: &HANDED_ON,
-            width: *width,
-            call: *call,
-        };
-        if refused_within(alloc, play) != Some(REQUESTS) {
-            return false;
-        }
-    }
-    true
-}
-
 #[test]
 fn each_request_of_a_callback_is_refused_and_reported_by_that_next(rt: HostRuntime) {
-    assert!(rt; all_are_refused(rt.alloc()));
+    let fs = tree(rt.alloc(), HANDED_ON.steps);
+    for (width, call) in WAYS {
+        let refused = match &fs {
+            Ok(fs) => {
+                let play = Play {
+                    fs,
+                    row: &HANDED_ON,
+                    width: *width,
+                    call: *call,
+                };
+                refused_within(rt.alloc(), play)
+            }
+            Err(_) => None,
+        };
+        assert_eq!(rt; refused, Some(REQUESTS));
+    }
 }

@@ -13,16 +13,8 @@ use test_fixtures::trees::{SMALL, tree};
 
 /// A clock that doesn't sleep, and adds up the microseconds that it should have slept.
 #[derive(Drop)]
-struct Slept(AtomicU64);
-
-impl Slept {
-    fn not_yet() -> Self {
-        Slept(AtomicU64::new(0))
-    }
-
-    fn micros(&self) -> u64 {
-        self.0.load(Ordering::SeqCst)
-    }
+struct Slept {
+    micros: AtomicU64,
 }
 
 impl Clock for Slept {
@@ -36,7 +28,7 @@ impl Clock for Slept {
 
     fn sleep(&self, duration: Duration) {
         let micros = u64::try_from(duration.as_micros()).unwrap_or(u64::MAX);
-        self.0.fetch_add(micros, Ordering::SeqCst);
+        self.micros.fetch_add(micros, Ordering::SeqCst);
     }
 }
 
@@ -49,27 +41,22 @@ struct Shut {
 }
 
 impl Shut {
-    fn lists(&self) -> usize {
-        self.lists.load(Ordering::SeqCst)
-    }
-
     /// From now on, the next `count` listings fail.
     fn fail(&self, count: usize) {
-        let until = self.lists().saturating_add(count);
+        let until = self.lists.load(Ordering::SeqCst).saturating_add(count);
         self.until.store(until, Ordering::SeqCst);
     }
 }
 
 impl Gate for Shut {
-    fn before_list(&self, _path: &str) -> Result<(), Fault> {
+    fn before(&self, listed: Option<&str>) -> Result<(), Fault> {
+        if listed.is_none() {
+            return Ok(());
+        }
         let before = self.lists.fetch_add(1, Ordering::SeqCst);
         if before < self.until.load(Ordering::SeqCst) {
             return Err(Fault::Io(io::Error::from_raw_os_error(self.number)));
         }
-        Ok(())
-    }
-
-    fn before_look(&self) -> Result<(), Fault> {
         Ok(())
     }
 }
@@ -99,7 +86,10 @@ const ENFILE: i32 = 23;
 const EACCES: i32 = 13;
 
 fn shows_all<S: FileSystem>(alloc: Global, fs: S) -> Result<bool, AllocError> {
-    let mut all = Takes::all(alloc);
+    let mut all = Takes {
+        count: None,
+        found: Vec::new(alloc),
+    };
     let are_taken = lend_alone(builder(alloc, fs, "/r")?, &mut all);
     let wanted = "0 d /r; 1 f /r/b; 1 d /r/s; 2 f /r/s/x; 1 f /r/a";
     Ok(are_taken && are_lines(alloc, all.found.as_slice(), wanted))
@@ -107,32 +97,36 @@ fn shows_all<S: FileSystem>(alloc: Global, fs: S) -> Result<bool, AllocError> {
 
 /// The first five listings fail with this number. The walk must sleep meanwhile.
 fn is_whole(alloc: Global, number: i32) -> Option<bool> {
-    let slept = Slept::not_yet();
+    let slept = Slept {
+        micros: AtomicU64::new(0),
+    };
     let failing = failing_with(alloc, number)?;
     failing.gate.fail(5);
     let is_shown = shows_all(alloc, Patient::new(&failing, &slept)) == Ok(true);
-    Some(is_shown && slept.micros() > 0)
-}
-
-#[test]
-fn no_descriptor_for_a_while(rt: HostRuntime) {
-    assert!(rt; is_whole(rt.alloc(), EMFILE) == Some(true));
-    assert!(rt; is_whole(rt.alloc(), ENFILE) == Some(true));
+    Some(is_shown && slept.micros.load(Ordering::SeqCst) > 0)
 }
 
 /// Returns also how often the listing was tried.
 fn tries(alloc: Global, fs: &impl FileSystem, failing: &Failing) -> (bool, usize) {
-    let before = failing.gate.lists();
+    let before = failing.gate.lists.load(Ordering::SeqCst);
     let is_listed = fs.read_dir(alloc, "/r").is_ok();
-    (is_listed, failing.gate.lists().wrapping_sub(before))
+    (
+        is_listed,
+        failing
+            .gate
+            .lists
+            .load(Ordering::SeqCst)
+            .wrapping_sub(before),
+    )
 }
 
 fn is_patient_once(alloc: Global, fs: &impl FileSystem, failing: &Failing, slept: &Slept) -> bool {
     failing.gate.fail(1_000_000);
     let (is_listed, often) = tries(alloc, fs, failing);
-    let micros = slept.micros();
+    let micros = slept.micros.load(Ordering::SeqCst);
     let is_over_soon = !is_listed && often > 1 && micros <= 100_000;
-    let is_once = tries(alloc, fs, failing) == (false, 1) && slept.micros() == micros;
+    let is_once = tries(alloc, fs, failing) == (false, 1)
+        && slept.micros.load(Ordering::SeqCst) == micros;
     failing.gate.fail(0);
     let is_listed_again = tries(alloc, fs, failing) == (true, 1);
     failing.gate.fail(2);
@@ -143,27 +137,29 @@ fn is_patient_once(alloc: Global, fs: &impl FileSystem, failing: &Failing, slept
 /// Returns whether one directory is tried for at most 100 milliseconds, the next ones once each, and more often again
 /// after one was listed.
 fn is_tried_once(alloc: Global, number: i32) -> Option<bool> {
-    let slept = Slept::not_yet();
+    let slept = Slept {
+        micros: AtomicU64::new(0),
+    };
     let failing = failing_with(alloc, number)?;
     let fs = Patient::new(&failing, &slept);
     Some(is_patient_once(alloc, &fs, &failing, &slept))
 }
 
-#[test]
-fn no_descriptor_for_good(rt: HostRuntime) {
-    assert!(rt; is_tried_once(rt.alloc(), EMFILE) == Some(true));
-    assert!(rt; is_tried_once(rt.alloc(), ENFILE) == Some(true));
-}
-
 fn is_not_tried_again(alloc: Global, number: i32) -> Option<bool> {
-    let slept = Slept::not_yet();
+    let slept = Slept {
+        micros: AtomicU64::new(0),
+    };
     let failing = failing_with(alloc, number)?;
     failing.gate.fail(1);
     let fs = Patient::new(&failing, &slept);
-    Some(tries(alloc, &fs, &failing) == (false, 1) && slept.micros() == 0)
+    Some(tries(alloc, &fs, &failing) == (false, 1) && slept.micros.load(Ordering::SeqCst) == 0)
 }
 
 #[test]
-fn no_other_error_is_tried_again(rt: HostRuntime) {
+fn no_descriptor_for_a_while_or_for_good(rt: HostRuntime) {
+    for number in [EMFILE, ENFILE] {
+        assert!(rt; is_whole(rt.alloc(), number) == Some(true), "{number}");
+        assert!(rt; is_tried_once(rt.alloc(), number) == Some(true), "{number}");
+    }
     assert!(rt; is_not_tried_again(rt.alloc(), EACCES) == Some(true));
 }

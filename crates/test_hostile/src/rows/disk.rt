@@ -6,7 +6,7 @@ use jwalk::file_system::{
     Details, Fault, FileSystem, FileType, Identity, Listed, Metadata, Moment, Seen,
 };
 use jwalk::path_text::{file_name, parent};
-use std::alloc::{AllocError, Allocator};
+use std::alloc::Allocator;
 use std::io;
 use std::io::ErrorKind;
 use std::sync::atomic::{AtomicUsize, Ordering};
@@ -40,23 +40,34 @@ pub enum At {
     Endless,
 }
 
-impl At {
-    /// Returns the path, or none if the place has no path of its own.
-    fn path(self) -> Option<&'static str> {
-        match self {
-            At::File(path)
-            | At::Dir(path, _)
-            | At::Link(path, _, _)
-            | At::FileLink(path, _, _)
-            | At::Lie(path) => Some(path),
-            At::Named(_, _) | At::Endless => None,
-        }
-    }
+/// What a place has.
+#[derive(Clone, Copy)]
+struct Place {
+    /// Its path, or none if it has no path of its own.
+    path: Option<&'static str>,
+    /// The text of a link.
+    text: Option<&'static str>,
+    /// The type of the file, or of what a link leads to.
+    target_type: FileType,
+    told: Told,
+}
 
-    fn is_at(self, path: &str) -> bool {
-        match self.path() {
-            Some(own) => own == path,
-            None => matches!(self, At::Endless),
+impl At {
+    fn place(self) -> Place {
+        let (path, text, target_type, told) = match self {
+            At::File(path) => (Some(path), None, FileType::File, Told::Nothing),
+            At::Dir(path, told) => (Some(path), None, FileType::Dir, told),
+            At::Link(path, text, told) => (Some(path), Some(text), FileType::Dir, told),
+            At::FileLink(path, text, told) => (Some(path), Some(text), FileType::File, told),
+            At::Lie(path) => (Some(path), None, FileType::Dir, Told::Nothing),
+            At::Named(_, _) => (None, None, FileType::File, Told::Nothing),
+            At::Endless => (None, None, FileType::Dir, Told::Nothing),
+        };
+        Place {
+            path,
+            text,
+            target_type,
+            told,
         }
     }
 
@@ -67,46 +78,24 @@ impl At {
             At::Endless => return Some("d"),
             _ => {}
         }
-        let path = self.path()?;
+        let path = self.place().path?;
         match parent(path) {
             Some(above) if above == directory => file_name(path),
             _ => None,
         }
     }
 
-    fn text(self) -> Option<&'static str> {
-        match self {
-            At::Link(_, text, _) | At::FileLink(_, text, _) => Some(text),
-            _ => None,
-        }
-    }
-
-    fn target_type(self) -> FileType {
-        match self {
-            At::File(_) | At::FileLink(_, _, _) | At::Named(_, _) => FileType::File,
-            At::Dir(_, _) | At::Link(_, _, _) | At::Lie(_) | At::Endless => FileType::Dir,
-        }
-    }
-
-    fn told(self) -> Told {
-        match self {
-            At::Dir(_, told) | At::Link(_, _, told) | At::FileLink(_, _, told) => told,
-            _ => Told::Nothing,
-        }
-    }
-
     /// A listing says of a link its type alone.
     fn seen(self) -> Seen {
-        if self.text().is_some() {
-            return Seen::TypeAlone(FileType::Symlink);
-        }
-        match self.told() {
+        let place = self.place();
+        match place.told {
+            _ if place.text.is_some() => Seen::TypeAlone(FileType::Symlink),
             Told::Numbers(device, inode) => Seen::Whole(with_numbers(
-                self.target_type(),
+                place.target_type,
                 device,
                 inode,
             )),
-            Told::Nothing | Told::Gone => Seen::TypeAlone(self.target_type()),
+            Told::Nothing | Told::Gone => Seen::TypeAlone(place.target_type),
         }
     }
 }
@@ -162,29 +151,14 @@ impl Disk {
 
     fn at(&self, path: &str) -> Result<At, Fault> {
         for at in self.places {
-            if at.is_at(path) {
-                return Ok(*at);
+            match at.place().path {
+                Some(own) if own == path => return Ok(*at),
+                None if matches!(at, At::Endless) => return Ok(*at),
+                _ => {}
             }
         }
         Err(fault(ErrorKind::NotFound))
     }
-}
-
-fn listing<A: Allocator + Copy>(
-    alloc: A,
-    places: &[At],
-    directory: &str,
-) -> Result<Vec<io::Result<Listed<A>>, A>, AllocError> {
-    let mut items = Vec::new(alloc);
-    for at in places {
-        if let Some(name) = at.name_in(directory) {
-            items.push(Ok(Listed {
-                name: String::from_str(alloc, name)?,
-                seen: Ok(at.seen()),
-            }))?;
-        }
-    }
-    Ok(items)
 }
 
 impl CountsLists for Disk {
@@ -207,15 +181,24 @@ impl FileSystem for Disk {
         if matches!(self.at(path), Ok(At::Lie(_))) {
             return Err(fault(ErrorKind::InvalidInput));
         }
-        Ok(listing(alloc, self.places, path)?)
+        let mut items = Vec::new(alloc);
+        for at in self.places {
+            if let Some(name) = at.name_in(path) {
+                items.push(Ok(Listed {
+                    name: String::from_str(alloc, name)?,
+                    seen: Ok(at.seen()),
+                }))?;
+            }
+        }
+        Ok(items)
     }
 
     fn metadata(&self, path: &str) -> Result<Metadata, Fault> {
         self.asked.fetch_add(1, Ordering::SeqCst);
-        let at = self.at(path)?;
-        match at.told() {
-            Told::Numbers(device, inode) => Ok(with_numbers(at.target_type(), device, inode)),
-            Told::Nothing => Ok(Metadata::new(at.target_type(), 0)),
+        let place = self.at(path)?.place();
+        match place.told {
+            Told::Numbers(device, inode) => Ok(with_numbers(place.target_type, device, inode)),
+            Told::Nothing => Ok(Metadata::new(place.target_type, 0)),
             Told::Gone => Err(fault(ErrorKind::NotFound)),
         }
     }
@@ -225,7 +208,7 @@ impl FileSystem for Disk {
     }
 
     fn read_link<A: Allocator + Copy>(&self, alloc: A, path: &str) -> Result<String<A>, Fault> {
-        match self.at(path)?.text() {
+        match self.at(path)?.place().text {
             Some(text) => Ok(String::from_str(alloc, text)?),
             None => Err(fault(ErrorKind::InvalidInput)),
         }

@@ -36,7 +36,10 @@ fn are_a_hundred(found: &[Answer]) -> bool {
 
 fn gives_a_hundred(alloc: Global) -> Result<bool, AllocError> {
     let fs = Disk::new(ENDLESS);
-    let mut first = Takes::first(alloc, 100);
+    let mut first = Takes {
+        count: Some(100),
+        found: Vec::new(alloc),
+    };
     let are_taken = lend_alone(builder(alloc, &fs, "/")?, &mut first);
     Ok(are_taken && are_a_hundred(first.found.as_slice()))
 }
@@ -53,7 +56,10 @@ fn first_of_crew<R: Host>(rt: &R, count: usize) -> Result<Vec<Answer>, AllocErro
         root: "/",
         settings: &[],
     };
-    let mut first = Takes::first(rt.alloc(), count);
+    let mut first = Takes {
+        count: Some(count),
+        found: Vec::new(rt.alloc()),
+    };
     let are_taken = asked.lend_by(rt, 2, &mut first)?;
     if are_taken && rests(rt, &*asked.fs) {
         Ok(first.found)
@@ -62,23 +68,15 @@ fn first_of_crew<R: Host>(rt: &R, count: usize) -> Result<Vec<Answer>, AllocErro
     }
 }
 
-fn rests_after_a_hundred<R: Host>(rt: &R) -> Result<bool, AllocError> {
-    let found = first_of_crew(rt, 100)?;
-    Ok(are_a_hundred(found.as_slice()))
-}
-
-#[test]
-fn a_hundred_answers_of_an_endless_walk_of_a_crew(rt: HostRuntime) {
-    assert!(rt; rests_after_a_hundred(&rt) == Ok(true));
-}
-
-fn rests_after_five<R: Host>(rt: &R) -> Result<bool, AllocError> {
-    let found = first_of_crew(rt, 5)?;
+fn rests_after_answers<R: Host>(rt: &R) -> Result<bool, AllocError> {
+    let hundred = first_of_crew(rt, 100)?;
+    let five = first_of_crew(rt, 5)?;
     let wanted = "0 d /; 1 d /d; 2 d /d/d; 3 d /d/d/d; 4 d /d/d/d/d";
-    Ok(are_lines(rt.alloc(), found.as_slice(), wanted))
+    let are_five = are_lines(rt.alloc(), five.as_slice(), wanted);
+    Ok(are_five && are_a_hundred(hundred.as_slice()))
 }
 
 #[test]
-fn no_listing_after_an_endless_walk_is_dropped(rt: HostRuntime) {
-    assert!(rt; rests_after_five(&rt) == Ok(true));
+fn no_listing_after_an_endless_walk_of_a_crew_is_dropped(rt: HostRuntime) {
+    assert!(rt; rests_after_answers(&rt) == Ok(true));
 }

@@ -1,6 +1,4 @@
 //! A directory that is gone from some moment on.
-ghost use Rattle.jwalk.specs.DirEntryIter.{reads_of};
-
 use crate::by_crew::{ByCrew, Visit, Walk, lend_alone};
 use crate::gated::{Gate, Gated};
 use jwalk::file_system::{BuildError, Fault, FileSystem};
@@ -10,7 +8,7 @@ use std::io;
 use std::io::ErrorKind;
 use std::sync::Arc;
 use std::sync::atomic::{AtomicBool, Ordering};
-use test_fixtures::answers::{Answer, are_lines};
+use test_fixtures::answers::are_lines;
 use test_fixtures::builders::builder;
 use test_fixtures::host::Host;
 use test_fixtures::trees::{GROUPED, tree};
@@ -23,21 +21,11 @@ struct MayVanish {
     is_gone: AtomicBool,
 }
 
-impl MayVanish {
-    fn vanish(&self) {
-        self.is_gone.store(true, Ordering::SeqCst);
-    }
-}
-
 impl Gate for MayVanish {
-    fn before_list(&self, path: &str) -> Result<(), Fault> {
-        if path == "/t/group 2" && self.is_gone.load(Ordering::SeqCst) {
+    fn before(&self, listed: Option<&str>) -> Result<(), Fault> {
+        if listed == Some("/t/group 2") && self.is_gone.load(Ordering::SeqCst) {
             return Err(Fault::Io(io::Error::from(ErrorKind::NotFound)));
         }
-        Ok(())
-    }
-
-    fn before_look(&self) -> Result<(), Fault> {
         Ok(())
     }
 }
@@ -71,32 +59,17 @@ struct Vanishes<'a> {
     wanted: &'a [&'a str],
 }
 
-impl Vanishes<'_> {
-    /// The second group vanishes between them.
-    fn found<B: Readings<((), ()), Global>>(
-        &self,
-        walk: &mut Walk<B>,
-    ) -> Result<Vec<Answer>, AllocError>
-        requires { B.can_read (B.base (reads_of walk.old)) }
-    {
-        let mut found = Vec::new(self.alloc);
-        walk.fill(self.count, &mut found)?;
-        self.fs.gate.vanish();
-        walk.fill(usize::MAX, &mut found)?;
-        Ok(found)
-    }
-}
-
 impl Visit<((), ()), Global> for Vanishes<'_> {
     fn visit<B: Readings<((), ()), Global>>(&mut self, walk: &mut Walk<B>) -> bool {
-        let Ok(found) = self.found(walk) else {
-            return false;
-        };
+        let mut found = Vec::new(self.alloc);
+        let are_first = walk.fill(self.count, &mut found).is_ok();
+        self.fs.gate.is_gone.store(true, Ordering::SeqCst);
+        let are_all = are_first && walk.fill(usize::MAX, &mut found).is_ok();
         let mut is_one = false;
         for wanted in self.wanted {
             is_one |= are_lines(self.alloc, found.as_slice(), wanted);
         }
-        is_one
+        are_all && is_one
     }
 }
 

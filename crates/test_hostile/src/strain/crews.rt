@@ -27,26 +27,22 @@ fn threads<R: Files + Drop>(alloc: Global, disk: &RealFs<R>) -> Option<usize> {
     Some(disk.read_dir(alloc, "/proc/self/task").ok()?.len())
 }
 
-/// Returns whether these are all entries, and this number of them.
-fn are_entries(found: &[Answer], count: usize) -> bool {
-    for answer in found {
-        if answer.is_err() {
-            return false;
-        }
-    }
-    found.len() == count
-}
-
-/// Drops a walk after its first answers.
+/// Drops a walk after its first answers, which must be entries.
 fn is_dropped_after<R: Host>(
     rt: &R,
     asked: &ByCrew<'_, MemoryFs>,
     pool: &Arc<Crew<R>>,
     count: usize,
 ) -> Result<bool, AllocError> {
-    let mut first = Takes::first(rt.alloc(), count);
-    let are_taken = asked.lend(rt.alloc(), pool.clone()?, &mut first)?;
-    Ok(are_taken && are_entries(first.found.as_slice(), count))
+    let mut first = Takes {
+        count: Some(count),
+        found: Vec::new(rt.alloc()),
+    };
+    let mut are_entries = asked.lend(rt.alloc(), pool.clone()?, &mut first)?;
+    for answer in &first.found {
+        are_entries &= answer.is_ok();
+    }
+    Ok(are_entries && first.found.len() == count)
 }
 
 /// The walks follow one another on one crew. Each is dropped after 0 to 7 answers.
@@ -61,22 +57,20 @@ fn begin_and_drop<R: Host>(rt: &R, walks: usize) -> Option<bool> {
     Some(pool.in_use() == 0)
 }
 
-/// Waits up to some seconds.
-fn are_as_at_first<R: Host + Files>(rt: &R, disk: &RealFs<R>, first: usize) -> bool {
-    for _ in 0..5_000 {
-        if threads(rt.alloc(), disk) == Some(first) {
-            return true;
-        }
-        thread::sleep(rt, Duration::from_millis(1));
-    }
-    false
-}
-
+/// Waits up to some seconds until there are as many threads as at first.
 fn leave_no_thread<R: Host + Files>(rt: &R) -> Option<bool> {
     let disk = RealFs::new(rt.clone().ok()?);
     let first = threads(rt.alloc(), &disk)?;
-    let are_dropped = begin_and_drop(rt, 1_000)?;
-    Some(are_dropped && are_as_at_first(rt, &disk, first))
+    if !begin_and_drop(rt, 1_000)? {
+        return Some(false);
+    }
+    for _ in 0..5_000 {
+        if threads(rt.alloc(), &disk) == Some(first) {
+            return Some(true);
+        }
+        thread::sleep(rt, Duration::from_millis(1));
+    }
+    Some(false)
 }
 
 #[test]

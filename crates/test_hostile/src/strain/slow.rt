@@ -17,9 +17,9 @@ struct Slow<R> {
     calls: AtomicUsize,
 }
 
-impl<R: Clock> Slow<R> {
+impl<R: Clock> Gate for Slow<R> {
     /// Waits up to 20 milliseconds.
-    fn wait(&self) {
+    fn before(&self, _listed: Option<&str>) -> Result<(), Fault> {
         let mut dice = Dice::new(self.calls.fetch_add(1, Ordering::SeqCst));
         let micros: u64 = match dice.below(5) {
             0 => 0,
@@ -29,17 +29,6 @@ impl<R: Clock> Slow<R> {
             _ => 20_000,
         };
         thread::sleep(&self.clock, Duration::from_micros(micros));
-    }
-}
-
-impl<R: Clock> Gate for Slow<R> {
-    fn before_list(&self, _path: &str) -> Result<(), Fault> {
-        self.wait();
-        Ok(())
-    }
-
-    fn before_look(&self) -> Result<(), Fault> {
-        self.wait();
         Ok(())
     }
 }

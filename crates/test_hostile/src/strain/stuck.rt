@@ -32,15 +32,11 @@ fn is_set(clock: &impl Clock, flag: &AtomicBool) -> bool {
 }
 
 impl<R: Clock> Gate for Stuck<R> {
-    fn before_list(&self, path: &str) -> Result<(), Fault> {
-        if path == "/r/c" {
+    fn before(&self, listed: Option<&str>) -> Result<(), Fault> {
+        if listed == Some("/r/c") {
             self.is_stuck.store(true, Ordering::SeqCst);
             is_set(&self.clock, &self.is_let_go);
         }
-        Ok(())
-    }
-
-    fn before_look(&self) -> Result<(), Fault> {
         Ok(())
     }
 }
@@ -56,17 +52,6 @@ impl<R: Clock + Drop> Visit<((), ()), Global> for Sticks<'_, R> {
         let is_begun = matches!(walk.next(), Some(Ok(_)));
         is_begun && is_set(&self.gate.clock, &self.gate.is_stuck)
     }
-}
-
-fn stuck_tree<R: Host>(rt: &R) -> Option<Gated<Stuck<R>>> {
-    Some(Gated {
-        fs: tree(rt.alloc(), FORKED).ok()?,
-        gate: Stuck {
-            clock: rt.clone().ok()?,
-            is_stuck: AtomicBool::new(false),
-            is_let_go: AtomicBool::new(false),
-        },
-    })
 }
 
 fn is_free_after<R: Host>(
@@ -85,8 +70,16 @@ fn is_free_after<R: Host>(
 /// The walk is dropped while a call that reads ahead blocks. Its place must be free then.
 fn is_dropped<R: Host>(rt: &R) -> Option<bool> {
     let alloc = rt.alloc();
+    let fs = Gated {
+        fs: tree(alloc, FORKED).ok()?,
+        gate: Stuck {
+            clock: rt.clone().ok()?,
+            is_stuck: AtomicBool::new(false),
+            is_let_go: AtomicBool::new(false),
+        },
+    };
     let asked = ByCrew {
-        fs: Arc::new(alloc, stuck_tree(rt)?).ok()?,
+        fs: Arc::new(alloc, fs).ok()?,
         root: "/r",
         settings: &[],
     };

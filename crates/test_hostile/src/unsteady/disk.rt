@@ -16,7 +16,8 @@ pub struct Unsteady {
     /// Whether memory runs out now and then.
     runs_out: bool,
     calls: AtomicUsize,
-    lists: AtomicUsize,
+    /// How often a listing was asked for.
+    pub lists: AtomicUsize,
 }
 
 /// Names of every form. Some aren't names of files.
@@ -79,14 +80,6 @@ fn file_type(dice: &mut Dice) -> FileType {
     }
 }
 
-fn above<'p>(dice: &mut Dice, path: &'p str) -> &'p str {
-    let mut above = path;
-    for _ in 0..dice.below(4) {
-        above = parent(above).unwrap_or(above);
-    }
-    above
-}
-
 /// Most often the path of a directory above.
 fn target<'p>(dice: &mut Dice, path: &'p str) -> &'p str {
     match dice.below(8) {
@@ -94,7 +87,13 @@ fn target<'p>(dice: &mut Dice, path: &'p str) -> &'p str {
         1 => ".",
         2 => "/",
         3 => name(dice),
-        _ => above(dice, path),
+        _ => {
+            let mut above = path;
+            for _ in 0..dice.below(4) {
+                above = parent(above).unwrap_or(above);
+            }
+            above
+        }
     }
 }
 
@@ -114,18 +113,6 @@ fn item<A: Allocator + Copy>(
     Ok(Ok(Listed::of_type(name, file_type)))
 }
 
-/// Draws up to six items.
-fn listing<A: Allocator + Copy>(
-    alloc: A,
-    dice: &mut Dice,
-) -> Result<Vec<io::Result<Listed<A>>, A>, AllocError> {
-    let mut items = Vec::new(alloc);
-    for _ in 0..dice.below(7) {
-        items.push(item(alloc, dice)?)?;
-    }
-    Ok(items)
-}
-
 impl Unsteady {
     /// Returns the file system of a seed. With `runs_out`, memory runs out now and then.
     pub fn new(seed: usize, runs_out: bool) -> Self {
@@ -135,11 +122,6 @@ impl Unsteady {
             calls: AtomicUsize::new(0),
             lists: AtomicUsize::new(0),
         }
-    }
-
-    /// Returns how often a listing was asked for.
-    pub fn lists(&self) -> usize {
-        self.lists.load(Ordering::SeqCst)
     }
 
     /// Returns the dice of the next call. Some calls fail.
@@ -155,11 +137,6 @@ impl Unsteady {
         }
         Ok(dice)
     }
-
-    fn drawn_metadata(&self) -> Result<Metadata, Fault> {
-        let mut dice = self.call()?;
-        Ok(Metadata::new(file_type(&mut dice), 1))
-    }
 }
 
 impl FileSystem for Unsteady {
@@ -167,6 +144,7 @@ impl FileSystem for Unsteady {
 
     ghost functions = { λ _. functions_of only_root };
 
+    /// Draws up to six items.
     fn read_dir<A: Allocator + Copy>(
         &self,
         alloc: A,
@@ -174,15 +152,20 @@ impl FileSystem for Unsteady {
     ) -> Result<Vec<io::Result<Listed<A>>, A>, Fault> {
         self.lists.fetch_add(1, Ordering::SeqCst);
         let mut dice = self.call()?;
-        Ok(listing(alloc, &mut dice)?)
+        let mut items = Vec::new(alloc);
+        for _ in 0..dice.below(7) {
+            items.push(item(alloc, &mut dice)?)?;
+        }
+        Ok(items)
     }
 
-    fn metadata(&self, _path: &str) -> Result<Metadata, Fault> {
-        self.drawn_metadata()
+    fn metadata(&self, path: &str) -> Result<Metadata, Fault> {
+        self.symlink_metadata(path)
     }
 
     fn symlink_metadata(&self, _path: &str) -> Result<Metadata, Fault> {
-        self.drawn_metadata()
+        let mut dice = self.call()?;
+        Ok(Metadata::new(file_type(&mut dice), 1))
     }
 
     fn read_link<A: Allocator + Copy>(&self, alloc: A, path: &str) -> Result<String<A>, Fault> {

@@ -23,15 +23,6 @@ struct Open {
     paths: Vec<String>,
 }
 
-/// Returns `None` if the directory wasn't read.
-fn read_at(entry: &Entry) -> Option<&str> {
-    let directory = entry.read_children.as_ref()?;
-    match directory.error() {
-        Some(_) => None,
-        None => Some(directory.path()),
-    }
-}
-
 impl Open {
     /// Returns whether an entry has a depth that is asked for and comes after its directory. Then its items may come.
     fn lets_in(&mut self, entry: &Entry) -> Result<bool, AllocError> {
@@ -47,18 +38,13 @@ impl Open {
             Some(path) => entry.path_is_symlink() || path.as_str() == entry.parent_path(),
             None => true,
         };
-        if let Some(path) = read_at(entry) {
-            self.paths
-                .push(String::from_str(*self.paths.allocator(), path)?)?;
+        if let Some(directory) = &entry.read_children
+            && directory.error().is_none()
+        {
+            let path = String::from_str(*self.paths.allocator(), directory.path())?;
+            self.paths.push(path)?;
         }
         Ok(is_below)
-    }
-}
-
-fn may_come(open: &mut Open, answer: &Answer) -> Result<bool, AllocError> {
-    match answer {
-        Ok(entry) => open.lets_in(entry),
-        Err(error) => Ok(error.io_error().is_some() || error.loop_ancestor().is_some()),
     }
 }
 
@@ -79,7 +65,11 @@ pub fn end_of(
         paths: Vec::new(alloc),
     };
     for answer in answers {
-        if !may_come(&mut open, answer)? {
+        let may_come = match answer {
+            Ok(entry) => open.lets_in(entry)?,
+            Err(error) => error.io_error().is_some() || error.loop_ancestor().is_some(),
+        };
+        if !may_come {
             return Ok(End::Wrong);
         }
     }

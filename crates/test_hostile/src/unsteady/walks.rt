@@ -77,30 +77,26 @@ impl Drawn {
         }
     }
 
-    /// Each directory that was given must be read once. Some may be unread if memory ran out.
-    fn lets(&self, course: &Course) -> bool {
-        match course.end {
-            End::Whole => course.lists == course.given,
-            End::Memory => self.runs_out && course.lists <= course.given,
-            End::Wrong => false,
-        }
-    }
-
-    fn course(
+    /// Returns whether a walk that asked for so many listings goes by the rules. Each directory that was given must be
+    /// read once. Some may be unread if memory ran out.
+    fn lets(
         &self,
         alloc: Global,
         found: &[Answer],
-        lists: usize,
+        lists: &AtomicUsize,
         given: &AtomicUsize,
-    ) -> Result<Course, AllocError> {
-        Ok(Course {
-            end: end_of(alloc, found, self.min_depth, self.max_depth)?,
-            lists,
-            given: given.load(Ordering::SeqCst),
-        })
+    ) -> Result<bool, AllocError> {
+        let (lists, given) = (lists.load(Ordering::SeqCst), given.load(Ordering::SeqCst));
+        Ok(
+            match end_of(alloc, found, self.min_depth, self.max_depth)? {
+                End::Whole => lists == given,
+                End::Memory => self.runs_out && lists <= given,
+                End::Wrong => false,
+            },
+        )
     }
 
-    fn in_way<R: Host>(&self, rt: &R) -> Result<Course, AllocError> {
+    fn in_way<R: Host>(&self, rt: &R) -> Result<bool, AllocError> {
         let alloc = rt.alloc();
         let fs = Unsteady::new(self.seed, self.runs_out);
         let given = Arc::new(alloc, AtomicUsize::new(0))?;
@@ -114,10 +110,10 @@ impl Drawn {
             settings: self.settings.as_slice(),
         };
         let found = asked.found(rt, counts, self.way)?;
-        self.course(alloc, found.as_slice(), fs.lists(), &given)
+        self.lets(alloc, found.as_slice(), &fs.lists, &given)
     }
 
-    fn by_crew<R: Host>(&self, rt: &R) -> Result<Course, AllocError> {
+    fn by_crew<R: Host>(&self, rt: &R) -> Result<bool, AllocError> {
         let alloc = rt.alloc();
         let given = Arc::new(alloc, AtomicUsize::new(0))?;
         let counts = Counts {
@@ -130,33 +126,15 @@ impl Drawn {
             settings: self.settings.as_slice(),
         };
         let found = asked.found(rt, counts, self.workers)?;
-        let lists = asked.fs.lists();
-        self.course(alloc, found.as_slice(), lists, &given)
+        self.lets(alloc, found.as_slice(), &asked.fs.lists, &given)
     }
 }
 
-/// The course of a walk.
-#[derive(Clone, Copy)]
-struct Course {
-    end: End,
-    /// The number of listings that were asked for.
-    lists: usize,
-    /// The number of directories above the greatest depth that readings gave.
-    given: usize,
-}
-
-/// Returns whether the walks in the drawn way and by a crew go by the rules.
-fn may_go<R: Host>(rt: &R, drawn: &Drawn) -> bool {
-    match (drawn.in_way(rt), drawn.by_crew(rt)) {
-        (Ok(in_way), Ok(by_crew)) => drawn.lets(&in_way) && drawn.lets(&by_crew),
-        _ => false,
-    }
-}
-
-/// Returns the first of these seeds where a walk breaks a rule.
+/// Returns the first of these seeds where the walk in the drawn way or the one by a crew breaks a rule.
 fn first_wrong<R: Host>(rt: &R, from: usize, count: usize) -> Option<usize> {
     for seed in from..from.saturating_add(count) {
-        if !may_go(rt, &Drawn::new(seed)) {
+        let drawn = Drawn::new(seed);
+        if drawn.in_way(rt) != Ok(true) || drawn.by_crew(rt) != Ok(true) {
             return Some(seed);
         }
     }
