@@ -25,7 +25,6 @@ use Rattle.program_parts.specs.Values.{texts_of}
 use Rattle.seek_words.specs.declared.asked.Asked.{Asked}
 use Rattle.jwalk.specs.jwalk_model.FileSystem.{Functions}
 use Rattle.jwalk_ignore.specs.Rules.Texts.{Texts}
-use Rattle.jwalk_ignore.specs.Rules.WithExcludes.{with_excludes}
 use Rattle.std.specs.declared.sync.Arc.{Arc}
 use Rattle.jwalk_ignore.specs.declared.callback.states.RulesState.{RulesState}
 use Rattle.seek_found.specs.SoughtTest.{takes_of}
@@ -34,7 +33,9 @@ use Rattle.seek_found.specs.declared.sought.Sought.{Sought as Looked}
 use Rattle.seek_words.specs.AsksFor.{AskForText}
 use Rattle.seek_words.specs.declared.screen.Screen.{Screen}
 use Rattle.user_excludes.specs.declared.home.Home.{Home}
-use Rattle.jwalk_ignore.specs.jwalk_ignore_rules.declared.rules.with_excludes.WithExcludes.{WithExcludes}
+use Rattle.user_excludes.specs.UserTexts.{with_user}
+use Rattle.user_excludes.specs.Home as home
+use Rattle.user_excludes.specs.declared.user_texts.UserTexts.{UserTexts}
 use Rattle.seek_search.specs.Goes.{ByRead, Finds, Honours, LeavesOut, PrintsYielded}
 use Rattle.seek_search.specs.Printing.{IsFront}
 use Rattle.seek_search.specs.RulesRead.{lines_asked}
@@ -66,11 +67,12 @@ pub quiet_asks_nothing : (fs : Functions) (front : Option (List ℕ)) (screen : 
 quiet_asks_nothing fs front screen asked quiet = ap (λ (b : Bool). asks (form_before fs front screen (record asked { quiet = b })).painting) quiet
 
 -- what is known of a search by some texts, and so more, by another name of what these answer
-pub by_read : {X : Type 0} {texts : X} {told told' : Type 0} {values values' : Texts} {asked : Asked} {is be : WithExcludes X → List ℕ → Type 0} → (told' → told) → values ≡ values'
-    → ((reads : WithExcludes X) (lines : List ℕ) → is reads lines → be reads lines) → ByRead texts told values asked is → ByRead texts told' values' asked be
+pub by_read : {X : Type 0} {texts : X} {told told' : Type 0} {values values' : Texts} {home : Home} {asked : Asked} {is be : UserTexts X → List ℕ → Type 0} → (told' → told) → values ≡ values'
+    → ((reads : UserTexts X) (lines : List ℕ) → is reads lines → be reads lines) → ByRead texts told values home asked is → ByRead texts told' values' home asked be
 by_read {asked} tells from more read = record {
   reads = read.reads;
   behind = read.behind;
+  own = read.own;
   lines = read.lines;
   named = λ told'. read.named (tells told') ∙ ap (λ (t : Texts). lines_asked t asked) from;
   known = more read.reads read.lines read.known;
@@ -81,8 +83,9 @@ pub front_as : {told told' : Type 0} {values values' : Texts} → (told' → tol
 front_as tells from wanted front is = record { wanted_so = is.wanted_so; found = λ told'. is.found (tells told') ∙ ap (front_if wanted) from }
 
 -- the same of texts without a user's excludes
-pub front_behind : {told : Type 0} {excludes : List ℕ} {values : Texts} (wanted : Bool) (front : Option (List ℕ)) → IsFront told (with_excludes excludes values) wanted front → IsFront told values wanted front
-front_behind wanted front is = record { wanted_so = is.wanted_so; found = is.found }
+pub front_behind : {told : Type 0} {values : Texts} (own : Option home.Home) (wanted : Bool) (front : Option (List ℕ)) → IsFront told (with_user own values) wanted front → IsFront told values wanted front
+front_behind None wanted front is = is
+front_behind (Some own) wanted front is = record { wanted_so = is.wanted_so; found = is.found }
 
 -- the text is printed by the same, with other facts of it
 pub printed_by : {R E : Type 0} (answers : Sought → List (Item R E)) {sought sought' : Sought} {form form' : Form} {old new : Option (List ℕ)} → sought ≡ sought' → form ≡ form' → PrintsClean (answers sought) sought form old new → PrintsClean (answers sought') sought' form' old new
@@ -171,9 +174,9 @@ one_more f before after paths i path below was is =
     ∙ ap (flat_map f) (map-append (λ it. it.now) (take i paths) (last ∷ []))
     ∙ flat_map-append f first (last.now ∷ []) ∙ ap (λ (l : List ℕ). flat_map f first ++ l) (append-nil (f last.now)))
 
-module _ {T C Z B X A E G H F : Type 0} (plain : CrewCallsOf T G (Arc (KeptLinks Z) B) LeavesOut A H F) (honouring : CrewCallsOf T C (Arc (KeptLinks Z) B) (Honours (WithExcludes X) B) A RulesState E) {disk : Z} {still still' told told' : Type 0} {fs : Functions} {values values' : Texts} {screen : Screen} {asked : Asked} {takes : List ℕ → Bool → Bool} {old new : Option (List ℕ)} where
+module _ {T C Z B X A E G H F : Type 0} (plain : CrewCallsOf T G (Arc (KeptLinks Z) B) LeavesOut A H F) (honouring : CrewCallsOf T C (Arc (KeptLinks Z) B) (Honours (UserTexts X) B) A RulesState E) {disk : Z} {still still' told told' : Type 0} {fs : Functions} {values values' : Texts} {screen : Screen} {asked : Asked} {takes : List ℕ → Bool → Bool} {old new : Option (List ℕ)} where
   -- the lines are printed if the file system is fixed
-  pub printed_if : (still' → still) → ((wanted : Bool) (front : Option (List ℕ)) → IsFront told values wanted front → IsFront told' values' wanted front) → (from : WithExcludes X) (lines : List ℕ) → PrintsYielded plain honouring disk still told fs values from lines screen asked takes old new true
+  pub printed_if : (still' → still) → ((wanted : Bool) (front : Option (List ℕ)) → IsFront told values wanted front → IsFront told' values' wanted front) → (from : UserTexts X) (lines : List ℕ) → PrintsYielded plain honouring disk still told fs values from lines screen asked takes old new true
       → PrintsYielded plain honouring disk still' told' fs values' from lines screen asked takes old new true
   printed_if fixes fronts from lines prints = record {
     front = prints.front;
@@ -185,10 +188,10 @@ module _ {T C Z B X A E G H F : Type 0} (plain : CrewCallsOf T G (Arc (KeptLinks
   }
 
   -- the same where one of the answers is found
-  pub found_if : {found : Bool} → ((wanted : Bool) (front : Option (List ℕ)) → IsFront told values wanted front → IsFront told' values' wanted front) → (from : WithExcludes X) (lines : List ℕ) → Finds plain honouring disk told fs values from lines asked takes found → Finds plain honouring disk told' fs values' from lines asked takes found
+  pub found_if : {found : Bool} → ((wanted : Bool) (front : Option (List ℕ)) → IsFront told values wanted front → IsFront told' values' wanted front) → (from : UserTexts X) (lines : List ℕ) → Finds plain honouring disk told fs values from lines asked takes found → Finds plain honouring disk told' fs values' from lines asked takes found
   found_if fronts from lines finds = record { front = finds.front; in_front = fronts asked.full_path finds.front finds.in_front; answers = finds.answers; yielded = finds.yielded; one = finds.one }
 
-module _ {T C Z B X A E G H F : Type 0} (plain : CrewCallsOf T G (Arc (KeptLinks Z) B) LeavesOut A H F) (honouring : CrewCallsOf T C (Arc (KeptLinks Z) B) (Honours (WithExcludes X) B) A RulesState E) {disk : Z} {reads : X} {still still' told told' : Type 0} {fs fs' : Functions} {texts texts' : Texts} {home : Home} {screen : Screen} {asked : Asked} {sought : Looked} {old old' new : Option (List ℕ)} where
+module _ {T C Z B X A E G H F : Type 0} (plain : CrewCallsOf T G (Arc (KeptLinks Z) B) LeavesOut A H F) (honouring : CrewCallsOf T C (Arc (KeptLinks Z) B) (Honours (UserTexts X) B) A RulesState E) {disk : Z} {reads : X} {still still' told told' : Type 0} {fs fs' : Functions} {texts texts' : Texts} {home : Home} {screen : Screen} {asked : Asked} {sought : Looked} {old old' new : Option (List ℕ)} where
   -- the same search, by other names of the file system, the texts and what was written before
   pub searches_as : (still' → still) → (told' → told) → fs ≡ fs' → texts ≡ texts' → old ≡ old' → SearchesFor plain honouring disk reads still told fs texts home screen asked sought old new → SearchesFor plain honouring disk reads still' told' fs' texts' home screen asked sought old' new
   searches_as stays tells over from before s =
@@ -203,7 +206,7 @@ module _ {T C Z B X A E G H F : Type 0} (plain : CrewCallsOf T G (Arc (KeptLinks
         prints = λ still' told'. s.prints (stays still') (tells told');
       })))
 
-module _ {T C Z B X A E G H F : Type 0} (plain : CrewCallsOf T G (Arc (KeptLinks (Based Z)) B) LeavesOut A H F) (honouring : CrewCallsOf T C (Arc (KeptLinks (Based Z)) B) (Honours (WithExcludes (Based X)) B) A RulesState E) {disk : Z} {reads : X} {still told : Type 0} {fs : Functions} {texts : Texts} {home : Home} {screen : Screen} {old new : Option (List ℕ)} where
+module _ {T C Z B X A E G H F : Type 0} (plain : CrewCallsOf T G (Arc (KeptLinks (Based Z)) B) LeavesOut A H F) (honouring : CrewCallsOf T C (Arc (KeptLinks (Based Z)) B) (Honours (UserTexts (Based X)) B) A RulesState E) {disk : Z} {reads : X} {still told : Type 0} {fs : Functions} {texts : Texts} {home : Home} {screen : Screen} {old new : Option (List ℕ)} where
   -- the same call, by other names of its words
   pub searches_with : {words words' : List (List ℕ)} → words ≡ words' → AskForText words ⊎ Searches plain honouring disk reads still told fs texts home screen words old new → AskForText words' ⊎ Searches plain honouring disk reads still told fs texts home screen words' old new
   searches_with is = subst (λ (w : List (List ℕ)). AskForText w ⊎ Searches plain honouring disk reads still told fs texts home screen w old new) is

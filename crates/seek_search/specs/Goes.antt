@@ -20,8 +20,10 @@ use Rattle.jwalk_ignore.specs.Callback.IgnoreViews.{next_of, settings_of, texts_
 use Rattle.jwalk_ignore.specs.Callback.States.{rules_held}
 use Rattle.jwalk_ignore.specs.Rules.Chain.{no_rules}
 use Rattle.jwalk_ignore.specs.Rules.Texts.{Texts}
-use Rattle.jwalk_ignore.specs.Rules.WithExcludes.{texts_behind}
-use Rattle.jwalk_ignore.specs.jwalk_ignore_rules.declared.rules.with_excludes.WithExcludes.{WithExcludes}
+use Rattle.user_excludes.specs.Home.{home_value}
+use Rattle.user_excludes.specs.UserTexts.{home_of, texts_behind}
+use Rattle.user_excludes.specs.declared.home.Home.{Home}
+use Rattle.user_excludes.specs.declared.user_texts.UserTexts.{UserTexts}
 use Rattle.seek_words.specs.declared.asked.Asked.{Asked}
 use Rattle.seek_words.specs.declared.screen.Screen.{Screen}
 use Rattle.seek_words.specs.Sought.{Sought}
@@ -34,7 +36,7 @@ use Rattle.jwalk.specs.jwalk_callbacks.Both.{first_of, second_of}
 use Rattle.jwalk.specs.jwalk_callbacks.declared.both.Both.{Both}
 use Rattle.jwalk_ignore.specs.Callback.Excluding.{excluded_of}
 use Rattle.seek_search.specs.Printing.{IsFront}
-use Rattle.seek_search.specs.RulesRead.{lines_asked}
+use Rattle.seek_search.specs.RulesRead.{home_asked, lines_asked}
 use Rattle.seek_search.specs.Search.{excluded_asked, form_before, limit_asked, named_below, options_asked, roots_asked, settings_asked, sought_before}
 use Rattle.jwalk_ignore.specs.declared.callback.excluding.Excluding.{Excluding}
 use Rattle.seek_search.specs.KeptLinks.{functions_kept}
@@ -115,11 +117,12 @@ module _ {T C Z B X A E G H F : Type 0} (plain : CrewCallsOf T G (Arc (KeptLinks
     pub yielded : AreYielded disk texts lines asked (sought_before fs front asked takes) (found ≡ true) answers
     pub one : list_any (is_hit (sought_before fs front asked takes)) answers ≡ found
 
--- What is known of a search by these texts, whatever the user's excludes are, and by lines of ignore files. If the texts
--- always answer the same, the lines are those of the files that are asked for.
-pub record ByRead {X : Type 0} (texts : X) (told : Type 0) (values : Texts) (asked : Asked) (is : WithExcludes X → List ℕ → Type 0) : Type 0 where
-  pub reads : WithExcludes X
+-- What is known of a search by these texts, in whose repositories are the user's excludes if they are asked for, and by
+-- lines of ignore files. If the texts always answer the same, the lines are those of the files that are asked for.
+pub record ByRead {X : Type 0} (texts : X) (told : Type 0) (values : Texts) (home : Home) (asked : Asked) (is : UserTexts X → List ℕ → Type 0) : Type 0 where
+  pub reads : UserTexts X
   pub behind : texts_behind reads ≡ texts
+  pub own : home_of reads ≡ home_asked (home_value home) asked
   pub lines : List ℕ
   pub named : told → lines ≡ lines_asked values asked
   pub known : is reads lines

@@ -3,8 +3,6 @@ use Rattle.std.specs.Prelude.{◌≡◌, ℕ, true, false, List, Option, None}
 use Rattle.std.specs.declared.sync.Arc.{Arc}
 use Rattle.jwalk.specs.jwalk_model.FileSystem.{Functions}
 use Rattle.jwalk_ignore.specs.Rules.Texts.{Texts}
-use Rattle.jwalk_ignore.specs.Rules.WithExcludes.{with_excludes}
-use Rattle.jwalk_ignore.specs.jwalk_ignore_rules.declared.rules.with_excludes.WithExcludes.{WithExcludes}
 use Rattle.seek_words.specs.AsksFor.{AskFor}
 use Rattle.seek_words.specs.Screen.{is_colored}
 use Rattle.seek_words.specs.declared.asked.Asked.{Asked}
@@ -17,8 +15,11 @@ use Rattle.seek_search.specs.Based.{base_asked, functions_based, has_folder, tex
 use Rattle.seek_search.specs.Goes.{ByRead, Finds, Honours, LeavesOut, PrintsYielded}
 use Rattle.program_walks.specs.Crew.{CrewCallsOf}
 use Rattle.seek_search.specs.KeptLinks.{functions_kept}
-use Rattle.seek_search.specs.RulesRead.{excludes_asked, lines_asked}
+use Rattle.seek_search.specs.RulesRead.{home_asked, lines_asked}
+use Rattle.user_excludes.specs.Home.{home_value}
+use Rattle.user_excludes.specs.UserTexts.{with_user}
 use Rattle.user_excludes.specs.declared.home.Home.{Home}
+use Rattle.user_excludes.specs.declared.user_texts.UserTexts.{UserTexts}
 use Rattle.seek_search.specs.Search.{form_asked, limit_asked, sought_asked, yielded_by}
 use Rattle.seek_search.specs.declared.based.Based.{Based}
 use Rattle.seek_search.specs.declared.kept_links.KeptLinks.{KeptLinks}
@@ -34,9 +35,9 @@ PrintsRead fs texts lines screen asked sought =
 -- The same, with the user's excludes and the ignore files that are asked for.
 abbrev pub PrintsAsked : Functions → Texts → Home → Screen → Asked → Sought → Option (List ℕ) → Option (List ℕ) → Type 0
 PrintsAsked fs texts home screen asked sought =
-    PrintsRead fs (with_excludes (excludes_asked texts home asked) texts) (lines_asked texts asked) screen asked sought
+    PrintsRead fs (with_user (home_asked (home_value home) asked) texts) (lines_asked texts asked) screen asked sought
 
-module _ {T C Z B X A E G H F : Type 0} (plain : CrewCallsOf T G (Arc (KeptLinks Z) B) LeavesOut A H F) (honouring : CrewCallsOf T C (Arc (KeptLinks Z) B) (Honours (WithExcludes X) B) A RulesState E) where
+module _ {T C Z B X A E G H F : Type 0} (plain : CrewCallsOf T G (Arc (KeptLinks Z) B) LeavesOut A H F) (honouring : CrewCallsOf T C (Arc (KeptLinks Z) B) (Honours (UserTexts X) B) A RulesState E) where
   -- This is searched over this disk. The times that are asked for are known. Paths are in colors if the words or the
   -- screen ask for it. A quiet search writes nothing, and finds one of the answers of its walks. Any other search prints
   -- their lines in the way that is asked for, and all answers are clean. If there is no limit, and the file system and
@@ -46,11 +47,11 @@ module _ {T C Z B X A E G H F : Type 0} (plain : CrewCallsOf T G (Arc (KeptLinks
   pub record SearchesFor (disk : Z) (reads : X) (still told : Type 0) (fs : Functions) (texts : Texts) (home : Home) (screen : Screen) (asked : Asked) (sought : Sought) (old new : Option (List ℕ)) : Type 0 where
     pub colored : asked.colored ≡ is_colored screen asked.color
     pub times : AreTimes still fs asked asked.times
-    pub quiet : asked.quiet ≡ true → (new ≡ old) × ((asked.kinds.empty ≡ true → still) → ByRead reads told texts asked (λ reads lines. Finds plain honouring disk told fs texts reads lines asked (takes_by sought) true))
-    pub yielded : asked.quiet ≡ false → ByRead reads told texts asked (λ reads lines. PrintsYielded plain honouring disk still told fs texts reads lines screen asked (takes_by sought) old new true)
+    pub quiet : asked.quiet ≡ true → (new ≡ old) × ((asked.kinds.empty ≡ true → still) → ByRead reads told texts home asked (λ reads lines. Finds plain honouring disk told fs texts reads lines asked (takes_by sought) true))
+    pub yielded : asked.quiet ≡ false → ByRead reads told texts home asked (λ reads lines. PrintsYielded plain honouring disk still told fs texts reads lines screen asked (takes_by sought) old new true)
     pub prints : still → told → limit_asked asked ≡ None → PrintsAsked fs texts home screen asked sought old new
 
-module _ {T C Z B X A E G H F : Type 0} (plain : CrewCallsOf T G (Arc (KeptLinks (Based Z)) B) LeavesOut A H F) (honouring : CrewCallsOf T C (Arc (KeptLinks (Based Z)) B) (Honours (WithExcludes (Based X)) B) A RulesState E) where
+module _ {T C Z B X A E G H F : Type 0} (plain : CrewCallsOf T G (Arc (KeptLinks (Based Z)) B) LeavesOut A H F) (honouring : CrewCallsOf T C (Arc (KeptLinks (Based Z)) B) (Honours (UserTexts (Based X)) B) A RulesState E) where
   -- The words ask for a search, and the names that are looked for are those of the patterns. This is searched, over the
   -- disk and the texts as they are seen from the folder that is asked for, which is one.
   pub record Searches (disk : Z) (reads : X) (still told : Type 0) (fs : Functions) (texts : Texts) (home : Home) (screen : Screen) (words : List (List ℕ)) (old new : Option (List ℕ)) : Type 0 where

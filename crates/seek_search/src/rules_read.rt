@@ -1,7 +1,9 @@
-//! The ignore files that are read before a search begins.
-ghost use Rattle.std.specs.Prelude.{◌≡◌, ◌++◌, true, flat_map, IfOk, OnOk};
+//! The ignore files that a search reads.
+ghost use Rattle.std.specs.Prelude.{◌≡◌, ◌++◌, flat_map, option_map, IfOk, OnOk};
 ghost use Rattle.program_parts.specs.Values.{texts_of};
-ghost use Rattle.seek_search.specs.RulesRead.{excludes_asked, lines_asked, lines_at, lines_found};
+ghost use Rattle.seek_search.specs.RulesRead.{home_asked, lines_asked, lines_at, lines_found};
+ghost use Rattle.user_excludes.specs.Home.{home_value};
+ghost use Rattle.user_excludes.specs.OwnHome.{own_home_value};
 
 use jwalk::file_system::Fault;
 use jwalk_ignore::texts::Texts;
@@ -10,46 +12,24 @@ use seek_words::asked::Asked;
 use std::alloc::{AllocError, Global};
 use std::io;
 use std::io::Write;
-use user_excludes::excludes::{Unread, user_excludes};
-use user_excludes::home::Home;
+use user_excludes::home::{Home, OwnHome};
 
-/// Lines of ignore files that are read before a search begins.
-#[derive(Drop)]
-pub(crate) struct RulesRead {
-    /// The user's excludes.
-    pub(crate) excludes: Vec<u8>,
-    /// The lines of the files that decide last.
-    pub(crate) lines: Vec<u8>,
-    /// The user's excludes are known.
-    pub(crate) clean: bool,
+/// Returns where the user's own files are, if their excludes are asked for.
+pub(crate) fn home_asked(
+    alloc: Global,
+    home: Home<'_>,
+    asked: &Asked<'_>,
+) -> Result<Option<OwnHome>, AllocError>
+    ensures { IfOk result (λ own. option_map own_home_value own ≡ home_asked (home_value home.entry) asked.now) }
+{
+    if asked.no_ignore || asked.no_vcs || asked.no_global {
+        return Ok(None);
+    }
+    Ok(Some(OwnHome::of(alloc, home)?))
 }
 
 fn report<E: Write>(path: &str, error: &io::Error, err: &mut E) {
     let _ = writeln!(err, "seek: {path}: {error}");
-}
-
-/// Returns the user's excludes, if they are asked for, and whether they are known.
-fn excludes_read<X: Texts, E: Write>(
-    alloc: Global,
-    texts: &X,
-    home: Home<'_>,
-    asked: &Asked<'_>,
-    err: &mut E,
-) -> Result<(Vec<u8>, bool), AllocError>
-    ensures { X.IsFixed texts.now → IfOk result (λ it. it.1 ≡ true
-        → it.0.items ≡ excludes_asked (X.functions texts.now) home.entry asked.now) }
-{
-    if asked.no_ignore || asked.no_vcs || asked.no_global {
-        return Ok((Vec::new(alloc), true));
-    }
-    match user_excludes(texts, alloc, home) {
-        Ok(excludes) => Ok((excludes, true)),
-        Err(Unread::File(path, error)) => {
-            report(path.as_str(), &error, err);
-            Ok((Vec::new(alloc), false))
-        }
-        Err(Unread::Memory) => Err(AllocError),
-    }
 }
 
 /// Appends the lines of a file, or reports its error.
@@ -93,24 +73,14 @@ fn lines_read<X: Texts, E: Write>(
     Ok(lines)
 }
 
-impl RulesRead {
-    /// Reads the user's excludes, if they are asked for, and the files that decide last. Reports those that can't be read.
-    pub(crate) fn read<X: Texts, E: Write>(
-        alloc: Global,
-        texts: &X,
-        home: Home<'_>,
-        asked: &Asked<'_>,
-        err: &mut E,
-    ) -> Result<Self, AllocError>
-        ensures excludes { X.IsFixed texts.now → IfOk result (λ it. it.clean ≡ true
-            → it.excludes.items ≡ excludes_asked (X.functions texts.now) home.entry asked.now) }
-        ensures lines { X.IsFixed texts.now → IfOk result (λ it. it.lines.items ≡ lines_asked (X.functions texts.now) asked.now) }
-    {
-        let (excludes, clean) = excludes_read(alloc, texts, home, asked, err)?;
-        Ok(RulesRead {
-            excludes,
-            lines: lines_read(alloc, texts, asked.ignore_files.as_slice(), err)?,
-            clean,
-        })
-    }
+/// Returns the lines of the files that decide last.
+pub(crate) fn lines_asked<X: Texts, E: Write>(
+    alloc: Global,
+    texts: &X,
+    asked: &Asked<'_>,
+    err: &mut E,
+) -> Result<Vec<u8>, AllocError>
+    ensures { X.IsFixed texts.now → IfOk result (λ lines. lines.items ≡ lines_asked (X.functions texts.now) asked.now) }
+{
+    lines_read(alloc, texts, asked.ignore_files.as_slice(), err)
 }

@@ -14,11 +14,10 @@ ghost use Rattle.seek_search.specs.Search.{limit_asked};
 use crate::based::Based;
 use crate::kept_links::KeptLinks;
 use crate::printing::printer_of;
-use crate::rules_read::RulesRead;
+use crate::rules_read::{home_asked, lines_asked};
 use crate::search::{HonouringWalk, PlainWalk, Search};
 use jwalk::file_system::{Fault, FileSystem};
 use jwalk_ignore::texts::Texts;
-use jwalk_ignore::with_excludes::WithExcludes;
 use program_parts::halt::Halt;
 use program_walks::crew::crew_of;
 use seek_found::call::{Ended, read_call, status_of};
@@ -34,6 +33,7 @@ use std::sync::{Arc, Wait};
 use std::thread::Threads;
 use std::time::Clock;
 use user_excludes::home::Home;
+use user_excludes::user_texts::UserTexts;
 
 fn shared<V: Drop>(alloc: Global, value: V) -> Result<Arc<V>, AllocError>
     ensures { IfOk result (λ it. arc_value it ≡ value) }
@@ -136,7 +136,7 @@ impl<
         search.print(alloc, &mut printer, out, err)
     }
 
-    /// Reads the ignore files first that are named, or are the user's.
+    /// Reads the ignore files first that are named. The user's are read in repositories.
     fn search_read<W: Write, E: Write>(
         self,
         asked: &Asked<'_>,
@@ -145,16 +145,16 @@ impl<
         err: &mut E,
     ) -> Result<Ended, Halt>
         ensures yielded { IfOk result (λ ended. ended.clean ≡ true → ByRead self.entry.texts (X.IsFixed self.entry.texts)
-            (X.functions self.entry.texts) asked.now (λ reads lines. PrintsYielded
+            (X.functions self.entry.texts) self.entry.home asked.now (λ reads lines. PrintsYielded
             ⟦<PlainWalk<T, KeptLinks<S>> as Iterator>⟧.next_gives
-            ⟦<HonouringWalk<T, KeptLinks<S>, WithExcludes<X>> as Iterator>⟧.next_gives self.entry.disk (S.IsFixed self.entry.disk) (X.IsFixed self.entry.texts)
+            ⟦<HonouringWalk<T, KeptLinks<S>, UserTexts<X>> as Iterator>⟧.next_gives self.entry.disk (S.IsFixed self.entry.disk) (X.IsFixed self.entry.texts)
             (S.functions self.entry.disk) (X.functions self.entry.texts) reads lines self.entry.screen
             asked.now (takes_by sought.now) (W.contents out.old) (W.contents out.new) true)) }
         ensures found { IfOk result (λ ended. asked.now.quiet ≡ true
             → (asked.now.kinds.empty ≡ true → S.IsFixed self.entry.disk) → ByRead self.entry.texts (X.IsFixed self.entry.texts)
-            (X.functions self.entry.texts) asked.now (λ reads lines. Finds
+            (X.functions self.entry.texts) self.entry.home asked.now (λ reads lines. Finds
             ⟦<PlainWalk<T, KeptLinks<S>> as Iterator>⟧.next_gives
-            ⟦<HonouringWalk<T, KeptLinks<S>, WithExcludes<X>> as Iterator>⟧.next_gives self.entry.disk (X.IsFixed self.entry.texts)
+            ⟦<HonouringWalk<T, KeptLinks<S>, UserTexts<X>> as Iterator>⟧.next_gives self.entry.disk (X.IsFixed self.entry.texts)
             (S.functions self.entry.disk) (X.functions self.entry.texts) reads lines asked.now (takes_by sought.now) ended.full)) }
         ensures whole { IfOk result (λ ended. limit_asked asked.now ≡ None → ended.clean ≡ true → S.IsFixed self.entry.disk → X.IsFixed self.entry.texts
             → PrintsAsked (S.functions self.entry.disk) (X.functions self.entry.texts) self.entry.home self.entry.screen asked.now sought.now
@@ -169,13 +169,9 @@ impl<
             home,
             screen,
         } = self;
-        let RulesRead {
-            excludes,
-            lines,
-            clean,
-        } = RulesRead::read(alloc, &texts, home, asked, err)?;
-        let texts = WithExcludes::new(texts, excludes);
-        let ended = Seek {
+        let lines = lines_asked(alloc, &texts, asked, err)?;
+        let texts = UserTexts::new(alloc, texts, home_asked(alloc, home, asked)?);
+        Seek {
             rt,
             clock,
             alloc,
@@ -184,11 +180,7 @@ impl<
             home,
             screen,
         }
-        .search_asked(lines.as_slice(), asked, sought, out, err)?;
-        Ok(Ended {
-            clean: ended.clean & clean,
-            full: ended.full,
-        })
+        .search_asked(lines.as_slice(), asked, sought, out, err)
     }
 
     /// Sets what the words alone don't say: the times, and whether paths are in colors. Writes nothing to `out` if only the
@@ -202,7 +194,7 @@ impl<
     ) -> u8
         ensures status { result ≤ 1 }
         ensures done { result ≡ 0 → (times : Times) × (colored : Bool) × SearchesFor ⟦<PlainWalk<T, KeptLinks<S>> as Iterator>⟧.next_gives
-            ⟦<HonouringWalk<T, KeptLinks<S>, WithExcludes<X>> as Iterator>⟧.next_gives self.entry.disk self.entry.texts
+            ⟦<HonouringWalk<T, KeptLinks<S>, UserTexts<X>> as Iterator>⟧.next_gives self.entry.disk self.entry.texts
             (S.IsFixed self.entry.disk) (X.IsFixed self.entry.texts) (S.functions self.entry.disk) (X.functions self.entry.texts) self.entry.home self.entry.screen
             (record asked.entry { times = times; colored = colored }) sought.now (W.contents out.old) (W.contents out.new) }
     {
@@ -231,7 +223,7 @@ impl<
         ensures untouched { result ≡ 2 → W.contents out.new ≡ W.contents out.old }
         ensures done { result ≡ 0 → AskForText (map string_bytes words.now)
             ⊎ Searches ⟦<PlainWalk<T, KeptLinks<Based<S>>> as Iterator>⟧.next_gives
-            ⟦<HonouringWalk<T, KeptLinks<Based<S>>, WithExcludes<Based<X>>> as Iterator>⟧.next_gives self.entry.disk self.entry.texts
+            ⟦<HonouringWalk<T, KeptLinks<Based<S>>, UserTexts<Based<X>>> as Iterator>⟧.next_gives self.entry.disk self.entry.texts
             (S.IsFixed self.entry.disk) (X.IsFixed self.entry.texts) (S.functions self.entry.disk) (X.functions self.entry.texts) self.entry.home self.entry.screen
             (map string_bytes words.now) (W.contents out.old) (W.contents out.new) }
     {
@@ -286,7 +278,7 @@ impl<
         ensures untouched { result ≡ 2 → W.contents out.new ≡ W.contents out.old }
         ensures done { result ≡ 0 → AskForText (joined (map string_bytes words.now))
             ⊎ Searches ⟦<PlainWalk<T, KeptLinks<Based<S>>> as Iterator>⟧.next_gives
-            ⟦<HonouringWalk<T, KeptLinks<Based<S>>, WithExcludes<Based<X>>> as Iterator>⟧.next_gives self.entry.disk self.entry.texts
+            ⟦<HonouringWalk<T, KeptLinks<Based<S>>, UserTexts<Based<X>>> as Iterator>⟧.next_gives self.entry.disk self.entry.texts
             (S.IsFixed self.entry.disk) (X.IsFixed self.entry.texts) (S.functions self.entry.disk) (X.functions self.entry.texts) self.entry.home self.entry.screen
             (joined (map string_bytes words.now)) (W.contents out.old) (W.contents out.new) }
     {
