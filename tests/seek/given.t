@@ -285,7 +285,7 @@ $ seek . t
   t/r/s/b.c
   t/r/s/top
 
-# the user's excludes that cannot be read
+# the user's excludes aren't read outside of repositories
 tree
   d /t
   d /t/p
@@ -295,5 +295,3 @@ tree
 nobody
 $ seek b t/p
   t/p/b.c
-! seek: /home/u/.config/git/ignore: Permission denied (os error 13)
-= 1

@@ -80,12 +80,7 @@ fn day_number(year: u64, month: u64, day: u64) -> Option<i32>
 fn day_of(year: u64, month: u64, day: u64) -> Option<i32>
     ensures { result ≡ day_of (Some year) (Some month) (Some day) }
 {
-    if year <= 9_999
-        && 1 <= month
-        && month <= 12
-        && 1 <= day
-        && day <= month_length(year, month)
-    {
+    if year <= 9_999 && 1 <= month && month <= 12 && 1 <= day && day <= month_length(year, month) {
         day_number(year, month, day)
     } else {
         None
@@ -97,7 +92,11 @@ fn day_in(text: &str) -> Option<i32>
 {
     let (year, rest) = at_dash(text);
     let (month, day) = at_dash(rest);
-    day_of(few_digits(4, year)?, few_digits(2, month)?, few_digits(2, day)?)
+    day_of(
+        few_digits(4, year)?,
+        few_digits(2, month)?,
+        few_digits(2, day)?,
+    )
 }
 
 fn seconds_of(hour: u64, minute: u64, second: u64) -> Option<u64>
@@ -119,7 +118,11 @@ fn seconds_in(text: &str) -> Option<u64>
     }
     let (hour, rest) = at_colon(text);
     let (minute, second) = at_colon(rest);
-    seconds_of(few_digits(2, hour)?, few_digits(2, minute)?, few_digits(2, second)?)
+    seconds_of(
+        few_digits(2, hour)?,
+        few_digits(2, minute)?,
+        few_digits(2, second)?,
+    )
 }
 
 fn nanoseconds_of(day: i32, seconds: u64) -> i128

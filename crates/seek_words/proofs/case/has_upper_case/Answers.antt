@@ -10,11 +10,10 @@ use Rattle.seek_words.proofs.case.has_upper_case.Goals as goal
 pub loop-next-init : goal.loop-next-init
 loop-next-init c =
     let all : chars_rest c.into_iter-next-iterator.result ≡ c.args.pattern.now
-    = ap chars_rest c.into_iter-next-iterator.ensures.into_iter_gives ∙ c.chars-next-items.ensures.rest in
-    (
+    = ap chars_rest c.into_iter-next-iterator.ensures.into_iter_gives ∙ c.chars-next-items.ensures.rest in (
       subst IsUtf8 (sym all) c.utf8.pattern,
       ap (λ (read : Read). fold then_read read (chars (chars_rest c.into_iter-next-iterator.result))) c.none_read-read.ensures
-      ∙ ap (λ (text : List ℕ). all_read c.args.glob c.args.fixed text) all,
+          ∙ ap (λ (text : List ℕ). all_read c.args.glob c.args.fixed text) all,
     )
 
 pub loop-next-preserved : goal.loop-next-preserved
@@ -24,7 +23,7 @@ loop-next-preserved c =
     let step = chars_past_char _ _ c.in-Some.next held.0 parts in (
       IsUtf8-past_char _ _ c.in-Some.next held.0 parts,
       ap (λ (read : Read). fold then_read read (chars (chars_rest c.next.new.self))) c.then-read.ensures
-      ∙ (ap (λ (cs : List ℕ). fold then_read c.loop-next.read cs) (sym step) ∙ held.1),
+          ∙ (ap (λ (cs : List ℕ). fold then_read c.loop-next.read cs) (sym step) ∙ held.1),
     )
 
 pub returns : goal.returns
