@@ -6,7 +6,6 @@ use Rattle.std.proofs.lemmas.List.{map-append}
 use Rattle.jwalk.specs.jwalk_model.declared.metadata.Identity.{Identity}
 use Rattle.jwalk.specs.jwalk_model.Counted.{item_by}
 use Rattle.jwalk.specs.jwalk_model.Entry.{Entry, Item}
-use Rattle.jwalk.specs.jwalk_model.Error.{Failure}
 use Rattle.jwalk.specs.jwalk_model.Metadata.{is_elsewhere}
 use Rattle.jwalk.specs.jwalk_job.declared.dir_entry.DirEntry.{DirEntry}
 use Rattle.jwalk.specs.jwalk_job.declared.error.Error.{Error}

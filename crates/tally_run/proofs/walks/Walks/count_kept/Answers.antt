@@ -28,11 +28,11 @@ returns g c =
     let excluded = excluded_asked asked c.args.root.now in
     let texts = g.X.Texts.functions (arc_value self.texts) in
     let from : arc_value (texts_in rules) ≡ arc_value self.texts
-    = ap arc_value (c.then-rules.ensures.texts ∙ c.drop_errors.ensures.texts ∙ c.keep_hidden.ensures.texts ∙ c.new-2.ensures.texts) ∙ c.in_ok-clone.ensures.cases in
+    = ap arc_value (c.then-rules.ensures.texts ∙ c.drop_errors.ensures.texts ∙ c.keep_hidden.ensures.texts ∙ c.new.ensures.texts) ∙ c.in_ok-clone.ensures.cases in
     let settings : settings_of rules ≡ settings_asked asked
     = c.then-rules.ensures.settings ∙ c.drop_errors.ensures.settings
     ∙ ap (λ (s : Settings). record s { drops_errors = true })
-    (c.keep_hidden.ensures.settings ∙ ap (λ (s : Settings). record s { keeps_hidden = (settings_asked asked).keeps_hidden }) c.new-2.ensures.settings) in
+    (c.keep_hidden.ensures.settings ∙ ap (λ (s : Settings). record s { keeps_hidden = (settings_asked asked).keeps_hidden }) c.new.ensures.settings) in
     let lines : excluded_of (next_of rules) ≡ excluded
     = ap excluded_of c.then-rules.ensures.next ∙ c.in_ok-excluding.ensures in
     let options : options_of walk ≡ with_crew (is_some c.args.crew.now) (options_asked asked)
