@@ -1,6 +1,6 @@
 //! Walks over a disk whose answers are in a table.
 use crate::disk::found;
-use crate::disk::told::{Call, Counts, Part, Told, ToldDisk};
+use crate::disk::told::{Call, Counts, Readings, Told, ToldDisk};
 use jwalk::file_system::RealFs;
 use std::alloc::{AllocError, Global};
 use std::cell::Cell;
@@ -12,8 +12,7 @@ use test_fixtures::ways::Setting;
 /// A disk, and what a walk over it yields, in the order of the listing.
 #[derive(Clone, Copy)]
 struct Row {
-    /// The readings of the directory, in order.
-    readings: &'static [Part],
+    readings: Readings,
     /// How many opens are interrupted, from the first on.
     interrupted: usize,
     /// The calls that fail, each at a path.
@@ -33,7 +32,8 @@ fn holds(alloc: Global, row: &Row) -> Result<bool, AllocError> {
         failing: row.failing,
         kind: row.kind,
     };
-    let calls = Rc::new(alloc, Cell::new((0, 0, 0, 0)))?;
+    let none: Counts = (0, 0, 0, 0);
+    let calls = Rc::new(alloc, Cell::new(none))?;
     let disk = ToldDisk {
         told,
         calls: calls.clone()?,
@@ -48,7 +48,7 @@ fn holds(alloc: Global, row: &Row) -> Result<bool, AllocError> {
 
 /// A walk that follows no links, over a directory with a file, a link, a directory and a hidden file.
 const LISTED: Row = Row {
-    readings: &[Part::Names(b"a\0l\0s\0.h\0")],
+    readings: Readings::FourNames,
     interrupted: 0,
     failing: &[],
     kind: ErrorKind::NotFound,
@@ -87,37 +87,24 @@ const COUNTED: &[Row] = &[
 const READINGS: &[Row] = &[
     // A name that is no text is an error among the others. The directory itself and the one above it are none.
     Row {
-        readings: &[
-            Part::Names(b".\0..\0b\0a\xff\0c\0"),
-            Part::Names(b"\xc3\0d\0"),
-        ],
+        readings: Readings::NamesThatAreNoTexts,
         lines: "0 d /t; 1 f /t/b; ! 1 - InvalidFilename; 1 f /t/c; ! 1 - InvalidFilename; 1 f /t/d",
         ..LISTED
     },
     Row {
-        readings: &[
-            Part::Names(b"b\0a\0"),
-            Part::Names(b"c\0"),
-            Part::Fails(ErrorKind::InvalidData),
-        ],
+        readings: Readings::FaultAfterThreeNames,
         lines: "0 d /t; 1 f /t/b; 1 f /t/a; 1 f /t/c; ! 1 - InvalidData",
         ..LISTED
     },
     // An open or a reading that was interrupted is made again.
     Row {
-        readings: &[
-            Part::Fails(ErrorKind::Interrupted),
-            Part::Names(b"b\0"),
-            Part::Fails(ErrorKind::Interrupted),
-            Part::Fails(ErrorKind::Interrupted),
-            Part::Names(b"a\0"),
-        ],
+        readings: Readings::Interrupted,
         interrupted: 2,
         lines: "0 d /t; 1 f /t/b; 1 f /t/a",
         ..LISTED
     },
     Row {
-        readings: &[Part::Names(b"b\0a\0"), Part::Fails(ErrorKind::OutOfMemory)],
+        readings: Readings::NoMemoryAfterTwoNames,
         lines: "! 0 - memory",
         ..LISTED
     },

@@ -11,10 +11,27 @@ use std::rt::Files;
 
 /// One part of the reading of a directory.
 #[derive(Clone, Copy)]
-pub(super) enum Part {
+enum Part {
     /// Names, each ended by a NUL.
     Names(&'static [u8]),
     Fails(ErrorKind),
+}
+
+/// The readings of a directory, in order.
+#[derive(Clone, Copy)]
+pub(super) enum Readings {
+    Nothing,
+    /// `a`, `l`, `s` and `.h`.
+    FourNames,
+    /// The directory itself and the one above it, `b`, a name that isn't text, and `c`; then another such name, and
+    /// `d`.
+    NamesThatAreNoTexts,
+    /// `b` and `a`; then `c`; then an error.
+    FaultAfterThreeNames,
+    /// `b`, and then `a`, with interruptions before and between.
+    Interrupted,
+    /// `b` and `a`; then memory runs out.
+    NoMemoryAfterTwoNames,
 }
 
 /// A call to a disk.
@@ -34,8 +51,8 @@ pub(super) enum Call {
 /// leads to an empty directory elsewhere. Everything else is a file.
 #[derive(Clone, Copy)]
 pub(super) struct Told {
-    /// The readings of `/t`, in order.
-    pub(super) readings: &'static [Part],
+    /// The readings of `/t`.
+    pub(super) readings: Readings,
     /// How many opens are interrupted, from the first on.
     pub(super) interrupted: usize,
     /// The calls that fail, each at a path.
@@ -57,8 +74,39 @@ pub(super) struct ToldDisk {
 /// A directory that is being read.
 #[derive(Drop)]
 pub(super) struct ToldDir {
-    readings: &'static [Part],
+    readings: Readings,
     next: usize,
+}
+
+impl Readings {
+    fn parts(self) -> &'static [Part] {
+        const FOUR: &[Part] = &[Part::Names(b"a\0l\0s\0.h\0")];
+        const NO_TEXTS: &[Part] = &[
+            Part::Names(b".\0..\0b\0a\xff\0c\0"),
+            Part::Names(b"\xc3\0d\0"),
+        ];
+        const FAULT: &[Part] = &[
+            Part::Names(b"b\0a\0"),
+            Part::Names(b"c\0"),
+            Part::Fails(ErrorKind::InvalidData),
+        ];
+        const INTERRUPTED: &[Part] = &[
+            Part::Fails(ErrorKind::Interrupted),
+            Part::Names(b"b\0"),
+            Part::Fails(ErrorKind::Interrupted),
+            Part::Fails(ErrorKind::Interrupted),
+            Part::Names(b"a\0"),
+        ];
+        const NO_MEMORY: &[Part] = &[Part::Names(b"b\0a\0"), Part::Fails(ErrorKind::OutOfMemory)];
+        match self {
+            Readings::Nothing => &[],
+            Readings::FourNames => FOUR,
+            Readings::NamesThatAreNoTexts => NO_TEXTS,
+            Readings::FaultAfterThreeNames => FAULT,
+            Readings::Interrupted => INTERRUPTED,
+            Readings::NoMemoryAfterTwoNames => NO_MEMORY,
+        }
+    }
 }
 
 fn fill(mut names: &[u8], buf: &mut [u8]) -> io::Result<usize>
@@ -69,7 +117,7 @@ fn fill(mut names: &[u8], buf: &mut [u8]) -> io::Result<usize>
 
 impl Read for ToldDir {
     fn read(&mut self, buf: &mut [u8]) -> io::Result<usize> {
-        let Some(part) = self.readings.get(self.next) else {
+        let Some(part) = self.readings.parts().get(self.next) else {
             return Ok(0);
         };
         self.next = self.next.wrapping_add(1);
@@ -120,7 +168,7 @@ impl Files for ToldDisk {
         let readings = if path == "/t/" {
             self.told.readings
         } else {
-            &[]
+            Readings::Nothing
         };
         Ok(ToldDir { readings, next: 0 })
     }

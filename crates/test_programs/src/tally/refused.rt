@@ -6,7 +6,7 @@ use jwalk::read_dir::NoProcess;
 use jwalk::{DirEntryIter, WalkDirGeneric};
 use jwalk_subtotals::iter::Subtotals;
 use jwalk_subtotals::{SubtotalError, SubtotalOptions, subtotals};
-use std::alloc::{Allocator, Global};
+use std::alloc::{AllocError, Allocator, Global};
 use std::sync::Arc;
 use std::sync::atomic::AtomicUsize;
 use test_fixtures::refused::outcome::Outcome;
@@ -98,7 +98,7 @@ impl Repeated for Play {
 }
 
 fn disk(alloc: Global) -> Result<Disk, Failure> {
-    let failures = Arc::new(alloc, AtomicUsize::new(0))?;
+    let failures = Arc::new(alloc, AtomicUsize::new(0)).map_err(AllocError::from)?;
     let mut disk = Disk::new(alloc, TREE, Failing::Never, failures)?;
     disk.known = KNOWN;
     Ok(disk)

@@ -3,6 +3,7 @@ use crate::output::Output;
 use crate::tree_disk::Disk;
 use crate::walk::input::Input;
 use jwalk::file_system::FileSystem;
+use std::alloc::AllocError;
 use std::io::{Read, Write};
 use std::sync::Arc;
 use std::sync::atomic::Ordering;
@@ -74,7 +75,7 @@ pub(super) fn comes(rt: &impl Host, call: &Call<'_>) -> Result<bool, Failure> {
     let mut out = Output::taking(alloc, call.room)?;
     let mut disk = Disk::new(alloc, call.tree, call.failing, out.failures.clone()?)?;
     disk.failing_call = call.failing_call;
-    let disk = Arc::new(alloc, disk)?;
+    let disk = Arc::new(alloc, disk).map_err(AllocError::from)?;
     let words = texts(alloc, &[], call.words)?;
     let mut input = call.input;
     let (status, err) = ran(rt, disk.clone()?, words.as_slice(), &mut input, &mut out);

@@ -107,10 +107,11 @@ impl Play<'_> {
 /// Returns whether the walks of a scene yield what its rows say.
 pub(crate) fn are_right<R: Host>(rt: &R, scene: &Scene) -> Result<bool, BuildError> {
     let planted = Planted::new(rt.alloc(), scene)?;
-    let fs = Arc::new(rt.alloc(), planted.fs)?;
-    let texts = Arc::new(rt.alloc(), planted.texts)?;
+    let fs = Arc::new(rt.alloc(), planted.fs).map_err(AllocError::from)?;
+    let texts = Arc::new(rt.alloc(), planted.texts).map_err(AllocError::from)?;
     // The crew serves one walk at a time.
-    let pool = Arc::new(rt.alloc(), Crew::new(rt.clone()?, 1, 2))?;
+    let crew = Crew::new(rt.clone()?, 1, 2);
+    let pool = Arc::new(rt.alloc(), crew).map_err(AllocError::from)?;
     let mut are_right = true;
     for row in scene.rows {
         let play = Play {

@@ -110,30 +110,30 @@ pub(crate) struct Disk {
     /// Paths, with what lists say of them in place of the tree.
     pub(crate) seen: &'static [(&'static str, Told)],
     pub(crate) failing: Failing,
-    /// The questions for lists, for metadata of paths themselves, for what links lead to, and for rules.
-    pub(crate) counts: [AtomicUsize; 4],
+    pub(crate) lists: AtomicUsize,
+    pub(crate) looks: AtomicUsize,
+    pub(crate) follows: AtomicUsize,
+    pub(crate) rules: AtomicUsize,
 }
 
 impl Disk {
     pub(crate) fn asked(&self) -> Asked {
-        let [lists, looks, follows, rules] = &self.counts;
         [
-            lists.load(Ordering::SeqCst),
-            looks.load(Ordering::SeqCst),
-            follows.load(Ordering::SeqCst),
-            rules.load(Ordering::SeqCst),
+            self.lists.load(Ordering::SeqCst),
+            self.looks.load(Ordering::SeqCst),
+            self.follows.load(Ordering::SeqCst),
+            self.rules.load(Ordering::SeqCst),
         ]
     }
 
     /// Fails if this is the question that does.
     fn ask(&self, question: Question, path: &str) -> Result<(), Fault> {
         let turn = sum(self.asked());
-        let [lists, looks, follows, rules] = &self.counts;
         let count = match question {
-            Question::List => lists,
-            Question::Look => looks,
-            Question::Follow => follows,
-            Question::Read | Question::Place => rules,
+            Question::List => &self.lists,
+            Question::Look => &self.looks,
+            Question::Follow => &self.follows,
+            Question::Read | Question::Place => &self.rules,
         };
         count.fetch_add(1, Ordering::SeqCst);
         let failure = match self.failing {

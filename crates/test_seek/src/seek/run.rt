@@ -104,8 +104,8 @@ impl Outcome {
         match (failure, row.out) {
             (Failure::Memory, Out::Text(text)) => {
                 text.as_bytes().starts_with(out)
-                    && (err == b"seek: memory refused\n"
-                        || err == b"seek: memory refused for the walk\n")
+                    && (err == "seek: memory refused\n".as_bytes()
+                        || err == "seek: memory refused for the walk\n".as_bytes())
                     && self.status == 1
             }
             (Failure::Memory, _) => false,
@@ -162,12 +162,10 @@ fn disk_of(alloc: Global, scene: &Scene, failing: Failing) -> Result<Arc<Disk>, 
         texts,
         seen: scene.seen,
         failing,
-        counts: [
-            AtomicUsize::new(0),
-            AtomicUsize::new(0),
-            AtomicUsize::new(0),
-            AtomicUsize::new(0),
-        ],
+        lists: AtomicUsize::new(0),
+        looks: AtomicUsize::new(0),
+        follows: AtomicUsize::new(0),
+        rules: AtomicUsize::new(0),
     };
     Ok(Arc::new(alloc, disk)?)
 }
