@@ -6,5 +6,5 @@ complete -c walk -l follow -d 'a link is replaced by what it leads to, under the
 complete -c walk -l usage -d 'one line of totals is printed at the end, in place of the lines of entries and errors'
 complete -c walk -l min -x -d 'no entry nearer to the root than this is printed'
 complete -c walk -l max -x -d 'no entry deeper than this is printed'
-complete -c walk -l batch -x -d 'up to N directories are read together, by several threads where there are enough of them and without --usage'
+complete -c walk -l batch -x -d 'up to N directories are read together, by threads where there are enough and without --usage'
 complete -c walk -l crew -x -d 'N threads read directories ahead while lines are printed, up to 256 of them'
