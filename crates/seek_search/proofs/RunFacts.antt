@@ -187,6 +187,7 @@ module _ {T C Z B X A E G H F : Type 0} (plain : CrewCallsOf T G (Arc (KeptLinks
     printed = λ known. prints.printed (λ empty. fixes (known.0 empty), λ links. fixes (known.1 links));
   }
 
+module _ {T C Z B X A E G H F : Type 0} (plain : CrewCallsOf T G (Arc (KeptLinks Z) B) LeavesOut A H F) (honouring : CrewCallsOf T C (Arc (KeptLinks Z) B) (Honours (UserTexts X) B) A RulesState E) {disk : Z} {told told' : Type 0} {fs : Functions} {values values' : Texts} {asked : Asked} {takes : List ℕ → Bool → Bool} where
   -- the same where one of the answers is found
   pub found_if : {found : Bool} → ((wanted : Bool) (front : Option (List ℕ)) → IsFront told values wanted front → IsFront told' values' wanted front) → (from : UserTexts X) (lines : List ℕ) → Finds plain honouring disk told fs values from lines asked takes found → Finds plain honouring disk told' fs values' from lines asked takes found
   found_if fronts from lines finds = record { front = finds.front; in_front = fronts asked.full_path finds.front finds.in_front; answers = finds.answers; yielded = finds.yielded; one = finds.one }
