@@ -228,7 +228,7 @@ class Option:
         self.short, self.long = arg.get("short"), arg.get("long")
         self.longs = [self.long] * bool(self.long) + [name for name, *_ in arg.said.get("visible_alias", [])]
         self.help = arg.get("help", "")
-        is_flag = arg.get("action") in ("ArgAction::Count", "ArgAction::SetTrue", "ArgAction::SetFalse")
+        is_flag = arg.get("action") in ("ArgAction::Count", "ArgAction::SetTrue", "ArgAction::SetFalse", "ArgAction::Help")
         self.value = None if is_flag else arg.get("value_name", self.id.upper())
         choices = arg.get("value_parser")
         self.choices = choices if isinstance(choices, list) else []

@@ -92,8 +92,8 @@ def plain_option(id, short, text):
     return Option(arg.call("action", ["ArgAction::SetTrue"]).call("help", [text]))
 
 
-# What the crate `clap` adds to every command line.
-ADDED = [plain_option("help", "h", "Print help"), plain_option("version", "V", "Print version")]
+# What the crate `clap` adds to a command line: help, unless the program has an option for it, and the version.
+HELP, VERSION = plain_option("help", "h", "Print help"), plain_option("version", "V", "Print version")
 
 
 def section(document, heading):
@@ -153,7 +153,8 @@ def by_clap(path):
     name, page = command.name, f"docs/{command.name.upper()}.md"
     words = [it for it in args if not it.is_option()]
     shown = ["[OPTIONS]"] + [f"[{it.value}{'..' if it.repeats else ''}]" for it in words]
-    options = [it for it in args if it.is_option() and not it.is_hidden] + ADDED
+    options = [it for it in args if it.is_option() and not it.is_hidden]
+    options += [VERSION] if any(it.id == "help" for it in options) else [HELP, VERSION]
     made = Program(name, command.get("about"), " ".join(shown), options, words)
     made.paragraphs += paragraphs(section(page, f"# The program `{name}`"))
     made.add("ARGUMENTS", [(f"`{it.value}`", it.help) for it in words])

@@ -20,6 +20,5 @@ complete -c tally -s x -l one-file-system -d 'Read no directories on other file 
 complete -c tally -s L -l follow -d 'Follow links'
 complete -c tally -l sort -d 'Read the entries of a directory in the order of their names'
 complete -c tally -s j -l threads -x -d 'Threads that read directories, or 0 for as many as can run at a time'
-complete -c tally -l help -x -d 'Print help'
-complete -c tally -s h -l help -d 'Print help'
+complete -c tally -l help -d 'Print help'
 complete -c tally -s V -l version -d 'Print version'

@@ -139,9 +139,9 @@ $ tally --plain --apparent --kibibytes /t/a
 $ tally --plain --apparent --mebibytes /t/a
   2	/t/a
 $ tally --apparent -h /t/a
-  1.1 MiB  /t/a
+   1.1 MiB  /t/a
 $ tally --apparent -m /t/a
-        2  /t/a
+         2  /t/a
 $ tally --json --apparent -h /t/a
 ~ 1048577
 
