@@ -302,7 +302,7 @@ $ seek -j0 txt /t
   /t/B.TXT
   /t/a.txt
 $ seek -j -1 txt /t
-!~ '-1'
+!~ --threads
 = 2
 
 # the last of an option counts

@@ -20,7 +20,7 @@ $ seek -qz
 ! seek: unknown option '-z' (see seek --help)
 = 2
 $ seek --quiet=yes
-! seek: unexpected value 'yes' for '--quiet' found; no more were expected (see seek --help)
+!~ seek: unexpected value 'yes' for '--quiet
 = 2
 $ seek -x
 !~ `seek -0 .. | xargs -0 COMMAND`
