@@ -8,7 +8,35 @@ pub(super) const DENIED: Failure = Failure::Io(ErrorKind::PermissionDenied);
 pub(super) const GONE: Failure = Failure::Io(ErrorKind::NotFound);
 
 /// Questions that fail.
-pub(super) const FAILING: &[Scene] = &[Scene {
+pub(super) const FAILING: &[Scene] = &[PLAIN, REPOSITORY];
+
+/// A repository.
+const REPOSITORY: Scene = Scene {
+    tree: "d /t\nd /t/.git\nf 1 /t/a\n",
+    rows: &[
+        // A user's files that fail.
+        Row {
+            call: "^a /t",
+            failing: Failing::At(Question::Read, DENIED, "/home/u/.config/git/ignore"),
+            out: Out::Text("/t/a\n"),
+            err: "seek: /t/.git/info/exclude: /home/u/.config/git/ignore: permission denied\n",
+            status: 1,
+            ..ROW
+        },
+        Row {
+            call: "^a /t",
+            failing: Failing::At(Question::Read, DENIED, "/home/u/.gitconfig"),
+            out: Out::Text("/t/a\n"),
+            err: "seek: /t/.git/info/exclude: /home/u/.gitconfig: permission denied\n",
+            status: 1,
+            ..ROW
+        },
+    ],
+    ..SCENE
+};
+
+/// A tree that is no repository.
+const PLAIN: Scene = Scene {
     tree: "d /t\nf 1 /t/.ignore\nf 1 /t/a\nd /t/d\nf 1 /t/d/x\nf 1 /t/z\nl a\t/t/l\n",
     rules: &[("/t/.ignore", "z\n")],
     rows: &[
@@ -113,13 +141,11 @@ pub(super) const FAILING: &[Scene] = &[Scene {
             status: 1,
             ..ROW
         },
-        // A user's files that fail: a configuration names none then.
+        // A user's files aren't read where no repository is.
         Row {
             call: "^a /t",
             failing: Failing::At(Question::Read, DENIED, "/home/u/.config/git/ignore"),
             out: Out::Text("/t/a\n"),
-            err: "seek: /home/u/.config/git/ignore: permission denied\n",
-            status: 1,
             ..ROW
         },
         Row {
@@ -152,7 +178,7 @@ pub(super) const FAILING: &[Scene] = &[Scene {
         },
     ],
     ..SCENE
-}];
+};
 
 /// Calls that ask questions of each sort.
 pub(super) const ASKING: &[Scene] = &[Scene {

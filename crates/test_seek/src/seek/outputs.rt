@@ -100,7 +100,7 @@ pub(super) const OUTPUTS: &[Scene] = &[
                 takes: (1, ALL),
                 out: Out::Text("/r/a\n"),
                 status: 1,
-                asked: Some([1, 1, 0, 7]),
+                asked: Some([1, 1, 0, 4]),
                 ..ROW
             },
             // A standard error that takes nothing.

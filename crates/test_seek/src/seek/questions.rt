@@ -20,13 +20,13 @@ pub(super) const QUESTIONS: &[Scene] = &[Scene {
         Row {
             call: ". /t",
             out: Out::Lines(7),
-            asked: Some([3, 1, 0, 9]),
+            asked: Some([3, 1, 0, 13]),
             ..ROW
         },
         Row {
             call: "--no-ignore-parent . /t",
             out: Out::Lines(7),
-            asked: Some([3, 1, 0, 7]),
+            asked: Some([3, 1, 0, 11]),
             ..ROW
         },
         Row {

@@ -296,7 +296,7 @@ pub(super) const SEEN: &[Scene] = &[
                 call: "--color=always l /t",
                 colors: "or=31:ln=32",
                 out: Out::Text("\x1b[01;34m/t/\x1b[0ml\n"),
-                asked: Some([1, 1, 0, 7]),
+                asked: Some([1, 1, 0, 4]),
                 ..ROW
             },
         ],
