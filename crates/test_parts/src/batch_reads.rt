@@ -1,21 +1,21 @@
 //! Readings over a board, one after another and on threads.
-use crate::given::{self, States, push_names, refusing, roots_of};
-use jwalk_fs::file_system::FileSystem;
-use jwalk_job::client_state::ClientState;
+use crate::given::{States, roots_of};
 use jwalk_job::job::Job;
 use jwalk_job::options::Options;
 use jwalk_job::process_read_dir::NoProcess;
-use jwalk_job::read_dir::Outcome;
+use jwalk_memory_fs::memory_fs::MemoryFs;
 use jwalk_readings::batch_reads::BatchReads;
-use std::alloc::{AllocError, Global};
+use std::alloc::Global;
 use std::thread::Threads;
-use test_fixtures::watched::Watched;
+use test_fixtures::watched::{Failing, Watched};
+
+type Reads<'f> = BatchReads<States, &'f Watched, NoProcess>;
 
 /// Three directories with one in each.
-const TWINS: [&str; 7] = ["/r", "/r/a", "/r/a/x", "/r/b", "/r/b/x", "/r/c", "/r/c/x"];
+const TWINS: &[&str] = &["/r", "/r/a", "/r/a/x", "/r/b", "/r/b/x", "/r/c", "/r/c/x"];
 
 /// 33 directories with one in each, which are enough for two threads.
-const MANY: [&str; 67] = [
+const MANY: &[&str] = &[
     "/r", "/r/A", "/r/A/A", "/r/B", "/r/B/B", "/r/C", "/r/C/C", "/r/D", "/r/D/D", "/r/E", "/r/E/E",
     "/r/F", "/r/F/F", "/r/G", "/r/G/G", "/r/a", "/r/a/a", "/r/b", "/r/b/b", "/r/c", "/r/c/c",
     "/r/d", "/r/d/d", "/r/e", "/r/e/e", "/r/f", "/r/f/f", "/r/g", "/r/g/g", "/r/h", "/r/h/h",
@@ -25,60 +25,39 @@ const MANY: [&str; 67] = [
     "/r/x", "/r/x/x", "/r/y", "/r/y/y", "/r/z", "/r/z/z",
 ];
 
-/// Memory runs out for the directory at this path.
+/// Memory runs out when the directory at the path is listed.
 fn tree(alloc: Global, dirs: &[&str], at: &'static str) -> Option<Watched> {
-    Some(refusing(given::tree(alloc, dirs)?, at))
+    let mut fs = MemoryFs::new(alloc);
+    for dir in dirs {
+        fs.add_dir(dir).ok()?;
+    }
+    Some(Watched::new(fs, Failing::ListForMemory(at)))
 }
 
 /// Reads everything below the root, `width` directories together. Returns `None` for a width of 0.
-fn walk<C: ClientState, S: FileSystem>(
-    alloc: Global,
-    fs: S,
-    state: C::ReadDirState,
-    width: usize,
-) -> Option<BatchReads<C, S, NoProcess>> {
+fn begun(alloc: Global, fs: &Watched, width: usize) -> Option<Reads<'_>> {
     if width == 0 {
         return None;
     }
     let job = Job::new(alloc, fs, NoProcess, Options::new().with_sort(true));
-    let roots = roots_of(&job, "/r", state)?;
+    let roots = roots_of(&job, "/r")?;
     BatchReads::try_new(alloc, job, roots, width).ok()
 }
 
 /// The way in which the directories are read.
-#[derive(Clone, Copy)]
 enum By {
     Turn,
     Threads,
 }
 
-/// Adds the names of a reading, `error` or `refused`, and after a colon how many other readings are ahead. Returns
-/// `None` at the end.
-fn push_next<C: ClientState>(
-    text: &mut String,
-    next: Result<Option<Outcome<C, Global>>, AllocError>,
-    ahead: usize,
-) -> Option<()> {
-    match next {
-        Ok(Some(Ok(read))) => push_names(text, &read)?,
-        Ok(Some(Err(_error))) => text.push_str("error").ok()?,
-        Ok(None) => return None,
-        Err(_refused) => text.push_str("refused").ok()?,
-    }
-    write!(text, ":{ahead} ").ok()
-}
-
-/// Adds the next reading, as `push_next` does.
-fn read_next<C: ClientState + Send, S: FileSystem + Send + Sync>(
+/// Adds the names of the next reading, `error` or `refused`, and after a colon how many other readings are ahead.
+/// Returns `None` at the end.
+fn push_next(
     rt: &(impl Threads + Sync),
-    walk: &mut BatchReads<C, S, NoProcess>,
-    by: By,
+    walk: &mut Reads<'_>,
+    by: &By,
     text: &mut String,
-) -> Option<()>
-where
-    C::ReadDirState: Send,
-    C::DirEntryState: Send,
-{
+) -> Option<()> {
     let prepared = match by {
         By::Turn => Ok(()),
         By::Threads => walk.prepare_on(rt),
@@ -87,93 +66,82 @@ where
         Ok(()) => walk.read_next(),
         Err(refused) => Err(refused),
     };
-    push_next(text, next, walk.ahead())
+    match next {
+        Ok(Some(Ok(read))) => {
+            for found in read.results_list() {
+                if let Ok(entry) = found {
+                    text.push_str(entry.file_name()).ok()?;
+                }
+            }
+        }
+        Ok(Some(Err(_error))) => text.push_str("error").ok()?,
+        Ok(None) => return None,
+        Err(_refused) => text.push_str("refused").ok()?,
+    }
+    write!(text, ":{} ", walk.ahead()).ok()
 }
 
-/// Adds each reading, as `push_next` does.
-fn push_all<C: ClientState + Send, S: FileSystem + Send + Sync>(
-    rt: &(impl Threads + Sync),
-    walk: &mut BatchReads<C, S, NoProcess>,
-    by: By,
-    text: &mut String,
-)
-where
-    C::ReadDirState: Send,
-    C::DirEntryState: Send,
-{
+/// What a row shows, the directories, the one for which memory runs out, how many are read together, and the readings
+/// as `push_next` adds them.
+type Row = (
+    &'static str,
+    &'static [&'static str],
+    &'static str,
+    usize,
+    &'static str,
+);
+
+fn gives(
+    rt: &(impl Threads + Sync + AllocGlobal),
+    (_, dirs, at, width, wanted): &Row,
+    by: &By,
+) -> Option<bool> {
+    let fs = tree(rt.alloc(), dirs, *at)?;
+    let mut walk = begun(rt.alloc(), &fs, *width)?;
+    let mut text = String::new(rt.alloc());
     for _ in 0..100 {
-        if read_next(rt, walk, by, text).is_none() {
+        if push_next(rt, &mut walk, by, &mut text).is_none() {
             break;
         }
     }
+    Some(text.as_str() == *wanted)
 }
 
-/// The text is as `push_all` writes it.
-fn gives<S: FileSystem + Send + Sync>(
-    rt: &(impl Threads + Sync),
-    alloc: Global,
-    fs: &S,
-    width: usize,
-    by: By,
-    wanted: &str,
-) -> bool {
-    let mut text = String::new(alloc);
-    if let Some(mut walk) = walk::<States, _>(alloc, fs, (), width) {
-        push_all(rt, &mut walk, by, &mut text);
-    }
-    text.as_str() == wanted
-}
-
-/// Reads one after another and on threads.
-fn gives_both<S: FileSystem + Send + Sync>(
-    rt: &(impl Threads + Sync),
-    alloc: Global,
-    fs: &S,
-    width: usize,
-    wanted: &str,
-) -> bool {
-    gives(rt, alloc, fs, width, By::Turn, wanted)
-        && gives(rt, alloc, fs, width, By::Threads, wanted)
-}
-
-/// Memory runs out for the directory at the path.
-fn both_give(
-    rt: &(impl Threads + Sync + AllocGlobal),
-    dirs: &[&str],
-    at: &'static str,
-    width: usize,
-    wanted: &str,
-) -> bool {
-    let alloc = rt.alloc();
-    match &tree(alloc, dirs, at) {
-        Some(fs) => gives_both(rt, alloc, fs, width, wanted),
-        None => false,
-    }
-}
+const ROWS: &[Row] = &[
+    ("one at a time", TWINS, "", 1, "abc:0 x:0 :0 x:0 :0 x:0 :0 "),
+    ("two together", TWINS, "", 2, "abc:0 x:1 :2 x:1 :0 x:0 :0 "),
+    (
+        "eight together",
+        TWINS,
+        "",
+        8,
+        "abc:0 x:2 :4 x:3 :2 x:1 :0 ",
+    ),
+    (
+        "a wide batch",
+        MANY,
+        "",
+        64,
+        "ABCDEFGabcdefghijklmnopqrstuvwxyz:0 \
+         A:32 :64 B:63 :62 C:61 :60 D:59 :58 E:57 :56 F:55 :54 G:53 :52 a:51 :50 b:49 :48 c:47 :46 d:45 :44 \
+         e:43 :42 f:41 :40 g:39 :38 h:37 :36 i:35 :34 j:33 :32 k:31 :30 l:29 :28 m:27 :26 n:25 :24 o:23 :22 \
+         p:21 :20 q:19 :18 r:17 :16 s:15 :14 t:13 :12 u:11 :10 v:9 :8 w:7 :6 x:5 :4 y:3 :2 z:1 :0 ",
+    ),
+    (
+        "a refusal in the middle of a batch ends the walk",
+        MANY,
+        "/r/e",
+        64,
+        "ABCDEFGabcdefghijklmnopqrstuvwxyz:0 refused:0 ",
+    ),
+];
 
 #[test]
 fn directories_are_read_in_order_however_many_together(rt: HostRuntime) {
-    const ROWS: &[(usize, &str)] = &[
-        (1, "abc:0 x:0 :0 x:0 :0 x:0 :0 "),
-        (2, "abc:0 x:1 :2 x:1 :0 x:0 :0 "),
-        (8, "abc:0 x:2 :4 x:3 :2 x:1 :0 "),
-    ];
-    for (width, wanted) in ROWS {
-        assert!(rt; both_give(&rt, &TWINS, "", *width, wanted));
+    const WAYS: &[(&str, By)] = &[("in turn", By::Turn), ("on threads", By::Threads)];
+    for row in ROWS {
+        for (way, by) in WAYS {
+            assert_eq!(rt; gives(&rt, row, by), Some(true), "{}, {way}", row.0);
+        }
     }
-}
-
-#[test]
-fn threads_read_a_wide_batch_in_order(rt: HostRuntime) {
-    let wanted = "ABCDEFGabcdefghijklmnopqrstuvwxyz:0 \
-                  A:32 :64 B:63 :62 C:61 :60 D:59 :58 E:57 :56 F:55 :54 G:53 :52 a:51 :50 b:49 :48 c:47 :46 d:45 :44 \
-                  e:43 :42 f:41 :40 g:39 :38 h:37 :36 i:35 :34 j:33 :32 k:31 :30 l:29 :28 m:27 :26 n:25 :24 o:23 :22 \
-                  p:21 :20 q:19 :18 r:17 :16 s:15 :14 t:13 :12 u:11 :10 v:9 :8 w:7 :6 x:5 :4 y:3 :2 z:1 :0 ";
-    assert!(rt; both_give(&rt, &MANY, "", 64, wanted));
-}
-
-#[test]
-fn a_refusal_in_the_middle_of_a_batch_ends_the_walk(rt: HostRuntime) {
-    let wanted = "ABCDEFGabcdefghijklmnopqrstuvwxyz:0 refused:0 ";
-    assert!(rt; both_give(&rt, &MANY, "/r/e", 64, wanted));
 }

@@ -2,7 +2,6 @@
 use crate::given::{address, counts, is, is_at};
 use jwalk_board::board::{Board, FinishFault, FinishRefusal, HandOutRefusal, TakeRefusal};
 use std::alloc::Global;
-use std::process::Abort;
 
 type Names = Board<&'static str, &'static str>;
 
@@ -51,36 +50,20 @@ fn finish(
     Some(board.finish(address, reading, children))
 }
 
-fn finishes(
-    board: &mut Names,
-    alloc: Global,
-    indices: &[usize],
-    reading: &'static str,
-    children: &[&'static str],
-) -> bool {
-    matches!(
-        finish(board, alloc, indices, reading, children),
-        Some(Ok(()))
-    )
-}
-
-fn finishes_root(board: &mut Names, alloc: Global, child_count: usize) -> bool {
-    match vec![in alloc; "n"; child_count] {
-        Ok(children) => finishes(board, alloc, &[0], "r", children.as_slice()),
-        Err(_) => false,
-    }
-}
-
-fn gives_back(fault: &Fault, indices: &[usize]) -> bool {
-    fault.cause == FinishRefusal::NotInHand
-        && is(&fault.address, indices)
-        && fault.reading == "x"
-        && fault.children.as_slice() == ["y"].as_slice()
+fn finishes_root(board: &mut Names, alloc: Global, child_count: usize) -> Option<bool> {
+    let children = vec![in alloc; "n"; child_count].ok()?;
+    let finished = finish(board, alloc, &[0], "r", children.as_slice())?;
+    Some(finished.is_ok())
 }
 
 fn finishes_none(board: &mut Names, alloc: Global, indices: &[usize]) -> bool {
     match &finish(board, alloc, indices, "x", &["y"]) {
-        Some(Err(fault)) => gives_back(fault, indices),
+        Some(Err(fault)) => {
+            fault.cause == FinishRefusal::NotInHand
+                && is(&fault.address, indices)
+                && fault.reading == "x"
+                && fault.children.as_slice() == ["y"].as_slice()
+        }
         _ => false,
     }
 }
@@ -107,7 +90,7 @@ fn goes_down(board: &mut Names, alloc: Global, indices: &[usize]) -> bool {
     for length in 1..indices.len() {
         let above = &indices[..length];
         if !takes(board, Ok(above))
-            || !finishes(board, alloc, above, "d", &["d"])
+            || !matches!(finish(board, alloc, above, "d", &["d"]), Some(Ok(())))
             || !hands_out(board, Ok((above, 1)))
         {
             return false;
@@ -116,120 +99,122 @@ fn goes_down(board: &mut Names, alloc: Global, indices: &[usize]) -> bool {
     true
 }
 
-fn stops(board: &mut Names) -> bool {
-    board.stop();
-    board.is_stopped()
-}
-
 fn goes(board: &mut Names, alloc: Global, step: &Step) -> bool {
     match step {
         Step::Takes(wanted) => takes(board, *wanted),
         Step::Finishes(indices, reading, children) => {
-            finishes(board, alloc, indices, reading, children)
+            matches!(
+                finish(board, alloc, indices, reading, children),
+                Some(Ok(()))
+            )
         }
-        Step::FinishesRoot(child_count) => finishes_root(board, alloc, *child_count),
+        Step::FinishesRoot(child_count) => finishes_root(board, alloc, *child_count) == Some(true),
         Step::FinishesNone(indices) => finishes_none(board, alloc, indices),
         Step::HandsOut(wanted) => hands_out(board, *wanted),
         Step::HandsOutNext(indices, child_count) => hands_out_next(board, indices, *child_count),
         Step::GoesDown => goes_down(board, alloc, [0; 300].as_slice()),
         Step::Counts(wanted) => counts(board) == *wanted,
-        Step::Stops => stops(board),
+        Step::Stops => {
+            board.stop();
+            board.is_stopped()
+        }
     }
 }
 
-// Returns the number of the first step that is wrong.
-fn wrong(board: &mut Names, alloc: Global, steps: &[Step]) -> Option<usize> {
+// Returns the number of the first step that is wrong, on a board of so many roots.
+fn first_wrong(alloc: Global, root_count: usize, steps: &[Step]) -> Option<usize> {
+    let Ok(roots) = vec![in alloc; "r"; root_count] else {
+        return Some(0);
+    };
+    let Ok(mut board) = Board::new(roots) else {
+        return Some(0);
+    };
     for (number, step) in steps.iter().enumerate() {
-        if !goes(board, alloc, step) {
+        if !goes(&mut board, alloc, step) {
             return Some(number);
         }
     }
     None
 }
 
-fn first_wrong(alloc: Global, root_count: usize, steps: &[Step]) -> Option<usize> {
-    let Ok(roots) = vec![in alloc; "r"; root_count] else {
-        return Some(0);
-    };
-    match Board::new(roots) {
-        Ok(mut board) => wrong(&mut board, alloc, steps),
-        Err(_) => Some(0),
+// What a row shows, the number of roots, and the steps.
+const ROWS: &[(&str, usize, &[Step])] = &[
+    (
+        "a root with two leaves is handed out in order",
+        1,
+        &[
+            Step::Takes(Ok(&[0])),
+            Step::Finishes(&[0], "r", &["a", "b"]),
+            Step::Takes(Ok(&[0, 0])),
+            Step::Takes(Ok(&[0, 1])),
+            Step::Takes(Err(TakeRefusal::Empty)),
+            Step::Finishes(&[0, 1], "b", &[]),
+            Step::HandsOut(Ok((&[0], 2))),
+            Step::HandsOut(Err(HandOutRefusal::NotReady)),
+            Step::Counts([0, 1, 1, 1]),
+            Step::Finishes(&[0, 0], "a", &[]),
+            Step::HandsOut(Ok((&[0, 0], 0))),
+            Step::HandsOut(Ok((&[0, 1], 0))),
+            Step::HandsOut(Err(HandOutRefusal::Done)),
+            Step::Takes(Err(TakeRefusal::Done)),
+            Step::Stops,
+            Step::Takes(Err(TakeRefusal::Stopped)),
+        ],
+    ),
+    (
+        "the next reading is handed out once it is ready",
+        2,
+        &[
+            Step::Takes(Ok(&[0])),
+            Step::Takes(Ok(&[1])),
+            Step::Finishes(&[1], "b", &[]),
+            Step::HandsOut(Err(HandOutRefusal::NotReady)),
+            Step::Finishes(&[0], "a", &["c"]),
+            Step::HandsOutNext(&[0], 1),
+            Step::Takes(Ok(&[0, 0])),
+            Step::Finishes(&[0, 0], "c", &[]),
+            Step::HandsOutNext(&[0, 0], 0),
+            Step::HandsOutNext(&[1], 0),
+            Step::Counts([0, 0, 0, 0]),
+        ],
+    ),
+    (
+        "only what is in hand is finished",
+        1,
+        &[
+            Step::Takes(Ok(&[0])),
+            Step::Finishes(&[0], "r", &["a", "b"]),
+            Step::FinishesNone(&[0, 5]),
+            Step::Counts([2, 0, 1, 2]),
+            Step::FinishesNone(&[0]),
+            Step::Counts([2, 0, 1, 2]),
+        ],
+    ),
+    (
+        "a long chain is finished and handed out",
+        1,
+        &[Step::GoesDown, Step::Counts([1, 0, 0, 1])],
+    ),
+    (
+        "many roots have many children",
+        3000,
+        &[
+            Step::Takes(Ok(&[0])),
+            Step::FinishesRoot(3000),
+            Step::Counts([5999, 0, 1, 5999]),
+            Step::HandsOut(Ok((&[0], 3000))),
+            Step::Takes(Ok(&[0, 0])),
+        ],
+    ),
+];
+
+#[test]
+fn boards_go_step_by_step(rt: HostRuntime) {
+    for (shown, root_count, steps) in ROWS {
+        assert_eq!(rt;
+            first_wrong(rt.alloc(), *root_count, steps),
+            None,
+            "{shown}"
+        );
     }
-}
-
-// Asserts that each step has its outcome.
-fn all_go(rt: &(impl Abort + AllocGlobal), root_count: usize, steps: &[Step]) {
-    assert_eq!(rt; first_wrong(rt.alloc(), root_count, steps), None);
-}
-
-#[test]
-fn a_root_with_two_leaves_is_handed_out_in_order(rt: HostRuntime) {
-    const STEPS: &[Step] = &[
-        Step::Takes(Ok(&[0])),
-        Step::Finishes(&[0], "r", &["a", "b"]),
-        Step::Takes(Ok(&[0, 0])),
-        Step::Takes(Ok(&[0, 1])),
-        Step::Takes(Err(TakeRefusal::Empty)),
-        Step::Finishes(&[0, 1], "b", &[]),
-        Step::HandsOut(Ok((&[0], 2))),
-        Step::HandsOut(Err(HandOutRefusal::NotReady)),
-        Step::Counts([0, 1, 1, 1]),
-        Step::Finishes(&[0, 0], "a", &[]),
-        Step::HandsOut(Ok((&[0, 0], 0))),
-        Step::HandsOut(Ok((&[0, 1], 0))),
-        Step::HandsOut(Err(HandOutRefusal::Done)),
-        Step::Takes(Err(TakeRefusal::Done)),
-        Step::Stops,
-        Step::Takes(Err(TakeRefusal::Stopped)),
-    ];
-    all_go(&rt, 1, STEPS);
-}
-
-#[test]
-fn the_next_reading_is_handed_out_once_it_is_ready(rt: HostRuntime) {
-    const STEPS: &[Step] = &[
-        Step::Takes(Ok(&[0])),
-        Step::Takes(Ok(&[1])),
-        Step::Finishes(&[1], "b", &[]),
-        Step::HandsOut(Err(HandOutRefusal::NotReady)),
-        Step::Finishes(&[0], "a", &["c"]),
-        Step::HandsOutNext(&[0], 1),
-        Step::Takes(Ok(&[0, 0])),
-        Step::Finishes(&[0, 0], "c", &[]),
-        Step::HandsOutNext(&[0, 0], 0),
-        Step::HandsOutNext(&[1], 0),
-        Step::Counts([0, 0, 0, 0]),
-    ];
-    all_go(&rt, 2, STEPS);
-}
-
-#[test]
-fn only_what_is_in_hand_is_finished(rt: HostRuntime) {
-    const STEPS: &[Step] = &[
-        Step::Takes(Ok(&[0])),
-        Step::Finishes(&[0], "r", &["a", "b"]),
-        Step::FinishesNone(&[0, 5]),
-        Step::Counts([2, 0, 1, 2]),
-        Step::FinishesNone(&[0]),
-        Step::Counts([2, 0, 1, 2]),
-    ];
-    all_go(&rt, 1, STEPS);
-}
-
-#[test]
-fn a_long_chain_is_finished_and_handed_out(rt: HostRuntime) {
-    const STEPS: &[Step] = &[Step::GoesDown, Step::Counts([1, 0, 0, 1])];
-    all_go(&rt, 1, STEPS);
-}
-
-#[test]
-fn many_roots_have_many_children(rt: HostRuntime) {
-    const STEPS: &[Step] = &[
-        Step::Takes(Ok(&[0])),
-        Step::FinishesRoot(3000),
-        Step::Counts([5999, 0, 1, 5999]),
-        Step::HandsOut(Ok((&[0], 3000))),
-        Step::Takes(Ok(&[0, 0])),
-    ];
-    all_go(&rt, 3000, STEPS);
 }

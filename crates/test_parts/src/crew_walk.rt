@@ -17,11 +17,6 @@ const PREORDER: [u8; 4] = [0, 1, 3, 2];
 // The readings of a family from two roots, of which the second has no children.
 const OF_TWO_ROOTS: [u8; 5] = [0, 1, 3, 2, 3];
 
-/// Returns whether these are the readings.
-fn are(found: Option<Vec<u8>>, wanted: &[u8]) -> bool {
-    matches!(&found, Some(found) if found.as_slice() == wanted)
-}
-
 fn whole_family<R: Wait + Threads + Clock + Drop + Send + Sync + 'static>(
     alloc: Global,
     place: Place<R>,
@@ -63,18 +58,7 @@ fn each<R: Wait + Threads + Clock + Drop + Send + Sync + 'static>(
     taken(alloc, &mut session, OF_TWO_ROOTS.len(), most)
 }
 
-/// The crew has one place. It reads one ahead, or as many as it has workers.
-fn crew<R: Wait + Clock + Clone + Drop>(
-    alloc: Global,
-    rt: &R,
-    workers: usize,
-) -> Option<Arc<Crew<R>>> {
-    let crew = Crew::new(rt.clone().ok()?, 1, workers);
-    Arc::new(alloc, crew.with_read_ahead(1)).ok()
-}
-
 /// The way in which the readings are taken.
-#[derive(Clone, Copy)]
 enum Pace {
     AllAtOnce,
     OneByOne,
@@ -84,7 +68,7 @@ enum Pace {
 fn takes<R: Wait + Threads + Clock + Drop + Send + Sync + 'static>(
     alloc: Global,
     crew: &Arc<Crew<R>>,
-    pace: Pace,
+    pace: &Pace,
     most: usize,
 ) -> bool {
     for _ in 0..20 {
@@ -93,9 +77,13 @@ fn takes<R: Wait + Threads + Clock + Drop + Send + Sync + 'static>(
         };
         let is_right = match pace {
             Pace::AllAtOnce => {
-                are(whole_family(alloc, place), PREORDER.as_slice()) && crew.in_use() == 0
+                let found = whole_family(alloc, place);
+                found.as_deref() == Some(PREORDER.as_slice()) && crew.in_use() == 0
             }
-            Pace::OneByOne => are(each(alloc, place, most), OF_TWO_ROOTS.as_slice()),
+            Pace::OneByOne => {
+                let found = each(alloc, place, most);
+                found.as_deref() == Some(OF_TWO_ROOTS.as_slice())
+            }
         };
         if !is_right {
             return false;
@@ -104,34 +92,31 @@ fn takes<R: Wait + Threads + Clock + Drop + Send + Sync + 'static>(
     crew.late_wakes() == 0
 }
 
-/// The crews are of one, of two and of four workers.
-fn crews_take<R: Wait + Threads + Clock + Clone + Drop + Send + Sync + 'static>(
+/// The crew has one place. It reads one ahead, or as many as it has workers.
+fn crew_takes<R: Wait + Threads + Clock + Clone + Drop + Send + Sync + 'static>(
     alloc: Global,
     rt: &R,
-    pace: Pace,
-) -> bool {
-    for workers in [1, 2, 4] {
-        let Some(crew) = crew(alloc, rt, workers) else {
-            return false;
-        };
-        if !takes(alloc, &crew, pace, workers + 1) {
-            return false;
+    pace: &Pace,
+    workers: usize,
+) -> Option<bool> {
+    let crew = Crew::new(rt.clone().ok()?, 1, workers).with_read_ahead(1);
+    let crew = Arc::new(alloc, crew).ok()?;
+    Some(takes(alloc, &crew, pace, workers.saturating_add(1)))
+}
+
+#[test]
+fn readings_of_families_by_a_crew(rt: HostRuntime) {
+    const PACES: &[(&str, Pace)] = &[
+        ("all of a family", Pace::AllAtOnce),
+        ("those of two families one at a time", Pace::OneByOne),
+    ];
+    for (shown, pace) in PACES {
+        for workers in [1, 2, 4] {
+            let is_right = crew_takes(rt.alloc(), &rt, pace, workers);
+            assert_eq!(rt; is_right, Some(true), "{shown}, {workers} workers");
         }
     }
-    true
 }
-
-#[test]
-fn all_readings_of_a_family_by_a_crew(rt: HostRuntime) {
-    assert!(rt; crews_take(rt.alloc(), &rt, Pace::AllAtOnce));
-}
-
-#[test]
-fn readings_of_two_families_by_a_crew_one_at_a_time(rt: HostRuntime) {
-    assert!(rt; crews_take(rt.alloc(), &rt, Pace::OneByOne));
-}
-
-// Places.
 
 /// The place must be free, and is taken once until it is given back.
 fn is_one(mut places: Places) -> bool {
@@ -143,42 +128,31 @@ fn is_one(mut places: Places) -> bool {
     !again && places.in_use() == 0 && places.take() && places.places() == 1
 }
 
-#[test]
-fn one_place_is_free_until_it_is_taken(rt: HostRuntime) {
-    assert!(rt; is_one(Places::new(1)));
-    assert!(rt; is_one(Places::new(0)));
-}
-
-fn is_taken_once<R: Wait + Clock + Drop>(crew: &Arc<Crew<R>>) -> bool {
-    for _ in 0..2 {
-        let Ok(place) = Place::take(crew, None) else {
-            return false;
-        };
-        let other = Place::take(crew, Some(Duration::ZERO));
-        if !matches!(other, Err(NotStarted::Busy)) || crew.in_use() != 1 {
-            return false;
-        }
-        drop(place);
-    }
-    crew.in_use() == 0
-}
-
-/// Returns whether a crew that is made with this number of places has one.
+/// Returns whether a crew that is made with this number of places has one, which is taken once until it is given back.
 fn has_one_place<R: Wait + Clock + Clone + Drop>(
     alloc: Global,
     rt: &R,
     places: usize,
 ) -> Option<bool> {
     let crew = Arc::new(alloc, Crew::new(rt.clone().ok()?, places, 1)).ok()?;
-    Some(is_taken_once(&crew))
+    for _ in 0..2 {
+        let place = Place::take(&crew, None).ok()?;
+        let other = Place::take(&crew, Some(Duration::ZERO));
+        if !matches!(other, Err(NotStarted::Busy)) || crew.in_use() != 1 {
+            return Some(false);
+        }
+        drop(place);
+    }
+    Some(crew.in_use() == 0)
 }
 
 #[test]
-fn a_place_is_taken_once_until_it_is_given_back(rt: HostRuntime) {
-    assert!(rt; has_one_place(rt.alloc(), &rt, 1) == Some(true));
-}
-
-#[test]
-fn no_places_count_as_one(rt: HostRuntime) {
-    assert!(rt; has_one_place(rt.alloc(), &rt, 0) == Some(true));
+fn one_place_is_taken_once_and_no_places_count_as_one(rt: HostRuntime) {
+    for places in [0, 1] {
+        assert!(rt; is_one(Places::new(places)), "{places}");
+        assert!(rt;
+            has_one_place(rt.alloc(), &rt, places) == Some(true),
+            "a crew of {places}"
+        );
+    }
 }

@@ -4,6 +4,7 @@ ghost use Rattle.jwalk_model.specs.Tree.{functions_of, only_root};
 use jwalk_fs::fault::Fault;
 use jwalk_fs::file_system::FileSystem;
 use jwalk_fs::listed::Listed;
+use jwalk_memory_fs::build_error::BuildError;
 use jwalk_model::file_type::FileType;
 use jwalk_model::metadata::Metadata;
 use std::alloc::{AllocError, AllocFailed, Allocator, Global};
@@ -58,51 +59,42 @@ fn length<S: FileSystem>(fs: S) -> Option<u64> {
     }
 }
 
-#[test]
-fn answers_may_change(rt: HostRuntime) {
-    let fs = Growing { len: Cell::new(0) };
-    assert!(rt; [length(&fs), length(&fs), length(fs)] == [Some(1), Some(2), Some(3)]);
-}
-
-fn is_text(answer: Result<String, Fault>, wanted: &str) -> bool {
-    match answer {
-        Ok(text) => text.as_str() == wanted,
-        Err(_) => false,
-    }
-}
-
 // Returns whether the four calls, made through the trait's bound, return what they return at first.
 fn answers<S: FileSystem>(alloc: Global, fs: S) -> bool {
     kind(fs.read_dir(alloc, "/f")) == Some(ErrorKind::NotADirectory)
         && fs.metadata("/f").ok() == Some(Metadata::new(FileType::File, 1))
         && fs.symlink_metadata("/f").ok() == Some(Metadata::new(FileType::Symlink, 0))
-        && is_text(fs.read_link(alloc, "/f"), "/f")
+        && matches!(fs.read_link(alloc, "/f"), Ok(text) if text.as_str() == "/f")
 }
 
 #[test]
-fn a_borrowed_file_system_answers(rt: HostRuntime) {
+fn a_borrowed_file_system_answers_and_answers_may_change(rt: HostRuntime) {
     let fs = Growing { len: Cell::new(0) };
     assert!(rt; answers(rt.alloc(), &fs));
+    let fs = Growing { len: Cell::new(0) };
+    assert!(rt; [length(&fs), length(&fs), length(fs)] == [Some(1), Some(2), Some(3)]);
 }
 
-fn fails<E: Drop>(error: E) -> Result<(), Fault>
-where
-    Fault: From<E>,
-{
+fn fails<E: Drop, F: From<E>>(error: E) -> Result<(), F> {
     Err(error)?
 }
 
 #[test]
-fn memory_that_ran_out_is_a_fault_of_its_own(rt: HostRuntime) {
-    assert!(rt; matches!(fails(AllocError), Err(Fault::Memory)));
-    assert!(rt; matches!(fails(AllocFailed { value: 7 }), Err(Fault::Memory)));
-}
-
-fn keeps(wanted: ErrorKind) -> bool {
-    kind(fails(io::Error::from(wanted))) == Some(wanted)
-}
-
-#[test]
-fn an_error_keeps_its_kind(rt: HostRuntime) {
-    assert!(rt; keeps(ErrorKind::NotFound) && keeps(ErrorKind::OutOfMemory));
+fn memory_that_ran_out_is_a_fault_of_its_own_and_an_error_keeps_its_kind(rt: HostRuntime) {
+    assert!(rt; matches!(fails::<_, Fault>(AllocError), Err(Fault::Memory)));
+    assert!(rt;
+        matches!(
+            fails::<_, Fault>(AllocFailed { value: 7 }),
+            Err(Fault::Memory)
+        )
+    );
+    assert!(rt;
+        matches!(
+            fails::<_, BuildError>(AllocFailed { value: 7 }),
+            Err(BuildError::Memory)
+        )
+    );
+    for wanted in [ErrorKind::NotFound, ErrorKind::OutOfMemory] {
+        assert_eq!(rt; kind(fails(io::Error::from(wanted))), Some(wanted));
+    }
 }

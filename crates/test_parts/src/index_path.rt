@@ -20,33 +20,22 @@ fn come_in_order(alloc: Global, lists: &[&[usize]]) -> Option<bool> {
     Some(gives(&mut heap, &[0]) && gives(&mut heap, &[0, 0]) && gives(&mut heap, &[0, 1]))
 }
 
-const ORDERS: &[&[&[usize]]] = &[
-    &[&[0], &[0, 0], &[0, 1]],
-    &[&[0], &[0, 1], &[0, 0]],
-    &[&[0, 0], &[0], &[0, 1]],
-    &[&[0, 0], &[0, 1], &[0]],
-    &[&[0, 1], &[0], &[0, 0]],
-    &[&[0, 1], &[0, 0], &[0]],
-];
-
 #[test]
 fn a_heap_gives_the_least_address_first(rt: HostRuntime) {
+    const ORDERS: &[&[&[usize]]] = &[
+        &[&[0], &[0, 0], &[0, 1]],
+        &[&[0], &[0, 1], &[0, 0]],
+        &[&[0, 0], &[0], &[0, 1]],
+        &[&[0, 0], &[0, 1], &[0]],
+        &[&[0, 1], &[0], &[0, 0]],
+        &[&[0, 1], &[0, 0], &[0]],
+    ];
     for lists in ORDERS {
-        assert!(rt; come_in_order(rt.alloc(), lists) == Some(true));
-    }
-}
-
-fn has_child(address: &IndexPath, index: usize, indices: &[usize]) -> bool {
-    match address.adding(index) {
-        Ok(child) => is(&child, indices),
-        Err(_) => false,
-    }
-}
-
-fn has_clone(address: &IndexPath) -> bool {
-    match address.try_clone() {
-        Ok(copy) => copy == *address,
-        Err(_) => false,
+        assert!(rt;
+            come_in_order(rt.alloc(), lists) == Some(true),
+            "{:?}",
+            lists
+        );
     }
 }
 
@@ -62,32 +51,27 @@ fn goes_about(address: &mut IndexPath) -> bool {
         && address.is_empty()
 }
 
+// Compares `adding` and `push`, over so many indices, of which the greatest is first.
+fn leads_down(alloc: Global, count: usize) -> Option<bool> {
+    let mut indices = Vec::new(alloc);
+    let mut added = address(alloc, &[])?;
+    let mut pushed = address(alloc, &[])?;
+    for index in (0..count).rev() {
+        indices.push(index).ok()?;
+        added = added.adding(index).ok()?;
+        pushed.push(index).ok()?;
+    }
+    let copy = pushed.try_clone().ok()?;
+    Some(is(&pushed, indices.as_slice()) && added == pushed && copy == pushed)
+}
+
 #[test]
-fn an_address_goes_down_and_up(rt: HostRuntime) {
+fn an_address_goes_down_and_up_and_may_be_long(rt: HostRuntime) {
     let Some(mut root) = address(rt.alloc(), &[0]) else {
         panic!(rt; "memory is there")
     };
-    assert!(rt; has_child(&root, 2, &[0, 2]) && has_clone(&root) && goes_about(&mut root));
-}
-
-// Compares `adding` and `push`, from no index down these.
-fn lead_down(alloc: Global, indices: &[usize]) -> Option<bool> {
-    let mut added = address(alloc, &[])?;
-    let mut pushed = address(alloc, &[])?;
-    for index in indices {
-        added = added.adding(*index).ok()?;
-        pushed.push(*index).ok()?;
-    }
-    Some(is(&pushed, indices) && added == pushed && has_clone(&pushed))
-}
-
-// The greatest index is first.
-fn lead_far_down(alloc: Global, count: usize) -> Option<bool> {
-    let indices: Vec<usize> = (0..count).rev().collect(alloc).ok()?;
-    lead_down(alloc, indices.as_slice())
-}
-
-#[test]
-fn an_address_may_be_long(rt: HostRuntime) {
-    assert!(rt; lead_far_down(rt.alloc(), 300) == Some(true));
+    assert!(rt; matches!(root.adding(2), Ok(child) if is(&child, &[0, 2])));
+    assert!(rt; matches!(root.try_clone(), Ok(copy) if copy == root));
+    assert!(rt; goes_about(&mut root));
+    assert!(rt; leads_down(rt.alloc(), 300) == Some(true));
 }

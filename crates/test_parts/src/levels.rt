@@ -8,25 +8,11 @@ use std::cell::Cell;
 #[derive(Drop)]
 pub(crate) struct Levels {
     /// The level that has no children.
-    last: u8,
+    pub(crate) last: u8,
     /// The number of children of each specification above it.
-    width: usize,
-    reads: Cell<usize>,
-}
-
-impl Levels {
-    pub(crate) fn new(last: u8, width: usize) -> Self {
-        Levels {
-            last,
-            width,
-            reads: Cell::new(0),
-        }
-    }
-
-    /// Counts the readings.
-    pub(crate) fn reads(&self) -> usize {
-        self.reads.get()
-    }
+    pub(crate) width: usize,
+    /// The number of readings.
+    pub(crate) reads: Cell<usize>,
 }
 
 impl Plan<Global> for Levels {

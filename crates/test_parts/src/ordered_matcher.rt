@@ -2,7 +2,7 @@
 use crate::given::address;
 use jwalk_order::ordered::Ordered;
 use jwalk_order::ordered_queue::OrderedMatcher;
-use std::alloc::{AllocError, Global};
+use std::alloc::Global;
 
 // The address must be the one that the matcher looks for.
 fn passes(
@@ -22,38 +22,37 @@ fn passes(
         .is_ok()
 }
 
+// The number of roots, if it is told, and the addresses that come, each with its number of children.
+type Row = (Option<usize>, &'static [(&'static [usize], usize)]);
+
 // No address may be left after them.
-fn passes_all(
-    alloc: Global,
-    matcher: Result<OrderedMatcher, AllocError>,
-    rows: &[(&[usize], usize)],
-) -> bool {
-    let Ok(mut matcher) = matcher else {
-        return false;
+fn passes_all(alloc: Global, (roots, addresses): &Row) -> Option<bool> {
+    let made = match roots {
+        Some(count) => OrderedMatcher::with_roots(alloc, *count),
+        None => OrderedMatcher::new(alloc),
     };
-    for (indices, child_count) in rows {
+    let mut matcher = made.ok()?;
+    for (indices, child_count) in *addresses {
         if !passes(alloc, &mut matcher, indices, *child_count) {
-            return false;
+            return Some(false);
         }
     }
-    matcher.is_none() && matcher.looking_for().is_empty()
+    Some(matcher.is_none() && matcher.looking_for().is_empty())
 }
 
+// A root with two leaves, a leaf below the first child, two roots, and none.
 #[test]
-fn a_root_with_two_leaves(rt: HostRuntime) {
-    const ROWS: &[(&[usize], usize)] = &[(&[0], 2), (&[0, 0], 0), (&[0, 1], 0)];
-    assert!(rt; passes_all(rt.alloc(), OrderedMatcher::new(rt.alloc()), ROWS));
-}
-
-#[test]
-fn a_leaf_below_the_first_child(rt: HostRuntime) {
-    const ROWS: &[(&[usize], usize)] = &[(&[0], 2), (&[0, 0], 1), (&[0, 0, 0], 0), (&[0, 1], 0)];
-    assert!(rt; passes_all(rt.alloc(), OrderedMatcher::new(rt.alloc()), ROWS));
-}
-
-#[test]
-fn two_roots_and_none(rt: HostRuntime) {
-    const ROWS: &[(&[usize], usize)] = &[(&[0], 0), (&[1], 0)];
-    assert!(rt; passes_all(rt.alloc(), OrderedMatcher::with_roots(rt.alloc(), 2), ROWS));
-    assert!(rt; passes_all(rt.alloc(), OrderedMatcher::with_roots(rt.alloc(), 0), &[]));
+fn each_address_comes_after_the_one_before(rt: HostRuntime) {
+    const ROWS: &[Row] = &[
+        (None, &[(&[0], 2), (&[0, 0], 0), (&[0, 1], 0)]),
+        (
+            None,
+            &[(&[0], 2), (&[0, 0], 1), (&[0, 0, 0], 0), (&[0, 1], 0)],
+        ),
+        (Some(2), &[(&[0], 0), (&[1], 0)]),
+        (Some(0), &[]),
+    ];
+    for row in ROWS {
+        assert_eq!(rt; passes_all(rt.alloc(), row), Some(true), "{:?}", row);
+    }
 }

@@ -3,7 +3,6 @@ use crate::given::{address, is};
 use jwalk_order::ordered::Ordered;
 use jwalk_order::ordered_queue::{OrderedQueue, Ordering, Step};
 use std::alloc::Global;
-use std::process::Abort;
 
 // The outcome of a step.
 #[derive(Clone, Copy)]
@@ -37,18 +36,17 @@ enum Turn {
 // The turns. None of them promises anything: a test that calls the queue itself carries each call's contract to its
 // end.
 
-fn item(alloc: Global, indices: &[usize], child_count: usize) -> Option<Ordered<()>> {
-    Some(Ordered::new((), address(alloc, indices)?, child_count))
-}
-
 fn lets_in(
     queue: &mut OrderedQueue<()>,
     alloc: Global,
     indices: &[usize],
     children: usize,
 ) -> bool {
-    match item(alloc, indices, children) {
-        Some(item) => queue.pending() < usize::MAX && queue.push(item).is_ok(),
+    match address(alloc, indices) {
+        Some(path) => {
+            let item = Ordered::new((), path, children);
+            queue.pending() < usize::MAX && queue.push(item).is_ok()
+        }
         None => false,
     }
 }
@@ -71,15 +69,6 @@ fn completes(queue: &mut OrderedQueue<()>) -> bool {
         }
     }
     queue.pending() == 0
-}
-
-fn stops(queue: &mut OrderedQueue<()>) -> bool {
-    queue.stop();
-    true
-}
-
-fn has_next(queue: &mut OrderedQueue<()>) -> bool {
-    queue.iter().next().is_some()
 }
 
 fn sorts_children(queue: &mut OrderedQueue<()>, alloc: Global, count: usize) -> bool {
@@ -117,139 +106,142 @@ fn goes(queue: &mut OrderedQueue<()>, alloc: Global, turn: &Turn) -> bool {
         Turn::Gives(wanted) => gives(queue, *wanted),
         Turn::Pends(count) => queue.pending() == *count,
         Turn::Completes => completes(queue),
-        Turn::Stops => stops(queue),
-        Turn::HasNext(wanted) => has_next(queue) == *wanted,
+        Turn::Stops => {
+            queue.stop();
+            true
+        }
+        Turn::HasNext(wanted) => queue.iter().next().is_some() == *wanted,
         Turn::Reserves(count) => queue.reserve(*count).is_ok(),
         Turn::SortsChildren(count) => sorts_children(queue, alloc, *count),
         Turn::SortsChain => sorts_chain(queue, alloc, [0; 300].as_slice()),
     }
 }
 
+// What a row shows, the order of the queue, the number of its roots, if it is told, and the turns.
+type Row = (&'static str, Ordering, Option<usize>, &'static [Turn]);
+
 // Returns the number of the first turn that is wrong.
-fn wrong(queue: &mut OrderedQueue<()>, alloc: Global, turns: &[Turn]) -> Option<usize> {
+fn first_wrong(alloc: Global, (_, ordering, roots, turns): &Row) -> Option<usize> {
+    let made = match roots {
+        Some(count) => OrderedQueue::with_roots(alloc, *ordering, *count),
+        None => OrderedQueue::new(alloc, *ordering),
+    };
+    let Ok(mut queue) = made else {
+        return Some(0);
+    };
     for (number, turn) in turns.iter().enumerate() {
-        if !goes(queue, alloc, turn) {
+        if !goes(&mut queue, alloc, turn) {
             return Some(number);
         }
     }
     None
 }
 
-fn first_wrong(alloc: Global, ordering: Ordering, turns: &[Turn]) -> Option<usize> {
-    match OrderedQueue::new(alloc, ordering) {
-        Ok(mut queue) => wrong(&mut queue, alloc, turns),
-        Err(_) => Some(0),
+const ROWS: &[Row] = &[
+    (
+        "a relaxed queue gives the least that is there",
+        Ordering::Relaxed,
+        None,
+        &[
+            Turn::LetsIn(&[0, 1], 0),
+            Turn::LetsIn(&[0], 0),
+            Turn::LetsIn(&[0, 0], 0),
+            Turn::Gives(Next::Item(&[0])),
+            Turn::Gives(Next::Item(&[0, 0])),
+            Turn::Gives(Next::Item(&[0, 1])),
+            Turn::Gives(Next::Nothing),
+            Turn::Pends(3),
+            Turn::Completes,
+            Turn::Gives(Next::End),
+        ],
+    ),
+    (
+        "a strict queue waits for the next address",
+        Ordering::Strict,
+        None,
+        &[
+            Turn::LetsIn(&[0, 0], 0),
+            Turn::Gives(Next::Nothing),
+            Turn::LetsIn(&[0], 1),
+            Turn::Gives(Next::Item(&[0])),
+            Turn::Gives(Next::Item(&[0, 0])),
+            Turn::Gives(Next::End),
+            Turn::Pends(2),
+        ],
+    ),
+    (
+        "a second item at a passed address holds a strict queue up",
+        Ordering::Strict,
+        None,
+        &[
+            Turn::LetsIn(&[0], 1),
+            Turn::LetsIn(&[0], 1),
+            Turn::LetsIn(&[0, 0], 0),
+            Turn::Gives(Next::Item(&[0])),
+            Turn::Gives(Next::Nothing),
+        ],
+    ),
+    (
+        "nothing comes of no roots",
+        Ordering::Strict,
+        Some(0),
+        &[Turn::Gives(Next::End)],
+    ),
+    (
+        "nothing comes after a stop",
+        Ordering::Relaxed,
+        None,
+        &[Turn::LetsIn(&[0], 0), Turn::Stops, Turn::Gives(Next::End)],
+    ),
+    (
+        "an iterator gives what can come",
+        Ordering::Strict,
+        None,
+        &[
+            Turn::LetsIn(&[0, 1], 0),
+            Turn::LetsIn(&[0], 2),
+            Turn::HasNext(true),
+            Turn::HasNext(false),
+            Turn::Gives(Next::Nothing),
+        ],
+    ),
+    (
+        "many pushes succeed after a reserve",
+        Ordering::Relaxed,
+        None,
+        &[Turn::Reserves(3000), Turn::SortsChildren(3000)],
+    ),
+    (
+        "a strict queue gives a long chain",
+        Ordering::Strict,
+        None,
+        &[Turn::SortsChain, Turn::Gives(Next::Nothing)],
+    ),
+];
+
+#[test]
+fn queues_go_turn_by_turn(rt: HostRuntime) {
+    for row in ROWS {
+        assert_eq!(rt; first_wrong(rt.alloc(), row), None, "{}", row.0);
     }
-}
-
-// Asserts that each turn has its outcome.
-fn all_go(rt: &(impl Abort + AllocGlobal), ordering: Ordering, turns: &[Turn]) {
-    assert_eq!(rt; first_wrong(rt.alloc(), ordering, turns), None);
-}
-
-#[test]
-fn a_relaxed_queue_gives_the_least_that_is_there(rt: HostRuntime) {
-    const TURNS: &[Turn] = &[
-        Turn::LetsIn(&[0, 1], 0),
-        Turn::LetsIn(&[0], 0),
-        Turn::LetsIn(&[0, 0], 0),
-        Turn::Gives(Next::Item(&[0])),
-        Turn::Gives(Next::Item(&[0, 0])),
-        Turn::Gives(Next::Item(&[0, 1])),
-        Turn::Gives(Next::Nothing),
-        Turn::Pends(3),
-        Turn::Completes,
-        Turn::Gives(Next::End),
-    ];
-    all_go(&rt, Ordering::Relaxed, TURNS);
-}
-
-#[test]
-fn a_strict_queue_waits_for_the_next_address(rt: HostRuntime) {
-    const TURNS: &[Turn] = &[
-        Turn::LetsIn(&[0, 0], 0),
-        Turn::Gives(Next::Nothing),
-        Turn::LetsIn(&[0], 1),
-        Turn::Gives(Next::Item(&[0])),
-        Turn::Gives(Next::Item(&[0, 0])),
-        Turn::Gives(Next::End),
-        Turn::Pends(2),
-    ];
-    all_go(&rt, Ordering::Strict, TURNS);
-}
-
-#[test]
-fn a_second_item_at_a_passed_address_holds_a_strict_queue_up(rt: HostRuntime) {
-    const TURNS: &[Turn] = &[
-        Turn::LetsIn(&[0], 1),
-        Turn::LetsIn(&[0], 1),
-        Turn::LetsIn(&[0, 0], 0),
-        Turn::Gives(Next::Item(&[0])),
-        Turn::Gives(Next::Nothing),
-    ];
-    all_go(&rt, Ordering::Strict, TURNS);
-}
-
-fn of_no_roots_is_done(alloc: Global) -> bool {
-    match OrderedQueue::<(), Global>::with_roots(alloc, Ordering::Strict, 0) {
-        Ok(mut queue) => gives(&mut queue, Next::End),
-        Err(_) => false,
-    }
-}
-
-#[test]
-fn nothing_comes_of_no_roots_or_after_a_stop(rt: HostRuntime) {
-    const TURNS: &[Turn] = &[Turn::LetsIn(&[0], 0), Turn::Stops, Turn::Gives(Next::End)];
-    assert!(rt; of_no_roots_is_done(rt.alloc()));
-    all_go(&rt, Ordering::Relaxed, TURNS);
 }
 
 // Reserves two first.
-fn lets_two_in(alloc: Global, first: Ordered<()>, second: Ordered<()>) -> bool {
-    let Ok(mut queue) = OrderedQueue::new(alloc, Ordering::Relaxed) else {
-        return false;
-    };
+fn takes_two(alloc: Global) -> Option<bool> {
+    let first = Ordered::new((), address(alloc, &[0])?, 0);
+    let second = Ordered::new((), address(alloc, &[0, 0])?, 0);
+    let mut queue = OrderedQueue::new(alloc, Ordering::Relaxed).ok()?;
     if queue.reserve(2).is_err() {
-        return false;
+        return Some(false);
     }
     let first = queue.push(first).is_ok();
     prove!(first);
     let second = queue.push(second).is_ok();
     prove!(second);
-    first && second
-}
-
-fn takes_two(alloc: Global) -> Option<bool> {
-    let first = item(alloc, &[0], 0)?;
-    let second = item(alloc, &[0, 0], 0)?;
-    Some(lets_two_in(alloc, first, second))
+    Some(first && second)
 }
 
 #[test]
 fn two_pushes_succeed_after_a_reserve_of_two(rt: HostRuntime) {
     assert!(rt; takes_two(rt.alloc()) == Some(true));
-}
-
-#[test]
-fn an_iterator_gives_what_can_come(rt: HostRuntime) {
-    const TURNS: &[Turn] = &[
-        Turn::LetsIn(&[0, 1], 0),
-        Turn::LetsIn(&[0], 2),
-        Turn::HasNext(true),
-        Turn::HasNext(false),
-        Turn::Gives(Next::Nothing),
-    ];
-    all_go(&rt, Ordering::Strict, TURNS);
-}
-
-#[test]
-fn many_pushes_succeed_after_a_reserve(rt: HostRuntime) {
-    const TURNS: &[Turn] = &[Turn::Reserves(3000), Turn::SortsChildren(3000)];
-    all_go(&rt, Ordering::Relaxed, TURNS);
-}
-
-#[test]
-fn a_strict_queue_gives_a_long_chain(rt: HostRuntime) {
-    const TURNS: &[Turn] = &[Turn::SortsChain, Turn::Gives(Next::Nothing)];
-    all_go(&rt, Ordering::Strict, TURNS);
 }

@@ -1,7 +1,6 @@
 //! Path texts that name the same place, and the parts of joined ones. Names, parents, same paths and joins are proved
 //! to be those of the definitions, whose rows are in `PathRows.antt` of `jwalk_model`.
 use jwalk_fs::path_text::{join_parts, same_place};
-use std::alloc::Global;
 
 const PLACES: &[(&str, &str, bool)] = &[
     ("/r/a/b/c/../..", "/r/a", true),
@@ -18,18 +17,12 @@ const PLACES: &[(&str, &str, bool)] = &[
     ("a/b", "b", false),
 ];
 
-/// Asks in both orders.
-fn are_told(alloc: Global, a: &str, b: &str, same: bool) -> bool {
-    match (same_place(alloc, a, b), same_place(alloc, b, a)) {
-        (Ok(there), Ok(back)) => there == same && back == same,
-        _ => false,
-    }
-}
-
 #[test]
 fn texts_of_the_same_place(rt: HostRuntime) {
     for (a, b, same) in PLACES {
-        assert!(rt; are_told(rt.alloc(), a, b, *same), "{:?}, {:?}", a, b);
+        let there = same_place(rt.alloc(), a, b);
+        let back = same_place(rt.alloc(), b, a);
+        assert!(rt; there == Ok(*same) && back == Ok(*same), "{:?}, {:?}", a, b);
     }
 }
 

@@ -5,6 +5,7 @@ use jwalk_board::board::{Move, Plan};
 use jwalk_order::index_path::IndexPath;
 use jwalk_order::ordered::Ordered;
 use std::alloc::Global;
+use std::cell::Cell;
 use test_fixtures::family::{Family, MOVES};
 
 struct Outcome {
@@ -56,62 +57,6 @@ fn comes_to<P: Plan<Global, Spec = u8, Reading = u8>>(
     }
 }
 
-fn family_comes_to(
-    alloc: Global,
-    roots: &[u8],
-    workers: usize,
-    moves: &[Move],
-    wanted: &Outcome,
-) -> bool {
-    comes_to(alloc, &Family, roots, workers, moves, wanted)
-}
-
-static WHOLE: Outcome = Outcome {
-    taken: &[&[0], &[0, 0], &[0, 1], &[0, 0, 0]],
-    handed_out: &[
-        (&[0], 0, 2),
-        (&[0, 0], 1, 1),
-        (&[0, 0, 0], 3, 0),
-        (&[0, 1], 2, 0),
-    ],
-    left: [0, 0, 0, 0],
-};
-
-#[test]
-fn a_rehearsal_plays_every_move(rt: HostRuntime) {
-    assert!(rt; family_comes_to(rt.alloc(), &[0], 2, MOVES, &WHOLE));
-}
-
-static PART: Outcome = Outcome {
-    taken: &[&[0], &[0, 0], &[0, 1]],
-    handed_out: &[(&[0], 0, 2)],
-    left: [0, 1, 1, 1],
-};
-
-#[test]
-fn a_rehearsal_leaves_the_board_as_the_moves_did(rt: HostRuntime) {
-    assert!(rt; family_comes_to(rt.alloc(), &[0], 2, &MOVES[..9], &PART));
-}
-
-static WITHOUT_WORKERS: Outcome = Outcome {
-    taken: &[],
-    handed_out: &[],
-    left: [1, 0, 0, 1],
-};
-
-static WITHOUT_ROOTS: Outcome = Outcome {
-    taken: &[],
-    handed_out: &[],
-    left: [0, 0, 0, 0],
-};
-
-#[test]
-fn without_workers_or_roots_nothing_moves(rt: HostRuntime) {
-    const BOTH: &[Move] = &[Move::Take(0), Move::HandOut];
-    assert!(rt; family_comes_to(rt.alloc(), &[0], 0, BOTH, &WITHOUT_WORKERS));
-    assert!(rt; family_comes_to(rt.alloc(), &[], 2, BOTH, &WITHOUT_ROOTS));
-}
-
 // Worker 1 takes and finishes the second child, while worker 0 holds the first.
 const TURNED: &[Move] = &[
     Move::Take(0),
@@ -123,12 +68,74 @@ const TURNED: &[Move] = &[
     Move::HandOut,
 ];
 
-#[test]
-fn a_worker_may_finish_out_of_turn(rt: HostRuntime) {
-    assert!(rt; family_comes_to(rt.alloc(), &[0], 2, TURNED, &PART));
-}
+// One child is in hand, and the other one, which is ready, waits for it.
+static PART: Outcome = Outcome {
+    taken: &[&[0], &[0, 0], &[0, 1]],
+    handed_out: &[(&[0], 0, 2)],
+    left: [0, 1, 1, 1],
+};
+
+// What a row shows, the roots, the number of workers, the moves, and what they come to.
+type Row = (&'static str, &'static [u8], usize, &'static [Move], Outcome);
+
+const ROWS: &[Row] = &[
+    (
+        "every move is played",
+        &[0],
+        2,
+        MOVES,
+        Outcome {
+            taken: &[&[0], &[0, 0], &[0, 1], &[0, 0, 0]],
+            handed_out: &[
+                (&[0], 0, 2),
+                (&[0, 0], 1, 1),
+                (&[0, 0, 0], 3, 0),
+                (&[0, 1], 2, 0),
+            ],
+            left: [0, 0, 0, 0],
+        },
+    ),
+    (
+        "without workers nothing moves",
+        &[0],
+        0,
+        &[Move::Take(0), Move::HandOut],
+        Outcome {
+            taken: &[],
+            handed_out: &[],
+            left: [1, 0, 0, 1],
+        },
+    ),
+    (
+        "without roots nothing moves",
+        &[],
+        2,
+        &[Move::Take(0), Move::HandOut],
+        Outcome {
+            taken: &[],
+            handed_out: &[],
+            left: [0, 0, 0, 0],
+        },
+    ),
+];
 
 #[test]
-fn the_second_of_two_leaves_waits_for_the_first(rt: HostRuntime) {
-    assert!(rt; comes_to(rt.alloc(), &Levels::new(1, 2), &[0], 2, TURNED, &PART));
+fn a_rehearsal_of_a_family_plays_every_move(rt: HostRuntime) {
+    for (shown, roots, workers, moves, wanted) in ROWS {
+        let is_so = comes_to(rt.alloc(), &Family, roots, *workers, moves, wanted);
+        assert!(rt; is_so, "{shown}");
+    }
+}
+
+// A worker may finish out of turn, in a family and if there are only two leaves.
+#[test]
+fn a_rehearsal_leaves_the_board_as_the_moves_did(rt: HostRuntime) {
+    let leaves = Levels {
+        last: 1,
+        width: 2,
+        reads: Cell::new(0),
+    };
+    assert!(rt; comes_to(rt.alloc(), &Family, &[0], 2, &MOVES[..9], &PART));
+    assert!(rt; comes_to(rt.alloc(), &Family, &[0], 2, TURNED, &PART));
+    assert!(rt; comes_to(rt.alloc(), &leaves, &[0], 2, TURNED, &PART));
 }

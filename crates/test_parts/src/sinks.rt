@@ -8,6 +8,7 @@ use jwalk_model::seen::Seen;
 use std::alloc::{AllocError, Global};
 use std::io;
 use std::io::ErrorKind;
+use std::test::Fail;
 use test_fixtures::listed_directory::{Item, ListedDirectory};
 use test_fixtures::trees::{Step, tree};
 
@@ -21,13 +22,6 @@ struct Noted {
 }
 
 impl Noted {
-    fn new(alloc: Global, most: usize) -> Self {
-        Noted {
-            text: String::new(alloc),
-            most,
-        }
-    }
-
     /// Counts an item.
     fn count(&mut self) -> Result<(), AllocError> {
         if self.most == 0 {
@@ -83,62 +77,64 @@ fn listing_of<S: FileSystem>(
     fs: &S,
     path: &str,
     most: usize,
-) -> (String, Result<(), Fault>) {
-    let mut sink = Noted::new(alloc, most);
-    let listed = fs.read_dir_into(alloc, path, &mut sink);
-    (sink.text, listed)
+) -> Result<String, AllocError> {
+    let mut sink = Noted {
+        text: String::new(alloc),
+        most,
+    };
+    let outcome = fs.read_dir_into(alloc, path, &mut sink);
+    let mut text = sink.text;
+    match outcome {
+        Ok(()) => text.push_str("listed")?,
+        Err(Fault::Memory) => text.push_str("memory refused")?,
+        Err(Fault::Io(error)) => write!(text, "{:?}", error.kind())?,
+    }
+    Ok(text)
 }
 
+// Items come one after another, with errors in their places; a sink that fails ends the listing as memory does; and
+// nothing is given of a directory that can't be listed. A tree in memory gives children in the order of creation.
 #[test]
-fn items_come_one_after_another_with_errors_in_their_places(rt: HostRuntime) {
-    let (text, listed) = listing_of(rt.alloc(), &LISTED, "/d", 3);
-    assert!(rt; listed.is_ok());
-    assert!(rt; text.as_str() == "b File; InvalidFilename; a PermissionDenied; ");
-}
-
-#[test]
-fn a_sink_that_fails_ends_the_listing_as_memory_does(rt: HostRuntime) {
-    let (text, listed) = listing_of(rt.alloc(), &LISTED, "/d", 2);
-    assert!(rt; matches!(listed, Err(Fault::Memory)));
-    assert!(rt; text.as_str() == "b File; InvalidFilename; ");
-}
-
-#[test]
-fn nothing_is_given_of_a_directory_that_cannot_be_listed(rt: HostRuntime) {
-    let (text, listed) = listing_of(rt.alloc(), &LISTED, "/e", 3);
-    assert!(rt; matches!(listed, Err(Fault::Io(error)) if error.kind() == ErrorKind::NotFound));
-    assert!(rt; text.is_empty());
-}
-
-/// An error may be in place of a type.
-fn takes_types_alone(alloc: Global) -> Result<bool, AllocError> {
-    let mut sink = Noted::new(alloc, 3);
-    sink.take("b", Ok(FileType::File))?;
-    sink.take("a", Err(io::Error::from(ErrorKind::PermissionDenied)))?;
-    let whole = Metadata::new(FileType::File, 7);
-    sink.take_seen("c", Ok(Seen::Whole(whole)))?;
-    Ok(sink.text.as_str() == "b File; a PermissionDenied; c File 7; ")
-}
-
-#[test]
-fn a_type_alone_is_seen_as_such(rt: HostRuntime) {
-    assert!(rt; takes_types_alone(rt.alloc()) == Ok(true));
-}
-
-fn noted_of_a_tree(alloc: Global) -> Option<String> {
+fn listings(rt: HostRuntime) -> Result<(), Fail> {
+    const ROWS: &[(&str, usize, &str)] = &[
+        (
+            "/d",
+            3,
+            "b File; InvalidFilename; a PermissionDenied; listed",
+        ),
+        ("/d", 2, "b File; InvalidFilename; memory refused"),
+        ("/e", 3, "NotFound"),
+    ];
     const STEPS: &[Step] = &[
         Step::Dir("/d"),
         Step::File(7, "/d/b"),
         Step::Link("b", "/d/c"),
         Step::Dir("/d/a"),
     ];
-    let (text, listed) = listing_of(alloc, &tree(alloc, STEPS).ok()?, "/d", 3);
-    listed.ok()?;
-    Some(text)
+    let alloc = rt.alloc();
+    for (path, most, wanted) in ROWS {
+        let text = listing_of(alloc, &LISTED, path, *most)?;
+        assert_eq!(rt; text.as_str(), *wanted);
+    }
+    let text = listing_of(alloc, &tree(alloc, STEPS)?, "/d", 3)?;
+    assert_eq!(rt; text.as_str(), "b File 7; c Symlink 1; a Dir 0; listed");
+    Ok(())
 }
 
+/// An error may be in place of a type.
 #[test]
-fn a_tree_in_memory_gives_children_in_order_of_creation(rt: HostRuntime) {
-    let wanted = "b File 7; c Symlink 1; a Dir 0; ";
-    assert!(rt; noted_of_a_tree(rt.alloc()).as_deref() == Some(wanted));
+fn a_type_alone_is_seen_as_such(rt: HostRuntime) -> Result<(), AllocError> {
+    let mut sink = Noted {
+        text: String::new(rt.alloc()),
+        most: 3,
+    };
+    sink.take("b", Ok(FileType::File))?;
+    sink.take("a", Err(io::Error::from(ErrorKind::PermissionDenied)))?;
+    let whole = Metadata::new(FileType::File, 7);
+    sink.take_seen("c", Ok(Seen::Whole(whole)))?;
+    assert_eq!(rt;
+        sink.text.as_str(),
+        "b File; a PermissionDenied; c File 7; "
+    );
+    Ok(())
 }

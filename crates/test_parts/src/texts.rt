@@ -1,7 +1,8 @@
 //! Words, trees and failures, text by text.
-use std::alloc::{AllocError, Global};
+use std::alloc::Global;
 use std::io;
 use std::io::{ErrorKind, Read};
+use test_fixtures::texts::texts;
 use walk_text::asked::Asked;
 use walk_text::failure::Failure;
 use walk_text::input::read_tree;
@@ -9,16 +10,8 @@ use walk_text::read_by::ReadBy;
 use walk_text::tree::build_tree;
 use walk_text::words::parse_words;
 
-fn texts(alloc: Global, words: &[&str]) -> Result<Vec<String>, AllocError> {
-    let mut texts = Vec::new(alloc);
-    for word in words {
-        texts.push(String::from_str(alloc, word)?)?;
-    }
-    Ok(texts)
-}
-
 fn are_bad(alloc: Global, words: &[&str]) -> bool {
-    match texts(alloc, words) {
+    match texts(alloc, &[], words) {
         Ok(words) => parse_words(words.as_slice()).is_none(),
         Err(_) => false,
     }
@@ -75,28 +68,30 @@ fn are_same(asked: &Asked, wanted: &Asked) -> bool {
         && asked.read_by == wanted.read_by
 }
 
-fn ask_for(alloc: Global, words: &[&str], wanted: &Asked, root: &str) -> bool {
-    let Ok(words) = texts(alloc, words) else {
+// The root must be the last word.
+fn ask_for(alloc: Global, words: &[&str], wanted: &Asked) -> bool {
+    let Ok(words) = texts(alloc, &[], words) else {
+        return false;
+    };
+    let Some(root) = words.last() else {
         return false;
     };
     match parse_words(words.as_slice()) {
-        Some(request) => request.root == root && are_same(&request.asked, wanted),
+        Some(request) => request.root == root.as_str() && are_same(&request.asked, wanted),
         None => false,
     }
 }
 
-fn is_no_number(alloc: Global, number: &str) -> bool {
-    are_bad(alloc, &["--min", number, "--tree", "/t"])
-        && are_bad(alloc, &["--max", number, "--tree", "/t"])
-        && are_bad(alloc, &["--batch", number, "--tree", "/t"])
-        && are_bad(alloc, &["--crew", number, "--tree", "/t"])
-}
-
 // The number follows the names of options.
-fn is_number(alloc: Global, number: &str, value: usize) -> bool {
-    let max = Some(value);
+fn is_read_as(alloc: Global, number: &str, value: Option<usize>) -> bool {
+    let Some(value) = value else {
+        return are_bad(alloc, &["--min", number, "--tree", "/t"])
+            && are_bad(alloc, &["--max", number, "--tree", "/t"])
+            && are_bad(alloc, &["--batch", number, "--tree", "/t"])
+            && are_bad(alloc, &["--crew", number, "--tree", "/t"]);
+    };
     let batch = Asked {
-        max,
+        max: Some(value),
         read_by: Some(ReadBy::Batch(value)),
         ..Asked::nothing()
     };
@@ -104,24 +99,8 @@ fn is_number(alloc: Global, number: &str, value: usize) -> bool {
         read_by: Some(ReadBy::Crew(value)),
         ..batch
     };
-    ask_for(
-        alloc,
-        &["--max", number, "--batch", number, "/t"],
-        &batch,
-        "/t",
-    ) && ask_for(
-        alloc,
-        &["--max", number, "--crew", number, "/t"],
-        &crew,
-        "/t",
-    )
-}
-
-fn is_read_as(alloc: Global, number: &str, value: Option<usize>) -> bool {
-    match value {
-        Some(value) => is_number(alloc, number, value),
-        None => is_no_number(alloc, number),
-    }
+    ask_for(alloc, &["--max", number, "--batch", number, "/t"], &batch)
+        && ask_for(alloc, &["--max", number, "--crew", number, "/t"], &crew)
 }
 
 #[test]
@@ -146,17 +125,7 @@ fn numbers_have_up_to_20_digits_and_fit(rt: HostRuntime) {
     }
 }
 
-// The root of each is its last word.
-fn all_ask_for(alloc: Global, rows: &[&[&str]], wanted: &Asked) -> bool {
-    for words in rows {
-        if !matches!(words.last(), Some(root) if ask_for(alloc, words, wanted, root)) {
-            return false;
-        }
-    }
-    true
-}
-
-static ORDERED: Asked = Asked {
+const ORDERED: Asked = Asked {
     tree: true,
     sort: true,
     hidden: false,
@@ -167,7 +136,7 @@ static ORDERED: Asked = Asked {
     read_by: Some(ReadBy::Batch(3)),
 };
 
-static BY_CREW: Asked = Asked {
+const BY_CREW: Asked = Asked {
     tree: false,
     sort: true,
     hidden: false,
@@ -178,7 +147,7 @@ static BY_CREW: Asked = Asked {
     read_by: Some(ReadBy::Crew(3)),
 };
 
-static HIDDEN: Asked = Asked {
+const HIDDEN: Asked = Asked {
     tree: false,
     sort: false,
     hidden: true,
@@ -189,7 +158,7 @@ static HIDDEN: Asked = Asked {
     read_by: None,
 };
 
-static COUNTED: Asked = Asked {
+const COUNTED: Asked = Asked {
     tree: true,
     sort: false,
     hidden: false,
@@ -200,56 +169,50 @@ static COUNTED: Asked = Asked {
     read_by: None,
 };
 
-#[test]
-fn totals_are_asked_for_in_any_place(rt: HostRuntime) {
-    const ROWS: &[&[&str]] = &[
-        &["--tree", "--usage", "/r"],
-        &["--usage", "--tree", "/r"],
-        &["--tree", "--usage", "--usage"],
-    ];
-    assert!(rt; all_ask_for(rt.alloc(), ROWS, &COUNTED));
-}
-
-#[test]
-fn a_crew_is_named_in_any_place(rt: HostRuntime) {
-    const ROWS: &[&[&str]] = &[
-        &["--crew", "3", "--sort", "--max", "2", "/r"],
-        &["--sort", "--crew", "03", "--max", "2", "/r"],
-        &["--max", "2", "--sort", "--crew", "3", "/r"],
-    ];
-    assert!(rt; all_ask_for(rt.alloc(), ROWS, &BY_CREW));
-    assert!(rt; all_ask_for(rt.alloc(), &[&["--hidden", "--crew"]], &HIDDEN));
-}
-
+// A crew and totals are asked for in any place.
 #[test]
 fn options_come_in_any_order_and_the_root_last(rt: HostRuntime) {
-    const ROWS: &[&[&str]] = &[
-        &[
-            "--tree", "--sort", "--follow", "--max", "2", "--min", "1", "--batch", "3", "/r",
-        ],
-        &[
-            "--batch", "3", "--follow", "--sort", "--tree", "--min", "1", "--max", "2", "/r",
-        ],
-        &[
-            "--min", "01", "--max", "2", "--sort", "--batch", "03", "--follow", "--tree", "/r",
-        ],
-        &[
-            "--max", "2", "--batch", "3", "--tree", "--min", "1", "--follow", "--sort", "/r",
-        ],
+    const ROWS: &[(&Asked, &[&str])] = &[
+        (&COUNTED, &["--tree", "--usage", "/r"]),
+        (&COUNTED, &["--usage", "--tree", "/r"]),
+        (&COUNTED, &["--tree", "--usage", "--usage"]),
+        (&BY_CREW, &["--crew", "3", "--sort", "--max", "2", "/r"]),
+        (&BY_CREW, &["--sort", "--crew", "03", "--max", "2", "/r"]),
+        (&BY_CREW, &["--max", "2", "--sort", "--crew", "3", "/r"]),
+        (
+            &ORDERED,
+            &[
+                "--tree", "--sort", "--follow", "--max", "2", "--min", "1", "--batch", "3", "/r",
+            ],
+        ),
+        (
+            &ORDERED,
+            &[
+                "--batch", "3", "--follow", "--sort", "--tree", "--min", "1", "--max", "2", "/r",
+            ],
+        ),
+        (
+            &ORDERED,
+            &[
+                "--min", "01", "--max", "2", "--sort", "--batch", "03", "--follow", "--tree", "/r",
+            ],
+        ),
+        (
+            &ORDERED,
+            &[
+                "--max", "2", "--batch", "3", "--tree", "--min", "1", "--follow", "--sort", "/r",
+            ],
+        ),
+        (&HIDDEN, &["--hidden", "--tree"]),
+        (&HIDDEN, &["--hidden", "--hidden"]),
+        (&HIDDEN, &["--hidden", "--min"]),
+        (&HIDDEN, &["--hidden", "--batch"]),
+        (&HIDDEN, &["--hidden", "--crew"]),
+        (&HIDDEN, &["--hidden", "3"]),
     ];
-    const ROOTS: &[&[&str]] = &[
-        &["--hidden", "--tree"],
-        &["--hidden", "--hidden"],
-        &["--hidden", "--min"],
-        &["--hidden", "--batch"],
-        &["--hidden", "3"],
-    ];
-    assert!(rt; all_ask_for(rt.alloc(), ROWS, &ORDERED));
-    assert!(rt; all_ask_for(rt.alloc(), ROOTS, &HIDDEN));
-}
-
-fn is_bad_at(alloc: Global, lines: &[u8], number: usize) -> bool {
-    build_tree(alloc, lines).err() == Some(Failure::BadTree(number))
+    for (wanted, words) in ROWS {
+        assert!(rt; ask_for(rt.alloc(), words, wanted), "{:?}", words);
+    }
 }
 
 #[test]
@@ -291,7 +254,8 @@ fn the_first_bad_line_is_named(rt: HostRuntime) {
         (b"d /r\nx /r\nd /r\nx /n", 3),
     ];
     for (lines, number) in ROWS {
-        assert!(rt; is_bad_at(rt.alloc(), lines, *number), "{:?}", lines);
+        let failure = build_tree(rt.alloc(), lines).err();
+        assert_eq!(rt; failure, Some(Failure::BadTree(*number)), "{:?}", lines);
     }
 }
 
@@ -305,24 +269,15 @@ impl Read for Broken {
     }
 }
 
-fn failure_of<R: Read>(alloc: Global, input: &mut R) -> Option<Failure> {
-    read_tree(alloc, input).err()
-}
-
 #[test]
 fn an_input_is_read_whole_or_told(rt: HostRuntime) {
     let mut good = "d /r\n\nl \t/r/l\nf 18446744073709551615 /r/a b".as_bytes();
     let failures = [
-        failure_of(rt.alloc(), &mut good),
-        failure_of(rt.alloc(), &mut Broken(ErrorKind::Other)),
-        failure_of(rt.alloc(), &mut Broken(ErrorKind::OutOfMemory)),
+        read_tree(rt.alloc(), &mut good).err(),
+        read_tree(rt.alloc(), &mut Broken(ErrorKind::Other)).err(),
+        read_tree(rt.alloc(), &mut Broken(ErrorKind::OutOfMemory)).err(),
     ];
     assert!(rt; failures == [None, Some(Failure::BadTree(0)), Some(Failure::Memory)]);
-}
-
-fn reports(alloc: Global, failure: Failure, text: &str, status: u8) -> bool {
-    let mut err = Vec::new(alloc);
-    failure.report(&mut err) == status && err.as_slice() == text.as_bytes()
 }
 
 #[test]
@@ -335,6 +290,8 @@ fn each_failure_has_its_text_and_status(rt: HostRuntime) {
         (Failure::Output, "", 1),
     ];
     for (failure, text, status) in ROWS {
-        assert!(rt; reports(rt.alloc(), *failure, text, *status), "{:?}", text);
+        let mut err = Vec::new(rt.alloc());
+        assert_eq!(rt; failure.report(&mut err), *status, "{:?}", text);
+        assert!(rt; err.as_slice() == text.as_bytes(), "{:?}", text);
     }
 }

@@ -7,10 +7,9 @@ use jwalk_memory_fs::memory_fs::MemoryFs;
 use jwalk_model::file_type::FileType;
 use jwalk_model::metadata::Metadata;
 use linked_list_allocator::LocalHeap;
-use std::alloc::{AllocFailed, Allocator, Global};
+use std::alloc::Global;
 use std::io;
 use std::io::ErrorKind;
-use std::process::Abort;
 
 // A call that changes a tree.
 enum Change {
@@ -49,7 +48,7 @@ enum Step {
 
 // The steps. None of them promises anything: a test that calls the tree itself carries each call's contract to its end.
 
-fn changes<A: Allocator + Copy>(fs: &mut MemoryFs<A>, it: &Change) -> Result<(), BuildError> {
+fn changes(fs: &mut MemoryFs, it: &Change) -> Result<(), BuildError> {
     match it {
         Change::Dir(path) => fs.add_dir(path),
         Change::File(len, path) => fs.add_file(path, *len),
@@ -65,14 +64,6 @@ fn found(answer: Result<Metadata, Fault>) -> Found {
         Err(Fault::Io(e)) => Err(e.kind()),
         Err(Fault::Memory) => Err(ErrorKind::OutOfMemory),
     }
-}
-
-fn leads<A: Allocator + Copy>(fs: &MemoryFs<A>, path: &str, wanted: Found) -> bool {
-    found(fs.metadata(path)) == wanted
-}
-
-fn is(fs: &MemoryFs, path: &str, wanted: Found) -> bool {
-    found(fs.symlink_metadata(path)) == wanted
 }
 
 fn names(alloc: Global, items: &[io::Result<Listed>]) -> Option<String> {
@@ -93,13 +84,6 @@ fn lists(fs: &MemoryFs, alloc: Global, path: &str, wanted: &str) -> bool {
     }
 }
 
-fn reads(fs: &MemoryFs, alloc: Global, path: &str, wanted: &str) -> bool {
-    match fs.read_link(alloc, path) {
-        Ok(text) => text.as_str() == wanted,
-        Err(_) => false,
-    }
-}
-
 fn fails<T: Drop>(answer: Result<T, Fault>, wanted: ErrorKind) -> bool {
     match answer {
         Err(Fault::Io(e)) => e.kind() == wanted,
@@ -111,82 +95,94 @@ fn goes(fs: &mut MemoryFs, alloc: Global, step: &Step) -> bool {
     match step {
         Step::Does(it) => changes(fs, it).is_ok(),
         Step::Refuses(error, it) => changes(fs, it) == Err(*error),
-        Step::Leads(path, wanted) => leads(fs, path, *wanted),
-        Step::Is(path, wanted) => is(fs, path, *wanted),
+        Step::Leads(path, wanted) => found(fs.metadata(path)) == *wanted,
+        Step::Is(path, wanted) => found(fs.symlink_metadata(path)) == *wanted,
         Step::Lists(path, names) => lists(fs, alloc, path, names),
         Step::ListsNone(path, kind) => fails(fs.read_dir(alloc, path), *kind),
-        Step::Reads(path, target) => reads(fs, alloc, path, target),
+        Step::Reads(path, target) => {
+            matches!(fs.read_link(alloc, path), Ok(text) if text.as_str() == *target)
+        }
         Step::ReadsNone(path, kind) => fails(fs.read_link(alloc, path), *kind),
-        Step::ListsMany(count) => lists_all_children(fs, alloc, *count),
-        Step::IsDeep(levels) => is_deep(fs, alloc, *levels),
-        Step::DoesLinks(count) => adds_links(fs, alloc, *count),
+        Step::ListsMany(count) => lists_all_children(fs, alloc, *count) == Some(true),
+        Step::IsDeep(levels) => is_deep(fs, alloc, *levels) == Some(true),
+        Step::DoesLinks(count) => adds_links(fs, alloc, *count).is_some(),
     }
 }
 
-// Returns the number of the first step that is wrong.
-fn wrong(fs: &mut MemoryFs, alloc: Global, steps: &[Step]) -> Option<usize> {
-    for (number, step) in steps.iter().enumerate() {
-        if !goes(fs, alloc, step) {
+// Returns the number of the first step that is wrong, of those that build a tree and those over it.
+fn first_wrong(alloc: Global, tree: &[Step], steps: &[Step]) -> Option<usize> {
+    let mut fs = MemoryFs::new(alloc);
+    for (number, step) in tree.iter().chain(steps).enumerate() {
+        if !goes(&mut fs, alloc, step) {
             return Some(number);
         }
     }
     None
 }
 
-// The first number is of the steps that build the tree, the second of the steps over it.
-fn both_wrong(alloc: Global, tree: &[Step], steps: &[Step]) -> [Option<usize>; 2] {
-    let mut fs = MemoryFs::new(alloc);
-    let in_tree = wrong(&mut fs, alloc, tree);
-    let over_it = wrong(&mut fs, alloc, steps);
-    [in_tree, over_it]
+// Adds a number of files, and lists them.
+fn lists_all_children(fs: &mut MemoryFs, alloc: Global, count: u64) -> Option<bool> {
+    let mut names = String::new(alloc);
+    for number in 0..count {
+        let path = format!(in alloc; "/wide/{number}").ok()?;
+        fs.add_file(path.as_str(), number).ok()?;
+        if found(fs.metadata(path.as_str())) != Ok((FileType::File, number)) {
+            return Some(false);
+        }
+        write!(names, " {number}").ok()?;
+    }
+    Some(lists(fs, alloc, "/wide", names.as_str()))
 }
 
-// Asserts that each step has its outcome, over a tree that other steps build.
-fn go_over(rt: &(impl Abort + AllocGlobal), tree: &[Step], steps: &[Step]) {
-    assert_eq!(rt; both_wrong(rt.alloc(), tree, steps), [None, None]);
+// Adds nested directories, and their names to the path.
+fn goes_down(fs: &mut MemoryFs, path: &mut String, levels: u64) -> Option<()> {
+    for level in 0..levels {
+        write!(path, "/{level}").ok()?;
+        fs.add_dir(path.as_str()).ok()?;
+        path.push_str("/.").ok()?;
+    }
+    Some(())
+}
+
+// On the way up, the directory above each must have it.
+fn is_deep(fs: &mut MemoryFs, alloc: Global, levels: u64) -> Option<bool> {
+    let mut path = String::new(alloc);
+    goes_down(fs, &mut path, levels)?;
+    if found(fs.symlink_metadata(path.as_str())) != DIR {
+        return Some(false);
+    }
+    for level in (1..levels).rev() {
+        path.push_str("/..").ok()?;
+        let name = format!(in alloc; " {level}/").ok()?;
+        if !lists(fs, alloc, path.as_str(), name.as_str()) {
+            return Some(false);
+        }
+    }
+    path.push_str("/../0").ok()?;
+    Some(lists(fs, alloc, path.as_str(), " 1/"))
+}
+
+// Makes a link to each number below the count, at the number after it.
+fn adds_links(fs: &mut MemoryFs, alloc: Global, count: u64) -> Option<()> {
+    for number in 0..count {
+        let path = format!(in alloc; "/{}", number.wrapping_add(1)).ok()?;
+        let target = format!(in alloc; "{number}").ok()?;
+        fs.add_link(path.as_str(), target.as_str()).ok()?;
+    }
+    Some(())
 }
 
 const DIR: Found = Ok((FileType::Dir, 0));
 
 const FILE: Found = Ok((FileType::File, 7));
 
+const FILE_OF_3: Found = Ok((FileType::File, 3));
+
 // A directory that has a file.
 const SMALL: &[Step] = &[
     Step::Does(Change::Dir("/r")),
     Step::Does(Change::File(7, "/r/f")),
 ];
-
-#[test]
-fn metadata_of_paths(rt: HostRuntime) {
-    const STEPS: &[Step] = &[
-        Step::Leads("/r/f", FILE),
-        Step::Is("/r/f", FILE),
-        Step::Leads("r", DIR),
-        Step::Leads("/r/../.", DIR),
-        Step::Leads("", Err(ErrorKind::NotFound)),
-        Step::Leads("/r/f/x", Err(ErrorKind::Other)),
-    ];
-    go_over(&rt, SMALL, STEPS);
-}
-
-#[test]
-fn a_file_is_no_directory_and_no_link(rt: HostRuntime) {
-    const STEPS: &[Step] = &[
-        Step::ListsNone("/r/f", ErrorKind::InvalidInput),
-        Step::ReadsNone("/r/f", ErrorKind::InvalidInput),
-    ];
-    go_over(&rt, SMALL, STEPS);
-}
-
-#[test]
-fn refusals_of_building(rt: HostRuntime) {
-    const STEPS: &[Step] = &[
-        Step::Refuses(BuildError::AlreadyExists, Change::File(1, "/r/f")),
-        Step::Refuses(BuildError::NotFound, Change::Dir("/n/m")),
-        Step::Refuses(BuildError::NotFound, Change::Dir("/")),
-    ];
-    go_over(&rt, SMALL, STEPS);
-}
 
 // A directory with two others and files on two levels.
 const GROUPED: &[Step] = &[
@@ -200,134 +196,6 @@ const GROUPED: &[Step] = &[
     Step::Does(Change::File(5, "/t/group 1/d.txt")),
     Step::Does(Change::File(6, "/t/b.txt")),
 ];
-
-#[test]
-fn denied_directory_is_not_listed(rt: HostRuntime) {
-    const STEPS: &[Step] = &[
-        Step::Does(Change::Deny(ErrorKind::PermissionDenied, "/t/group 2")),
-        Step::ListsNone("/t/group 2", ErrorKind::PermissionDenied),
-        Step::Lists("/t/group 1", " d.txt"),
-        Step::Leads("/t/group 2", DIR),
-        Step::Leads("/t/group 2/e.txt", Ok((FileType::File, 4))),
-    ];
-    go_over(&rt, GROUPED, STEPS);
-}
-
-#[test]
-fn later_kind_replaces_the_first(rt: HostRuntime) {
-    const STEPS: &[Step] = &[
-        Step::Does(Change::Deny(ErrorKind::PermissionDenied, "/r")),
-        Step::Does(Change::Deny(ErrorKind::Other, "r/.")),
-        Step::ListsNone("/r", ErrorKind::Other),
-    ];
-    go_over(&rt, SMALL, STEPS);
-}
-
-#[test]
-fn refusals_of_denying(rt: HostRuntime) {
-    const STEPS: &[Step] = &[
-        Step::Refuses(
-            BuildError::NotFound,
-            Change::Deny(ErrorKind::PermissionDenied, "/r/f"),
-        ),
-        Step::Refuses(
-            BuildError::NotFound,
-            Change::Deny(ErrorKind::PermissionDenied, "/n"),
-        ),
-        Step::Refuses(
-            BuildError::NotFound,
-            Change::Deny(ErrorKind::PermissionDenied, "/"),
-        ),
-        Step::Refuses(
-            BuildError::NotFound,
-            Change::Deny(ErrorKind::PermissionDenied, ""),
-        ),
-    ];
-    go_over(&rt, SMALL, STEPS);
-}
-
-#[test]
-fn children_in_order_of_creation(rt: HostRuntime) {
-    const STEPS: &[Step] = &[
-        Step::Does(Change::Dir("/r/b")),
-        Step::Does(Change::File(0, "/r/a")),
-        Step::Lists("/r", " f b/ a"),
-    ];
-    go_over(&rt, SMALL, STEPS);
-}
-
-// Adds the name of the file to a text, too.
-fn adds_child(fs: &mut MemoryFs, alloc: Global, number: u64, names: &mut String) -> bool {
-    let Ok(path) = format!(in alloc; "/wide/{number}") else {
-        return false;
-    };
-    fs.add_file(path.as_str(), number).is_ok()
-        && leads(fs, path.as_str(), Ok((FileType::File, number)))
-        && write!(names, " {number}").is_ok()
-}
-
-fn lists_all_children(fs: &mut MemoryFs, alloc: Global, count: u64) -> bool {
-    let mut names = String::new(alloc);
-    for number in 0..count {
-        if !adds_child(fs, alloc, number, &mut names) {
-            return false;
-        }
-    }
-    lists(fs, alloc, "/wide", names.as_str())
-}
-
-#[test]
-fn five_thousand_children(rt: HostRuntime) {
-    const TREE: &[Step] = &[Step::Does(Change::Dir("/wide")), Step::ListsMany(5_000)];
-    const STEPS: &[Step] = &[
-        Step::Leads("/wide/5000", Err(ErrorKind::NotFound)),
-        Step::Refuses(BuildError::AlreadyExists, Change::Dir("/wide/2500")),
-    ];
-    go_over(&rt, TREE, STEPS);
-}
-
-// Adds the name of the new directory to its path.
-fn goes_down(fs: &mut MemoryFs, path: &mut String, level: u64) -> bool {
-    write!(path, "/{level}").is_ok()
-        && fs.add_dir(path.as_str()).is_ok()
-        && path.push_str("/.").is_ok()
-}
-
-// Adds `..` to the path. Its directory must have the one of this level.
-fn goes_up(fs: &MemoryFs, alloc: Global, path: &mut String, level: u64) -> bool {
-    match format!(in alloc; " {level}/") {
-        Ok(name) => path.push_str("/..").is_ok() && lists(fs, alloc, path.as_str(), name.as_str()),
-        Err(_) => false,
-    }
-}
-
-fn goes_down_to(fs: &mut MemoryFs, path: &mut String, levels: u64) -> bool {
-    for level in 0..levels {
-        if !goes_down(fs, path, level) {
-            return false;
-        }
-    }
-    is(fs, path.as_str(), DIR)
-}
-
-fn goes_up_from(fs: &MemoryFs, alloc: Global, path: &mut String, levels: u64) -> bool {
-    for level in (1..levels).rev() {
-        if !goes_up(fs, alloc, path, level) {
-            return false;
-        }
-    }
-    path.push_str("/../0").is_ok() && lists(fs, alloc, path.as_str(), " 1/")
-}
-
-fn is_deep(fs: &mut MemoryFs, alloc: Global, levels: u64) -> bool {
-    let mut path = String::new(alloc);
-    goes_down_to(fs, &mut path, levels) && goes_up_from(fs, alloc, &mut path, levels)
-}
-
-#[test]
-fn thirty_deep(rt: HostRuntime) {
-    go_over(&rt, &[], &[Step::IsDeep(30)]);
-}
 
 // A directory that has a file and a link to it, and links that lead there and elsewhere.
 const LINKED: &[Step] = &[
@@ -347,186 +215,241 @@ const LINKED: &[Step] = &[
     Step::Does(Change::Link("f", "/r/s")),
 ];
 
-#[test]
-fn metadata_through_links(rt: HostRuntime) {
-    const STEPS: &[Step] = &[
-        Step::Leads("/q/l", FILE),
-        Step::Leads("/r/f", FILE),
-        Step::Leads("/r/f/x", Err(ErrorKind::Other)),
-        Step::Leads("/q/..", DIR),
-        Step::Leads("r", DIR),
-        Step::Leads("", Err(ErrorKind::NotFound)),
-        Step::Leads("/r/l/", FILE),
-        Step::Leads("/r/l/x", Err(ErrorKind::Other)),
-        Step::Leads("/to_q/l", FILE),
-        Step::Leads("/to_q", DIR),
-        Step::Leads("/slash/f", FILE),
-        Step::Leads("/r/out", FILE),
-        Step::Leads("/r/whole", FILE),
-        Step::Leads("/broken", Err(ErrorKind::NotFound)),
-        Step::Leads("/empty", Err(ErrorKind::NotFound)),
-        Step::Leads("/a", Err(ErrorKind::Other)),
-        Step::Leads("/b/x", Err(ErrorKind::Other)),
-        Step::Leads("/below", Err(ErrorKind::Other)),
-    ];
-    go_over(&rt, LINKED, STEPS);
-}
-
-#[test]
-fn links_themselves(rt: HostRuntime) {
-    const STEPS: &[Step] = &[
-        Step::Is("/q/l", Ok((FileType::Symlink, 1))),
-        Step::Reads("/q/l", "f"),
-        Step::Is("/q", Ok((FileType::Symlink, 1))),
-        Step::Reads("/q", "r"),
-        Step::Is("/r/../slash/.", Ok((FileType::Symlink, 5))),
-        Step::Reads("/r/../slash/.", "./r//"),
-        Step::Is("/to_q/out", Ok((FileType::Symlink, 9))),
-        Step::Reads("/to_q/out", "../../r/f"),
-        Step::Is("/empty", Ok((FileType::Symlink, 0))),
-        Step::Reads("/empty", ""),
-        Step::Is("/a", Ok((FileType::Symlink, 1))),
-        Step::Reads("/a", "b"),
-        Step::ReadsNone("/q/..", ErrorKind::InvalidInput),
-        Step::ListsNone("/q/l", ErrorKind::InvalidInput),
-        Step::Lists("/to_q", " f l out whole s"),
-    ];
-    go_over(&rt, LINKED, STEPS);
-}
-
-#[test]
-fn up_after_a_link(rt: HostRuntime) {
-    const TREE: &[Step] = &[
-        Step::Does(Change::Dir("/r")),
-        Step::Does(Change::File(1, "/r/f")),
-        Step::Does(Change::Dir("/r/s")),
-        Step::Does(Change::Link("r/s", "/q")),
-    ];
-    const STEPS: &[Step] = &[Step::Leads("/q/../f", Ok((FileType::File, 1)))];
-    go_over(&rt, TREE, STEPS);
-}
-
-const FILE_OF_3: Found = Ok((FileType::File, 3));
-
-fn adds_link(fs: &mut MemoryFs, alloc: Global, from: u64, to: u64) -> bool {
-    let Ok(path) = format!(in alloc; "/{from}") else {
-        return false;
-    };
-    match format!(in alloc; "{to}") {
-        Ok(target) => fs.add_link(path.as_str(), target.as_str()).is_ok(),
-        Err(_) => false,
-    }
-}
-
-// Makes a link to each number below the count, at the number after it.
-fn adds_links(fs: &mut MemoryFs, alloc: Global, count: u64) -> bool {
-    for number in 0..count {
-        if !adds_link(fs, alloc, number.wrapping_add(1), number) {
-            return false;
-        }
-    }
-    true
-}
-
-#[test]
-fn forty_links_are_followed(rt: HostRuntime) {
-    const TREE: &[Step] = &[
-        Step::Does(Change::File(3, "/0")),
-        Step::Does(Change::Link("/", "/root")),
-        Step::DoesLinks(41),
-    ];
-    const STEPS: &[Step] = &[
-        Step::Leads("/40", FILE_OF_3),
-        Step::Leads("/41", Err(ErrorKind::Other)),
-        Step::Leads("/root/39", FILE_OF_3),
-        Step::Leads("/root/40", Err(ErrorKind::Other)),
-        Step::Leads("/root/root/38", FILE_OF_3),
-        Step::Leads("/root/root/39", Err(ErrorKind::Other)),
-    ];
-    go_over(&rt, TREE, STEPS);
-}
-
-#[test]
-fn building_through_links(rt: HostRuntime) {
-    const STEPS: &[Step] = &[
-        Step::Refuses(BuildError::AlreadyExists, Change::File(1, "/q/f")),
-        Step::Refuses(BuildError::AlreadyExists, Change::Link("r", "/broken")),
-        Step::Refuses(BuildError::NotFound, Change::Link("r", "/broken/x")),
-        Step::Refuses(BuildError::NotFound, Change::Link("r", "/r/l/x")),
-        Step::Refuses(BuildError::NotFound, Change::Link("r", "/q/..")),
-        Step::Refuses(
-            BuildError::NotFound,
-            Change::Deny(ErrorKind::PermissionDenied, "/q"),
-        ),
-        Step::Does(Change::Dir("/to_q/d")),
-        Step::Does(Change::Deny(ErrorKind::PermissionDenied, "/slash/d")),
-        Step::ListsNone("/r/d", ErrorKind::PermissionDenied),
-    ];
-    go_over(&rt, LINKED, STEPS);
-}
-
-#[test]
-fn only_what_is_there_is_removed(rt: HostRuntime) {
-    const STEPS: &[Step] = &[
-        Step::Refuses(BuildError::NotFound, Change::Remove("/")),
-        Step::Refuses(BuildError::NotFound, Change::Remove("")),
-        Step::Refuses(BuildError::NotFound, Change::Remove("/r/..")),
-        Step::Refuses(BuildError::NotFound, Change::Remove("/n/m")),
-        Step::Refuses(BuildError::NotFound, Change::Remove("/r/none")),
-        Step::Refuses(BuildError::NotFound, Change::Remove("/r/f/x")),
-        Step::Refuses(BuildError::NotFound, Change::Remove("/broken/x")),
-    ];
-    go_over(&rt, LINKED, STEPS);
-}
-
-#[test]
-fn removed_children(rt: HostRuntime) {
-    const STEPS: &[Step] = &[
-        Step::Does(Change::Remove("/r/f")),
-        Step::Does(Change::Remove("/slash/out")),
-        Step::Does(Change::Remove("/q")),
-        Step::Is("/r/f", Err(ErrorKind::NotFound)),
-        Step::Lists("/r", " l whole s"),
-    ];
-    go_over(&rt, LINKED, STEPS);
-}
-
-#[test]
-fn a_link_to_a_removed_directory_is_broken(rt: HostRuntime) {
-    const STEPS: &[Step] = &[
-        Step::Does(Change::Remove("/r")),
-        Step::Leads("/slash", Err(ErrorKind::NotFound)),
-        Step::Is("/slash", Ok((FileType::Symlink, 5))),
-        Step::Does(Change::Dir("/r")),
-        Step::Does(Change::File(9, "/r/g")),
-        Step::Lists("/slash", " g"),
-    ];
-    go_over(&rt, LINKED, STEPS);
-}
-
-const BUILT: &[Change] = &[
-    Change::Dir("/t"),
-    Change::Dir("/t/a"),
-    Change::Dir("/t/a/b"),
-    Change::Dir("/t/c"),
+// What a row shows, the steps that build a tree, and the steps over it.
+const ROWS: &[(&str, &[Step], &[Step])] = &[
+    (
+        "metadata of paths",
+        SMALL,
+        &[
+            Step::Leads("/r/f", FILE),
+            Step::Is("/r/f", FILE),
+            Step::Leads("r", DIR),
+            Step::Leads("/r/../.", DIR),
+            Step::Leads("", Err(ErrorKind::NotFound)),
+            Step::Leads("/r/f/x", Err(ErrorKind::Other)),
+        ],
+    ),
+    (
+        "a file is no directory and no link",
+        SMALL,
+        &[
+            Step::ListsNone("/r/f", ErrorKind::InvalidInput),
+            Step::ReadsNone("/r/f", ErrorKind::InvalidInput),
+        ],
+    ),
+    (
+        "refusals of building",
+        SMALL,
+        &[
+            Step::Refuses(BuildError::AlreadyExists, Change::File(1, "/r/f")),
+            Step::Refuses(BuildError::NotFound, Change::Dir("/n/m")),
+            Step::Refuses(BuildError::NotFound, Change::Dir("/")),
+        ],
+    ),
+    (
+        "denied directory is not listed",
+        GROUPED,
+        &[
+            Step::Does(Change::Deny(ErrorKind::PermissionDenied, "/t/group 2")),
+            Step::ListsNone("/t/group 2", ErrorKind::PermissionDenied),
+            Step::Lists("/t/group 1", " d.txt"),
+            Step::Leads("/t/group 2", DIR),
+            Step::Leads("/t/group 2/e.txt", Ok((FileType::File, 4))),
+        ],
+    ),
+    (
+        "later kind replaces the first",
+        SMALL,
+        &[
+            Step::Does(Change::Deny(ErrorKind::PermissionDenied, "/r")),
+            Step::Does(Change::Deny(ErrorKind::Other, "r/.")),
+            Step::ListsNone("/r", ErrorKind::Other),
+        ],
+    ),
+    (
+        "refusals of denying",
+        SMALL,
+        &[
+            Step::Refuses(
+                BuildError::NotFound,
+                Change::Deny(ErrorKind::PermissionDenied, "/r/f"),
+            ),
+            Step::Refuses(
+                BuildError::NotFound,
+                Change::Deny(ErrorKind::PermissionDenied, "/n"),
+            ),
+            Step::Refuses(
+                BuildError::NotFound,
+                Change::Deny(ErrorKind::PermissionDenied, "/"),
+            ),
+            Step::Refuses(
+                BuildError::NotFound,
+                Change::Deny(ErrorKind::PermissionDenied, ""),
+            ),
+        ],
+    ),
+    (
+        "children in order of creation",
+        SMALL,
+        &[
+            Step::Does(Change::Dir("/r/b")),
+            Step::Does(Change::File(0, "/r/a")),
+            Step::Lists("/r", " f b/ a"),
+        ],
+    ),
+    (
+        "a directory has five thousand children",
+        &[Step::Does(Change::Dir("/wide")), Step::ListsMany(5_000)],
+        &[
+            Step::Leads("/wide/5000", Err(ErrorKind::NotFound)),
+            Step::Refuses(BuildError::AlreadyExists, Change::Dir("/wide/2500")),
+        ],
+    ),
+    ("directories are thirty deep", &[], &[Step::IsDeep(30)]),
+    (
+        "metadata through links",
+        LINKED,
+        &[
+            Step::Leads("/q/l", FILE),
+            Step::Leads("/r/f", FILE),
+            Step::Leads("/r/f/x", Err(ErrorKind::Other)),
+            Step::Leads("/q/..", DIR),
+            Step::Leads("r", DIR),
+            Step::Leads("", Err(ErrorKind::NotFound)),
+            Step::Leads("/r/l/", FILE),
+            Step::Leads("/r/l/x", Err(ErrorKind::Other)),
+            Step::Leads("/to_q/l", FILE),
+            Step::Leads("/to_q", DIR),
+            Step::Leads("/slash/f", FILE),
+            Step::Leads("/r/out", FILE),
+            Step::Leads("/r/whole", FILE),
+            Step::Leads("/broken", Err(ErrorKind::NotFound)),
+            Step::Leads("/empty", Err(ErrorKind::NotFound)),
+            Step::Leads("/a", Err(ErrorKind::Other)),
+            Step::Leads("/b/x", Err(ErrorKind::Other)),
+            Step::Leads("/below", Err(ErrorKind::Other)),
+        ],
+    ),
+    (
+        "links themselves",
+        LINKED,
+        &[
+            Step::Is("/q/l", Ok((FileType::Symlink, 1))),
+            Step::Reads("/q/l", "f"),
+            Step::Is("/q", Ok((FileType::Symlink, 1))),
+            Step::Reads("/q", "r"),
+            Step::Is("/r/../slash/.", Ok((FileType::Symlink, 5))),
+            Step::Reads("/r/../slash/.", "./r//"),
+            Step::Is("/to_q/out", Ok((FileType::Symlink, 9))),
+            Step::Reads("/to_q/out", "../../r/f"),
+            Step::Is("/empty", Ok((FileType::Symlink, 0))),
+            Step::Reads("/empty", ""),
+            Step::Is("/a", Ok((FileType::Symlink, 1))),
+            Step::Reads("/a", "b"),
+            Step::ReadsNone("/q/..", ErrorKind::InvalidInput),
+            Step::ListsNone("/q/l", ErrorKind::InvalidInput),
+            Step::Lists("/to_q", " f l out whole s"),
+        ],
+    ),
+    (
+        "up after a link",
+        &[
+            Step::Does(Change::Dir("/r")),
+            Step::Does(Change::File(1, "/r/f")),
+            Step::Does(Change::Dir("/r/s")),
+            Step::Does(Change::Link("r/s", "/q")),
+        ],
+        &[Step::Leads("/q/../f", Ok((FileType::File, 1)))],
+    ),
+    (
+        "forty links are followed",
+        &[
+            Step::Does(Change::File(3, "/0")),
+            Step::Does(Change::Link("/", "/root")),
+            Step::DoesLinks(41),
+        ],
+        &[
+            Step::Leads("/40", FILE_OF_3),
+            Step::Leads("/41", Err(ErrorKind::Other)),
+            Step::Leads("/root/39", FILE_OF_3),
+            Step::Leads("/root/40", Err(ErrorKind::Other)),
+            Step::Leads("/root/root/38", FILE_OF_3),
+            Step::Leads("/root/root/39", Err(ErrorKind::Other)),
+        ],
+    ),
+    (
+        "building through links",
+        LINKED,
+        &[
+            Step::Refuses(BuildError::AlreadyExists, Change::File(1, "/q/f")),
+            Step::Refuses(BuildError::AlreadyExists, Change::Link("r", "/broken")),
+            Step::Refuses(BuildError::NotFound, Change::Link("r", "/broken/x")),
+            Step::Refuses(BuildError::NotFound, Change::Link("r", "/r/l/x")),
+            Step::Refuses(BuildError::NotFound, Change::Link("r", "/q/..")),
+            Step::Refuses(
+                BuildError::NotFound,
+                Change::Deny(ErrorKind::PermissionDenied, "/q"),
+            ),
+            Step::Does(Change::Dir("/to_q/d")),
+            Step::Does(Change::Deny(ErrorKind::PermissionDenied, "/slash/d")),
+            Step::ListsNone("/r/d", ErrorKind::PermissionDenied),
+        ],
+    ),
+    (
+        "only what is there is removed",
+        LINKED,
+        &[
+            Step::Refuses(BuildError::NotFound, Change::Remove("/")),
+            Step::Refuses(BuildError::NotFound, Change::Remove("")),
+            Step::Refuses(BuildError::NotFound, Change::Remove("/r/..")),
+            Step::Refuses(BuildError::NotFound, Change::Remove("/n/m")),
+            Step::Refuses(BuildError::NotFound, Change::Remove("/r/none")),
+            Step::Refuses(BuildError::NotFound, Change::Remove("/r/f/x")),
+            Step::Refuses(BuildError::NotFound, Change::Remove("/broken/x")),
+        ],
+    ),
+    (
+        "removed children",
+        LINKED,
+        &[
+            Step::Does(Change::Remove("/r/f")),
+            Step::Does(Change::Remove("/slash/out")),
+            Step::Does(Change::Remove("/q")),
+            Step::Is("/r/f", Err(ErrorKind::NotFound)),
+            Step::Lists("/r", " l whole s"),
+        ],
+    ),
+    (
+        "a link to a removed directory is broken",
+        LINKED,
+        &[
+            Step::Does(Change::Remove("/r")),
+            Step::Leads("/slash", Err(ErrorKind::NotFound)),
+            Step::Is("/slash", Ok((FileType::Symlink, 5))),
+            Step::Does(Change::Dir("/r")),
+            Step::Does(Change::File(9, "/r/g")),
+            Step::Lists("/slash", " g"),
+        ],
+    ),
 ];
 
-fn builds(fs: &mut MemoryFs<&LocalHeap>, directories: &[Change]) -> bool {
-    for it in directories {
-        if changes(fs, it).is_err() {
-            return false;
-        }
+#[test]
+fn trees_go_step_by_step(rt: HostRuntime) {
+    for (shown, tree, steps) in ROWS {
+        assert_eq!(rt; first_wrong(rt.alloc(), tree, steps), None, "{shown}");
     }
-    true
 }
 
 // Looks through a link in it before it is removed.
-fn builds_and_removes(fs: &mut MemoryFs<&LocalHeap>, len: u64) -> bool {
-    builds(fs, BUILT)
-        && fs.add_file("/t/a/b/f", len).is_ok()
-        && fs.add_link("/t/l", "a/b").is_ok()
-        && leads(fs, "/t/l/f", Ok((FileType::File, len)))
-        && fs.remove("/t").is_ok()
+fn builds_and_removes(fs: &mut MemoryFs<&LocalHeap>, len: u64) -> Result<bool, BuildError> {
+    for directory in ["/t", "/t/a", "/t/a/b", "/t/c"] {
+        fs.add_dir(directory)?;
+    }
+    fs.add_file("/t/a/b/f", len)?;
+    fs.add_link("/t/l", "a/b")?;
+    let is_there = found(fs.metadata("/t/l/f")) == Ok((FileType::File, len));
+    fs.remove("/t")?;
+    Ok(is_there)
 }
 
 // Each round but the first must leave as much of the heap in use.
@@ -534,7 +457,7 @@ fn frees_all(heap: &LocalHeap, rounds: u64) -> bool {
     let mut fs = MemoryFs::new(heap);
     let mut held = 0;
     for round in 0..rounds {
-        if !builds_and_removes(&mut fs, round) {
+        if builds_and_removes(&mut fs, round) != Ok(true) {
             return false;
         }
         if round == 1 {
@@ -548,14 +471,4 @@ fn frees_all(heap: &LocalHeap, rounds: u64) -> bool {
 fn what_is_removed_is_freed(rt: HostRuntime) {
     let made = LocalHeap::new(rt.alloc(), 1 << 16);
     assert!(rt; matches!(&made, Ok(heap) if frees_all(heap, 1000)));
-}
-
-/// Fails as a `push` that runs out of memory does.
-fn fails_as_a_push() -> Result<(), BuildError> {
-    Err(AllocFailed { value: 7 })?
-}
-
-#[test]
-fn a_failed_push_is_memory_that_ran_out_for_a_tree_too(rt: HostRuntime) {
-    assert!(rt; matches!(fails_as_a_push(), Err(BuildError::Memory)));
 }
