@@ -8,7 +8,6 @@ use jwalk::read_dir::NoProcess;
 use jwalk::readings::Readings;
 use jwalk::{Crew, DirEntryIter, Readers};
 use std::alloc::{AllocError, Global};
-use std::process::Abort;
 use std::sync::Arc;
 use std::thread;
 use std::time::{Clock, Duration};
@@ -85,19 +84,15 @@ pub struct Scene {
     pub read_ahead: Option<usize>,
 }
 
-fn is_busy(found: &[Answer]) -> bool {
-    match found {
-        [Err(error)] => error.is_busy() && error.path().is_none() && error.depth() == 0,
-        _ => false,
-    }
-}
-
 /// Without `wanted`, the only answer must be that the crew is busy.
 fn are(alloc: Global, found: Result<Vec<Answer>, AllocError>, wanted: Option<&str>) -> bool {
-    match (found, wanted) {
-        (Ok(found), Some(wanted)) => are_lines(alloc, found.as_slice(), wanted),
-        (Ok(found), None) => is_busy(found.as_slice()),
-        (Err(_), _) => false,
+    let Ok(found) = found else {
+        return false;
+    };
+    match (found.as_slice(), wanted) {
+        (answers, Some(wanted)) => are_lines(alloc, answers, wanted),
+        ([Err(error)], None) => error.is_busy() && error.path().is_none() && error.depth() == 0,
+        _ => false,
     }
 }
 
@@ -149,13 +144,6 @@ fn keeps<B: Readings<States, Global>>(
     walk.next().is_none()
 }
 
-fn ends<B: Readings<States, Global>>(alloc: Global, walk: &mut WalkBy<B>, wanted: &str) -> bool
-    requires { B.can_read (B.base (reads_of walk.old)) }
-{
-    let mut found = Vec::new(alloc);
-    add_in_turn(walk, &mut found) && are_lines(alloc, found.as_slice(), wanted)
-}
-
 fn goes_on<R: Clock + AllocGlobal, B: Readings<States, Global>>(
     rt: &R,
     fs: &impl CountsLists,
@@ -168,7 +156,10 @@ fn goes_on<R: Clock + AllocGlobal, B: Readings<States, Global>>(
         Going::Ahead(count) => come_ahead(rt, walk, *count),
         Going::Comes(count) => comes(walk, *count),
         Going::Keeps(bound) => keeps(rt, fs, walk, bound),
-        Going::Ends(wanted) => ends(rt.alloc(), walk, *wanted),
+        Going::Ends(wanted) => {
+            let mut found = Vec::new(rt.alloc());
+            add_in_turn(walk, &mut found) && are_lines(rt.alloc(), found.as_slice(), *wanted)
+        }
         Going::Drops => true,
     }
 }
@@ -275,9 +266,4 @@ pub fn first_wrong<R: Host>(rt: &R, scene: &Scene, acts: &[Act<'_>]) -> Option<u
         Some(stand) => wrong(rt, &stand, acts),
         None => Some(0),
     }
-}
-
-/// Asserts that each act succeeds over the crew and the tree of a scene.
-pub fn all_go<R: Host + Abort>(rt: &R, scene: &Scene, acts: &[Act<'_>]) {
-    assert_eq!(rt; first_wrong(rt, scene, acts), None);
 }

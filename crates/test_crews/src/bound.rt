@@ -1,7 +1,6 @@
 //! The bound on how far a crew reads ahead of a walk.
-use crate::acts::{Act, Bound, Going, Scene, all_go, first_wrong};
+use crate::acts::{Act, Bound, Going, Scene, first_wrong};
 use crate::crewed::{Asked, Reader};
-use test_fixtures::host::Host;
 use test_fixtures::trees::Step;
 use test_fixtures::watched::Failing;
 use test_fixtures::ways::Setting;
@@ -44,37 +43,27 @@ const WALK: Asked<'static> = Asked {
     then: &[],
 };
 
-/// Returns the number of the first act that fails. The workers must read as far ahead as the bound while nobody asks,
-/// and no further, also after each answer and a pause of milliseconds.
-fn wrong_of<R: Host>(rt: &R, pause: u64) -> Option<usize> {
-    let bound = Bound {
-        readings: 8,
-        answers: 21,
-        pause,
-    };
-    let acts = [
-        Act::Begins(WALK),
-        Act::Last(Going::Ahead(8)),
-        Act::Rests,
-        Act::Lists(8),
-        Act::Last(Going::Keeps(bound)),
-        Act::IsWoken,
-    ];
-    first_wrong(rt, &BOUNDED, &acts)
-}
-
-// If workers took whatever is queued (the wrong body `read_ahead_without_bound`), all 21 would be read at once.
+// The workers must read as far ahead as the bound while nobody asks, and no further, also after each answer and a pause.
+// If workers took whatever is queued (the wrong body `read_ahead_without_bound`), all 21 would be read at once. The last
+// pause is longer than the turn of a sleep: nobody sleeps until a turn is over while there is something to do.
 #[test]
 fn a_crew_reads_as_far_ahead_as_its_bound(rt: HostRuntime) {
-    for pause in [0, 1] {
-        assert_eq!(rt; wrong_of(&rt, pause), None, "{} ms", pause);
+    for pause in [0, 1, 60] {
+        let bound = Bound {
+            readings: 8,
+            answers: 21,
+            pause,
+        };
+        let acts = [
+            Act::Begins(WALK),
+            Act::Last(Going::Ahead(8)),
+            Act::Rests,
+            Act::Lists(8),
+            Act::Last(Going::Keeps(bound)),
+            Act::IsWoken,
+        ];
+        assert_eq!(rt; first_wrong(&rt, &BOUNDED, &acts), None, "{pause} ms");
     }
-}
-
-// The pause is longer than the turn of a sleep.
-#[test]
-fn nobody_sleeps_until_a_turn_is_over_while_there_is_something_to_do(rt: HostRuntime) {
-    assert_eq!(rt; wrong_of(&rt, 60), None);
 }
 
 #[test]
@@ -89,6 +78,6 @@ fn a_bound_below_the_number_of_workers_counts_as_that(rt: HostRuntime) {
             Act::Rests,
             Act::Last(Going::Ahead(ahead)),
         ];
-        all_go(&rt, &scene, &acts);
+        assert_eq!(rt; first_wrong(&rt, &scene, &acts), None, "a bound of {bound}");
     }
 }

@@ -38,17 +38,6 @@ pub enum Reader {
     CrewWithin(u64),
 }
 
-impl Reader {
-    /// Returns how long the walk waits for a place if the crew is to read for it. `Some(None)` is without limit.
-    fn waits(self) -> Option<Option<Duration>> {
-        match self {
-            Reader::Untold => None,
-            Reader::Crew => Some(None),
-            Reader::CrewWithin(limit) => Some(Some(Duration::from_millis(limit))),
-        }
-    }
-}
-
 /// A walk to make: its root in a tree, and its options.
 #[derive(Clone, Copy)]
 pub struct Asked<'a> {
@@ -89,12 +78,6 @@ impl<R: Wait + Clock + AllocGlobal + Clone + Drop, S: FileSystem> Stand<R, S> {
             crew: Arc::new(alloc, crew)?,
         })
     }
-
-    /// Returns a crew that serves one walk with a number of workers, over a file system.
-    pub fn new(rt: &R, fs: S, workers: usize) -> Result<Self, AllocError> {
-        let crew = Crew::new(rt.clone()?, 1, workers);
-        Stand::over(rt, fs, crew)
-    }
 }
 
 impl<R: Host, S: FileSystem + Send + Sync + 'static> Stand<R, S> {
@@ -103,12 +86,12 @@ impl<R: Host, S: FileSystem + Send + Sync + 'static> Stand<R, S> {
         let fs = self.fs.clone()?;
         let pool = self.crew.clone()?;
         let walk = with_all(WalkDirGeneric::with_crew(fs, root), asked.settings);
-        let walk = match asked.reader.waits() {
-            Some(busy_timeout) => {
-                walk.parallelism(Parallelism::RayonExistingPool { pool, busy_timeout })
-            }
-            None => walk,
+        let busy_timeout = match asked.reader {
+            Reader::Untold => return Ok(with_all(walk, asked.then)),
+            Reader::Crew => None,
+            Reader::CrewWithin(limit) => Some(Duration::from_millis(limit)),
         };
+        let walk = walk.parallelism(Parallelism::RayonExistingPool { pool, busy_timeout });
         Ok(with_all(walk, asked.then))
     }
 
@@ -152,6 +135,8 @@ pub fn all_by_own<R: Host, S: FileSystem + Send + Sync + 'static>(
     settings: &[Setting],
     workers: usize,
 ) -> Result<Vec<Answer>, AllocError> {
+    // The type of the file system is that of the walks over a stand.
+    let fs = Arc::new(rt.alloc(), fs)?;
     let walk = with_all(builder(rt.alloc(), fs, root)?, settings);
     all_by_crew(rt.alloc(), walk.workers(rt, workers)?)
 }

@@ -1,7 +1,6 @@
 //! Walks that are dropped before their end.
-use crate::acts::{Act, Going, Scene, all_go, first_wrong};
+use crate::acts::{Act, Going, Scene, first_wrong};
 use crate::crewed::{Asked, Reader};
-use test_fixtures::host::Host;
 use test_fixtures::trees::{FORKED, Step};
 use test_fixtures::watched::Failing;
 use test_fixtures::ways::Setting;
@@ -22,27 +21,28 @@ const TWO_WORKERS: Scene = Scene {
     read_ahead: None,
 };
 
-/// Returns the number of the first act that fails. A walk is dropped after `count` answers, and another one begins.
-fn wrong_after<R: Host>(rt: &R, count: usize) -> Option<usize> {
-    const NEXT: Asked<'static> = Asked {
-        reader: Reader::CrewWithin(10),
-        ..WALK
-    };
-    let acts = [
-        Act::Begins(WALK),
-        Act::Last(Going::Comes(count)),
-        Act::Last(Going::Drops),
-        Act::InUse(0),
-        Act::Begins(NEXT),
-        Act::Last(Going::Comes(7)),
-    ];
-    first_wrong(rt, &TWO_WORKERS, &acts)
-}
+/// A walk that waits ten milliseconds for a place.
+const NEXT: Asked<'static> = Asked {
+    reader: Reader::CrewWithin(10),
+    ..WALK
+};
 
 #[test]
 fn the_place_is_given_back_after_any_number_of_answers(rt: HostRuntime) {
     for count in 0..8 {
-        assert_eq!(rt; wrong_after(&rt, count), None, "after {} answers", count);
+        let acts = [
+            Act::Begins(WALK),
+            Act::Last(Going::Comes(count)),
+            Act::Last(Going::Drops),
+            Act::InUse(0),
+            Act::Begins(NEXT),
+            Act::Last(Going::Comes(7)),
+        ];
+        assert_eq!(rt;
+            first_wrong(&rt, &TWO_WORKERS, &acts),
+            None,
+            "after {count} answers"
+        );
     }
 }
 
@@ -73,5 +73,5 @@ fn readers_outlive_the_walk(rt: HostRuntime) {
         Act::Rests,
         Act::InUse(0),
     ];
-    all_go(&rt, &SCENE, ACTS);
+    assert_eq!(rt; first_wrong(&rt, &SCENE, ACTS), None);
 }

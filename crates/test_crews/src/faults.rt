@@ -2,32 +2,13 @@
 use crate::acts::{Act, Scene, first_wrong};
 use crate::crewed::{Asked, Reader};
 use std::io::ErrorKind;
-use test_fixtures::host::Host;
 use test_fixtures::trees::{GROUPED, SMALL, Step};
 use test_fixtures::watched::Failing;
 
 /// A tree, the root of a walk, where the tree fails, and the walk's answers.
 type Row = (&'static [Step], &'static str, Failing, &'static str);
 
-/// Returns the number of the first act that fails. After the walk, no place may be in use.
-fn wrong_of<R: Host>(rt: &R, (steps, root, failing, answers): &Row) -> Option<usize> {
-    let scene = Scene {
-        steps: *steps,
-        failing: *failing,
-        places: 1,
-        workers: 2,
-        read_ahead: None,
-    };
-    let walk = Asked {
-        root: *root,
-        settings: &[],
-        reader: Reader::Crew,
-        then: &[],
-    };
-    let acts = [Act::Answers(walk, *answers), Act::InUse(0)];
-    first_wrong(rt, &scene, &acts)
-}
-
+// After each walk, no place may be in use.
 #[test]
 fn failures_of_workers_told_where_they_are_met(rt: HostRuntime) {
     const ROWS: &[Row] = &[
@@ -58,7 +39,21 @@ fn failures_of_workers_told_where_they_are_met(rt: HostRuntime) {
             "! 0 - memory",
         ),
     ];
-    for row in ROWS {
-        assert_eq!(rt; wrong_of(&rt, row), None, "{}", row.3);
+    for (steps, root, failing, answers) in ROWS {
+        let scene = Scene {
+            steps: *steps,
+            failing: *failing,
+            places: 1,
+            workers: 2,
+            read_ahead: None,
+        };
+        let walk = Asked {
+            root: *root,
+            settings: &[],
+            reader: Reader::Crew,
+            then: &[],
+        };
+        let acts = [Act::Answers(walk, *answers), Act::InUse(0)];
+        assert_eq!(rt; first_wrong(&rt, &scene, &acts), None, "{answers}");
     }
 }

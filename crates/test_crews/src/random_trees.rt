@@ -11,8 +11,10 @@ const STEPS: usize = 60;
 const LINKS: usize = 20;
 
 fn some_dir<'d>(dice: &mut Dice, dirs: &'d [String]) -> &'d str {
-    let place = dice.below(dirs.len());
-    dirs.get(place).map_or("/r", |path| path.as_str())
+    match dirs.get(dice.below(dirs.len())) {
+        Some(path) => path.as_str(),
+        None => "/r",
+    }
 }
 
 /// The path leads to one of these directories, up, to the link itself or nowhere.
@@ -47,7 +49,8 @@ fn step(
         },
         1..=5 => {
             fs.add_dir(path.as_str())?;
-            dirs.push(path).map_err(|_| BuildError::Memory)
+            dirs.push(path)?;
+            Ok(())
         }
         _ => fs.add_file(path.as_str(), 1),
     }

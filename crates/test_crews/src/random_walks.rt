@@ -3,7 +3,6 @@ use crate::crewed::{Asked, Reader};
 use crate::random_trees::random_tree;
 use crate::serial::are_serial;
 use test_fixtures::dice::Dice;
-use test_fixtures::host::Host;
 use test_fixtures::ways::Setting;
 
 /// The number of trees. A script compares walks over more trees.
@@ -18,40 +17,32 @@ fn maybe(dice: &mut Dice, setting: Setting) -> Setting {
     }
 }
 
-/// Walks that follow links have a small greatest depth.
-fn are_alike<R: Host>(rt: &R, seed: usize, workers: usize) -> bool {
-    let mut dice = Dice::new(seed.wrapping_add(1_000));
-    let depth = dice.below(3);
-    let settings = [
-        maybe(&mut dice, Setting::Sort),
-        maybe(&mut dice, Setting::Hidden),
-        Setting::Min(depth),
-        Setting::Max(5),
-        Setting::Follow,
-    ];
-    let kept = if seed % 2 == 0 { 5 } else { 3 };
-    let walk = Asked {
-        root: "/r",
-        settings: settings.get(..kept).unwrap_or(&[]),
-        reader: Reader::Crew,
-        then: &[],
-    };
-    are_serial(rt, random_tree(rt.alloc(), seed), &walk, workers)
-}
-
+// Walks that follow links have a small greatest depth.
 #[test]
 fn random_trees_with_one_two_and_four_workers(rt: HostRuntime) {
     for seed in 0..TREES {
+        let mut dice = Dice::new(seed.wrapping_add(1_000));
+        let depth = dice.below(3);
+        let settings = [
+            maybe(&mut dice, Setting::Sort),
+            maybe(&mut dice, Setting::Hidden),
+            Setting::Min(depth),
+            Setting::Max(5),
+            Setting::Follow,
+        ];
+        let kept = if seed % 2 == 0 { 5 } else { 3 };
+        let walk = Asked {
+            root: "/r",
+            settings: settings.get(..kept).unwrap_or(&[]),
+            reader: Reader::Crew,
+            then: &[],
+        };
         let workers = match seed % 3 {
             0 => 1,
             1 => 2,
             _ => 4,
         };
-        assert!(rt;
-            are_alike(&rt, seed, workers),
-            "seed {}, {} workers",
-            seed,
-            workers
-        );
+        let is_alike = are_serial(&rt, random_tree(rt.alloc(), seed), &walk, workers);
+        assert!(rt; is_alike == Ok(true), "seed {seed}, {workers} workers");
     }
 }

@@ -1,28 +1,22 @@
 //! Readings that a crew makes, without the answers of a walk.
 use crate::crewed::{Stand, States};
 use jwalk::crew::Session;
-use jwalk::file_system::FileSystem;
-use jwalk::read_dir::{Job, NoProcess, Options, ReadDirSpec};
+use jwalk::file_system::{BuildError, FileSystem};
+use jwalk::read_dir::{Job, NoProcess, Options};
 use jwalk::read_dir_iter::ReadDirIter;
-use jwalk::{Error, Parallelism, Readers};
+use jwalk::{Crew, Error, Parallelism, Readers};
 use std::alloc::{AllocError, Global};
 use std::sync::Arc;
 use std::time::Duration;
 use test_fixtures::host::Host;
 use test_fixtures::trees::{FORKED, tree};
+use test_fixtures::watched::{Failing, Watched};
 
 /// Readings over any file system and with any readers.
 type ReadsBy<S, L> = ReadDirIter<States, S, NoProcess, Global, L>;
 
 /// Readings that a crew may make.
 type Reads<R, S> = ReadsBy<Arc<S>, Session<R, States, Arc<S>, NoProcess>>;
-
-/// Returns the directories of the root's list.
-fn roots<S: FileSystem>(
-    job: &Job<States, S, NoProcess>,
-) -> Result<Vec<ReadDirSpec<States>>, AllocError> {
-    job.root_list("/r", ())?.read_children_specs()
-}
 
 /// Begins to read the root and everything below it by the crew, if a place is free at once. The readings come to
 /// `begun`.
@@ -33,7 +27,7 @@ fn begin<R: Host, S: FileSystem + Send + Sync + 'static>(
     begun.reserve(1)?;
     let fs = stand.fs.clone()?;
     let job: Job<States, Arc<S>, NoProcess> = Job::new(stand.alloc, fs, NoProcess, Options::new());
-    let roots = roots(&job)?;
+    let roots = job.root_list("/r", ())?.read_children_specs()?;
     let by_crew = Parallelism::RayonExistingPool {
         pool: stand.crew.clone()?,
         busy_timeout: Some(Duration::from_millis(0)),
@@ -47,10 +41,13 @@ fn begin<R: Host, S: FileSystem + Send + Sync + 'static>(
     }
 }
 
-/// No reading may follow the seventh.
+/// No reading may follow the seventh of the readings that began last.
 fn are_seven<S: FileSystem, L: Readers<States, S, NoProcess, Global>>(
-    reads: &mut ReadsBy<S, L>,
+    begun: &mut Vec<ReadsBy<S, L>>,
 ) -> bool {
+    let Some(reads) = begun.last_mut() else {
+        return false;
+    };
     for _ in 0..7 {
         if !matches!(reads.next(), Some(Ok(_))) {
             return false;
@@ -61,16 +58,6 @@ fn are_seven<S: FileSystem, L: Readers<States, S, NoProcess, Global>>(
     ended && ended_for_good
 }
 
-/// Returns whether the readings that began last are seven.
-fn are_last_seven<S: FileSystem, L: Readers<States, S, NoProcess, Global>>(
-    begun: &mut Vec<ReadsBy<S, L>>,
-) -> bool {
-    match begun.last_mut() {
-        Some(reads) => are_seven(reads),
-        None => false,
-    }
-}
-
 /// Others must be refused meanwhile.
 fn come<R: Host, S: FileSystem + Send + Sync + 'static>(stand: &Stand<R, S>) -> bool {
     let mut begun = Vec::new(stand.alloc);
@@ -79,21 +66,14 @@ fn come<R: Host, S: FileSystem + Send + Sync + 'static>(stand: &Stand<R, S>) -> 
         Ok(Err(error)) => error.is_busy(),
         _ => false,
     };
-    has_place && are_refused && are_last_seven(&mut begun)
+    has_place && are_refused && are_seven(&mut begun)
 }
 
-/// The place must be free afterwards.
-fn give_back<R: Host>(rt: &R) -> bool {
-    let Ok(tree) = tree(rt.alloc(), FORKED) else {
-        return false;
-    };
-    match Stand::new(rt, tree, 2) {
-        Ok(stand) => come(&stand) && stand.crew.in_use() == 0,
-        Err(_) => false,
-    }
-}
-
+// The place must be free afterwards.
 #[test]
-fn readings_from_the_directories_of_a_list_by_a_crew(rt: HostRuntime) {
-    assert!(rt; give_back(&rt));
+fn readings_from_the_directories_of_a_list_by_a_crew(rt: HostRuntime) -> Result<(), BuildError> {
+    let fs = Watched::new(tree(rt.alloc(), FORKED)?, Failing::Never);
+    let stand = Stand::over(&rt, fs, Crew::new(rt.clone()?, 1, 2))?;
+    assert!(rt; come(&stand) && stand.crew.in_use() == 0);
+    Ok(())
 }
