@@ -48,7 +48,7 @@ plain_after read c =
 abbrev pub escape_after : ℕ → Place
 escape_after c = if c == 120 then Code 2 else if c == 117 then Code 4 else if c == 85 then Code 8 else Plain
 
--- the place behind a digit of a code, of which so many were left
+-- the place behind a digit of a code, by how many were left
 abbrev pub digits_after : ℕ → ℕ → ℕ → Place
 digits_after left number c = if nat_lt 1 left then Digits (left - 1) (with_hex number c) else Plain
 
@@ -63,7 +63,7 @@ place_after read c Group = if c == 63 then Head else plain_after read c
 place_after read c Head = if (c == 58) || ((c == 41) || (c == 62)) then Plain else Head
 place_after read c (Class at) = if c == class_mark at then (if nat_lt at 8 then Class (at + 1) else Plain) else plain_after read c
 
--- whether a digit of a code, of which so many were left, ends the code of an upper-case letter
+-- whether a digit, by how many were left, ends the code of an upper-case letter
 abbrev pub ends_upper : ℕ → ℕ → ℕ → Bool
 ends_upper left number c = nat_le left 1 && is_upper_code (with_hex number c)
 

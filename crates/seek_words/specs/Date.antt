@@ -4,7 +4,7 @@ use Rattle.std.specs.List.{after_first, before_first}
 use Rattle.jiff_core.specs.Calendar.{days_from_civil, days_in_month}
 use Rattle.seek_words.specs.Size.{digits_number}
 
--- the number of a text of digits, of which there are at most so many
+-- the number of a text of digits, up to a greatest number of these
 abbrev pub few_digits : ℕ → List ℕ → Option ℕ
 few_digits most text = if nat_lt most (length text) then None else digits_number text
 

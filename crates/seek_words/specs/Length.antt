@@ -83,7 +83,7 @@ abbrev pub together : Option ℕ → Option ℕ → Option ℕ
 together (Some length) (Some more) = in_128_bits (length + more)
 together _ _ = None
 
--- the sum of the lengths of a text, of which there are at most so many
+-- the sum of the lengths of a text, up to a greatest number of these
 unfoldable pub lengths_in : ℕ → List ℕ → Option ℕ
 lengths_in zero text = None
 lengths_in (suc most) text =

@@ -21,9 +21,9 @@ enum Place {
     Plain,
     /// Behind a backslash.
     Escape,
-    /// Behind `\x`, `\u` or `\U`, which so many hexadecimal digits follow, or a code in braces.
+    /// Behind `\x`, `\u` or `\U`: how many hexadecimal digits follow, where no brace does.
     Code(u32),
-    /// Behind such digits. So many are left, and this is their number.
+    /// Behind such digits: how many are left, and the number that they are.
     Digits(u32, u32),
     /// Among hexadecimal digits in braces. This is the number of those in front.
     Braced(u32),
@@ -31,7 +31,7 @@ enum Place {
     Group,
     /// In the flags or the name of a group.
     Head,
-    /// In `[:upper:]`, behind so many of its characters.
+    /// In `[:upper:]`: how many of its characters are in front.
     Class(u32),
 }
 

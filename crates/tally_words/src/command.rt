@@ -134,7 +134,7 @@ fn walked_options<'a>(alloc: Global) -> Result<Vec<Arg<'a>>, AllocError>
             alloc,
             "one-file-system",
             'x',
-            "Read no directories on other file systems"
+            "Leave out what is on other file systems"
         ),
         flag(alloc, "follow", 'L', "Follow links"),
         long_flag(

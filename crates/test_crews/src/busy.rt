@@ -86,7 +86,7 @@ const ROWS: &[(&str, Scene, &[Act<'static>])] = &[
         ],
     ),
     (
-        "a root without a directory is answered by a busy crew",
+        "a walk from a root without a directory takes no place of a busy crew",
         ONE_PLACE,
         &[
             Act::Begins(PATIENT),

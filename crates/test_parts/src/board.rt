@@ -121,7 +121,7 @@ fn goes(board: &mut Names, alloc: Global, step: &Step) -> bool {
     }
 }
 
-// Returns the number of the first step that is wrong, on a board of so many roots.
+// Returns the number of the first step that is wrong, on a board with this number of roots.
 fn first_wrong(alloc: Global, root_count: usize, steps: &[Step]) -> Option<usize> {
     let Ok(roots) = vec![in alloc; "r"; root_count] else {
         return Some(0);

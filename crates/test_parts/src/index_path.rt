@@ -51,7 +51,7 @@ fn goes_about(address: &mut IndexPath) -> bool {
         && address.is_empty()
 }
 
-// Compares `adding` and `push`, over so many indices, of which the greatest is first.
+// Compares `adding` and `push`, over a number of indices, of which the greatest is first.
 fn leads_down(alloc: Global, count: usize) -> Option<bool> {
     let mut indices = Vec::new(alloc);
     let mut added = address(alloc, &[])?;

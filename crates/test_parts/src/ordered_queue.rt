@@ -182,7 +182,7 @@ const ROWS: &[Row] = &[
         ],
     ),
     (
-        "nothing comes of no roots",
+        "a queue without roots yields nothing",
         Ordering::Strict,
         Some(0),
         &[Turn::Gives(Next::End)],

@@ -72,7 +72,7 @@ file_is texts home left file bytes config named some read is =
     ∙ ap (λ (r : Result (Option (List ℕ)) Failure). and_then r (or_named named says)) read
     ∙ ap (λ (c : Config). with_config (with_file texts home (left - 1)) home file c named) (sym is)
 
--- one setting tells of no excludes
+-- a setting of the excludes that fails
 pub excludes_fail : (include : List ℕ → Named → Result Named Failure) (home : Home) (file : List ℕ) (setting : Value) (named : Named) (reason : Unread)
     → true ≡ is_excludes setting → FailsWith reason (with_value file setting named) → FailsWith reason (with_setting include home file setting named)
 excludes_fail include home file setting named reason is fails =

@@ -112,7 +112,7 @@ with_read says file (Err k) named = if is_missing k then Ok named else Err (Unre
 abbrev pub too_deep : List ℕ → List ℕ → Named → Result Named Failure
 too_deep file bytes named = Err (TooDeep file)
 
--- the same, where it may be in so many files, each in another
+-- the same, up to a greatest number of files that include one another
 abbrev pub with_file : Texts → Home → ℕ → List ℕ → Named → Result Named Failure
 with_file texts home zero file named = with_read (too_deep file) file (texts.bytes_of file) named
 with_file texts home (suc left) file named =

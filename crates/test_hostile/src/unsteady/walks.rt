@@ -77,8 +77,8 @@ impl Drawn {
         }
     }
 
-    /// Returns whether a walk that asked for so many listings goes by the rules. Each directory that was given must be
-    /// read once. Some may be unread if memory ran out.
+    /// Returns whether a walk goes by the rules, by the number of listings that it asked for. Each directory that was
+    /// given must be read once. Some may be unread if memory ran out.
     fn lets(
         &self,
         alloc: Global,
