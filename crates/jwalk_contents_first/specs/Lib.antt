@@ -1,0 +1,5 @@
+pub mod ContentsFirst
+pub mod Coming
+pub mod Turns
+pub mod Whole
+pub mod Rows
