@@ -1,6 +1,6 @@
 #!/usr/bin/env bash
-# Copies the library into another repository: jwalk, jwalk_usage, jwalk_subtotals and jwalk_ignore, and each crate that
-# they use.
+# Copies the library into another repository: jwalk, jwalk_contents_first, jwalk_usage, jwalk_subtotals and jwalk_ignore,
+# and each crate that they use.
 #
 #     ./copy_into.sh DIR            a first copy
 #     ./copy_into.sh --update DIR   replaces an earlier copy by this one
@@ -36,7 +36,7 @@ declare -A uses=()
 while IFS=: read -r name needs; do uses[$name]=$needs; done < <(grep '^[a-z].*:' crates.txt)
 
 # The crates of the library. Those of the toolchain aren't listed.
-wanted=(jwalk jwalk_usage jwalk_subtotals jwalk_ignore)
+wanted=(jwalk jwalk_contents_first jwalk_usage jwalk_subtotals jwalk_ignore)
 for ((at = 0; at < ${#wanted[@]}; at++)); do
     for name in ${uses[${wanted[at]}]}; do
         if [ -n "${uses[$name]+listed}" ] && [[ " ${wanted[*]} " != *" $name "* ]]; then wanted+=("$name"); fi

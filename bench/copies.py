@@ -12,7 +12,7 @@ import sys
 import tempfile
 
 TOP = os.path.dirname(os.path.dirname(os.path.abspath(__file__)))
-LINES = "below:\nabove: jwalk\njwalk: below\njwalk_usage: jwalk\njwalk_subtotals: jwalk_usage\njwalk_ignore: jwalk\n"
+LINES = "below:\nabove: jwalk\njwalk: below\njwalk_contents_first: below\njwalk_usage: jwalk\njwalk_subtotals: jwalk_usage\njwalk_ignore: jwalk\n"
 LIST = "crates/jwalk/copied.sha256"
 LICENCE = "crates/LICENSE-jwalk"
 HANDLES = "Handles allowed: Threads, Wait.\n"
@@ -32,12 +32,12 @@ def read(path):
 
 
 def make_library(folder):
-    """A library of four crates, and a crate that isn't part of it."""
+    """A library of five crates, and a crate that isn't part of it."""
     shutil.copy(f"{TOP}/copy_into.sh", folder)
     write(f"{folder}/crates.txt", LINES)
     write(f"{folder}/LICENSE", "permission\n")
     write(f"{folder}/HANDLES", HANDLES)
-    for name in ["below", "jwalk", "jwalk_usage", "jwalk_subtotals", "jwalk_ignore", "above"]:
+    for name in ["below", "jwalk", "jwalk_contents_first", "jwalk_usage", "jwalk_subtotals", "jwalk_ignore", "above"]:
         write(f"{folder}/crates/{name}/src/lib.rt", f"//! {name}\n")
     write(f"{folder}/crates/jwalk/must-fail/a.edit", "wrong\n")
     write(f"{folder}/crates/jwalk/specs/Old.antt", "old\n")

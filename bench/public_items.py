@@ -143,7 +143,9 @@ class File:
 
     def read_one(self, docs, attributes):
         """Reads an item or a member, from the word that says what it is."""
-        reader, start = self.reader, self.reader.at
+        reader = self.reader
+        reader.take("final")
+        start = reader.at
         while reader.peek() in ("unsafe", "const") and reader.peek(1) in KINDS:
             reader.next()
         kind, name = reader.next(), reader.next()
