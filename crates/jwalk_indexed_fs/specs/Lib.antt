@@ -1,0 +1,3 @@
+pub mod Stamp
+pub mod Name
+pub mod Names

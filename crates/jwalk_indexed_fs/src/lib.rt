@@ -1,0 +1,6 @@
+//! A file system that lists a directory from an earlier listing while the directory's stamp is the same, and one that
+//! keeps such listings.
+#![tactic(auto)]
+
+pub mod names;
+pub mod stamp;
