@@ -1,1 +1,3 @@
 pub mod NamesFacts
+pub mod OrderFacts
+pub mod RecordFacts

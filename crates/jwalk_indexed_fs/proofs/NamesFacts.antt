@@ -14,8 +14,8 @@ boundary_stays : (text more : List ℕ) (n : ℕ) → IsUtf8 text → IsUtf8 mor
 boundary_stays text more n valid also at =
     subst (IsCharBoundary (text ++ more)) (length-take-le n text at.0)
     (IsCharBoundary-at_seam (text ++ more) (take n text) (drop n text ++ more)
-      (ap (λ l. l ++ more) (sym (take-append-drop n text)) ∙ append_assoc (take n text) (drop n text) more)
-      (IsUtf8-append (drop n text) more (IsUtf8-drop text n valid at) also))
+    (ap (λ l. l ++ more) (sym (take-append-drop n text)) ∙ append_assoc (take n text) (drop n text) more)
+    (IsUtf8-append (drop n text) more (IsUtf8-drop text n valid at) also))
 
 -- the piece of a whole name
 abbrev pub whole : List ℕ → FileType → Piece
@@ -27,7 +27,7 @@ cut_more text [] name type valid also cut =
 cut_more text (p ∷ ps) name type valid also cut = (
   boundary_stays text name p.len valid also cut.0,
   subst (λ t. IsCut t (ps ++ whole name type ∷ [])) (sym (drop-append-le p.len text name cut.0.0))
-    (cut_more (drop p.len text) ps name type (IsUtf8-drop text p.len valid cut.0) also cut.1),
+      (cut_more (drop p.len text) ps name type (IsUtf8-drop text p.len valid cut.0) also cut.1),
 )
 
 pub names_more : (text : List ℕ) (ps : List Piece) (name : List ℕ) (type : FileType) → IsCut text ps → names_in (text ++ name) (ps ++ whole name type ∷ []) ≡ names_in text ps ++ record { name = name; file_type = type } ∷ []

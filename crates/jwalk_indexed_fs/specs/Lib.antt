@@ -1,3 +1,6 @@
 pub mod Stamp
 pub mod Name
 pub mod Names
+pub mod Listing
+pub mod Records
+pub mod Index

@@ -2,5 +2,10 @@
 //! keeps such listings.
 #![tactic(auto)]
 
+pub mod index;
+pub mod indexed_fs;
+pub mod laws;
 pub mod names;
+pub mod records;
 pub mod stamp;
+mod typed;

@@ -11,6 +11,6 @@ invariant_of-self-2 c =
 pub returns : goal.returns
 returns c = record {
   added = rw (c.in_ok-push_str.ensures.bytes, c.in_ok-push.ensures.items, c.in_ok-reserve.ensures.items, ← c.self.view_is)
-    (names_more _ c.self.inside.pieces.items c.args.name.now c.args.file_type c.self.invariant);
+      (names_more _ c.self.inside.pieces.items c.args.name.now c.args.file_type c.self.invariant);
   unchanged = tt;
 }
