@@ -1,3 +1,5 @@
 pub mod NamesFacts
 pub mod OrderFacts
 pub mod RecordFacts
+pub mod OrderedFacts
+pub mod WalkFacts

@@ -4,3 +4,4 @@ pub mod Names
 pub mod Listing
 pub mod Records
 pub mod Index
+pub mod Walks
