@@ -3,3 +3,4 @@ pub mod OrderFacts
 pub mod RecordFacts
 pub mod OrderedFacts
 pub mod WalkFacts
+pub mod TakenFacts

@@ -4,4 +4,5 @@ pub mod Names
 pub mod Listing
 pub mod Records
 pub mod Index
+pub mod Taken
 pub mod Walks

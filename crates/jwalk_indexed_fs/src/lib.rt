@@ -6,6 +6,8 @@ pub mod index;
 pub mod indexed_fs;
 pub mod laws;
 pub mod names;
+pub mod recording_fs;
 pub mod records;
 pub mod stamp;
+mod taken;
 mod typed;
