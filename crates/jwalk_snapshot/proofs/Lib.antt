@@ -1,0 +1,5 @@
+pub mod NumberFacts
+pub mod ListFacts
+pub mod FieldLaws
+pub mod FolderLaws
+pub mod ReadFacts
