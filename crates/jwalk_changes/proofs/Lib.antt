@@ -1,0 +1,12 @@
+pub mod OrderFacts
+pub mod TextFacts
+pub mod ListFacts
+pub mod SideFacts
+pub mod DiffFacts
+pub mod LawFacts
+pub mod StepFacts
+pub mod TurnFacts
+pub mod RunFacts
+pub mod WholeFacts
+pub mod VecFacts
+pub mod AlikeFacts

@@ -1,0 +1,7 @@
+use Rattle.jwalk_changes.proofs.TurnFacts.{pass_a_place}
+use Rattle.jwalk_changes.proofs.iter.Changes.pass.Goals as goal
+
+pub returns : goal.returns
+returns g c =
+    pass_a_place g.I.Iterator.next_gives g.J.Iterator.next_gives g.K.Iterator.next_gives g.I.Iterator.can_next g.I.Iterator.remaining g.J.Iterator.can_next g.J.Iterator.remaining g.K.Iterator.can_next g.K.Iterator.remaining g.O.AtPath.path g.O.Entry.facts g.N.AtPath.path g.N.Entry.facts g.U.AtPath.path
+    c.args.self.now c.advance.new.self c.requires.can c.requires.asked c.requires.step c.advance.ensures.passes c.advance.ensures.can c.advance.ensures.falls

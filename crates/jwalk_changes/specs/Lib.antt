@@ -1,0 +1,10 @@
+pub mod AtPath
+pub mod Differ
+pub mod Facts
+pub mod Change
+pub mod Differences
+pub mod Side
+pub mod Coming
+pub mod Steps
+pub mod Laws
+pub mod Whole

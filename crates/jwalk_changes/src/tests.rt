@@ -1,0 +1,1 @@
+//! Rows of small lists.
