@@ -2,7 +2,7 @@
 """Small trees with ignore files, and what git keeps of them.
 
     python3 bench/ignore_trees.py write SEED           writes the 100 trees of tests/seek/ignore_trees.t, and the four of
-                                                       them in crates/test_seek/src/ignore/trees.rt; theirs is seed 1
+                                                       them in crates/test_ignore/src/trees.rt; theirs is seed 1
     python3 bench/ignore_trees.py against PROGRAM COUNT SEED
                                                        random trees on disk: git beside what PROGRAM PATH prints
 
@@ -106,7 +106,7 @@ def trees(count, seed):
 
 TOP = os.path.join(os.path.dirname(os.path.abspath(__file__)), "..")
 ROWS = os.path.join(TOP, "tests", "seek", "ignore_trees.t")
-TREES = os.path.join(TOP, "crates", "test_seek", "src", "ignore", "trees.rt")
+TREES = os.path.join(TOP, "crates", "test_ignore", "src", "trees.rt")
 COUNT = 100
 FIRST = 4
 
@@ -197,7 +197,7 @@ def write(seed):
         file.write("\n".join(line for number, row in rows for line in row_of(number, *row)))
     with open(TREES, "w") as file:
         file.write("//! Small trees with ignore files, and the part of each that git 2.39 keeps. `bench/ignore_trees.py` writes them.\n")
-        file.write("use crate::ignore::planted::{ROW, Row, SCENE, Scene, Yields};\n\n")
+        file.write("use crate::planted::{ROW, Row, SCENE, Scene, Yields};\n\n")
         file.write("pub(crate) const TREES: &[Scene] = &[\n")
         file.write("".join(f"{line}\n" for number, row in rows if row in first for line in scene_of(number, *row)))
         file.write("];\n")

@@ -1,9 +1,11 @@
 //! Walks that honour ignore files, in each way and over a crew.
-use crate::ignore::left::{Rules, is_right};
-use crate::ignore::planted::{Planted, Row, Scene};
-use jwalk::file_system::{BuildError, MemoryFs};
+use crate::left::{Rules, is_right};
+use crate::planted::{Planted, Row, Scene};
+use crate::rows::{FORCE, LINKS, UNREAD};
+use crate::trees::TREES;
+use jwalk::file_system::{BuildError, FileSystem, MemoryFs};
 use jwalk::read_dir::ProcessReadDir;
-use jwalk::{Crew, Parallelism, WalkDirGeneric};
+use jwalk::{ClientState, Crew, Parallelism, WalkDirGeneric};
 use jwalk_ignore::ignore_files::IgnoreFiles;
 use jwalk_ignore::memory_texts::MemoryTexts;
 use jwalk_ignore::states::RulesState;
@@ -37,20 +39,57 @@ impl ProcessReadDir<Rules, Global> for SharedRules {
     }
 }
 
+/// Returns whether a setting is among others, which are separated by spaces.
+fn has(settings: &str, name: &str) -> bool {
+    for setting in settings.split(' ') {
+        if setting == name {
+            return true;
+        }
+    }
+    false
+}
+
 /// Returns the rules by the names of settings. Other names change nothing.
 fn rules_by(texts: Arc<MemoryTexts>, settings: &str) -> SharedRules {
-    let mut rules = IgnoreFiles::new(texts).keep_hidden(true);
-    for setting in settings.split(' ') {
-        rules = match setting {
-            "hide" => rules.keep_hidden(false),
-            "anywhere" => rules.outside_repositories(true),
-            "no-git" => rules.version_control(false),
-            "no-above" => rules.above_the_root(false),
-            "fdignore" => rules.fdignore(true),
-            _ => rules,
-        };
+    SharedRules {
+        rules: IgnoreFiles::new(texts)
+            .keep_hidden(!has(settings, "hide"))
+            .outside_repositories(has(settings, "anywhere"))
+            .version_control(!has(settings, "no-git"))
+            .above_the_root(!has(settings, "no-above"))
+            .fdignore(has(settings, "fdignore")),
     }
-    SharedRules { rules }
+}
+
+/// Returns all that a walk by name yields with a callback, which is shown hidden names, and for which a crew reads. All
+/// types are parameters, since each call on a walk over a crew costs the prover many seconds.
+fn found_by_crew<
+    R: Host,
+    C: ClientState + Send + 'static,
+    S: FileSystem + Send + Sync + 'static,
+    P: ProcessReadDir<C, Global> + Send + Sync + 'static,
+>(
+    alloc: Global,
+    pool: Arc<Crew<R>>,
+    fs: S,
+    root: String,
+    follows: bool,
+    process: P,
+) -> Result<Vec<Answer<C>>, AllocError>
+where
+    C::ReadDirState: Send + 'static,
+    C::DirEntryState: Send + 'static,
+    requires { P.IsLawful process }
+{
+    let walk = WalkDirGeneric::with_crew(fs, root)
+        .sort(true)
+        .skip_hidden(false)
+        .follow_links(follows)
+        .parallelism(Parallelism::RayonExistingPool {
+            pool,
+            busy_timeout: None,
+        });
+    all_by_crew(alloc, walk.process_read_dir(process))
 }
 
 /// A tree with files of rules that a crew's workers share, and a row.
@@ -81,15 +120,8 @@ impl Play<'_> {
     ) -> Result<Vec<Answer<Rules>>, AllocError> {
         let root = String::from_str(alloc, self.row.root)?;
         let rules = rules_by(self.texts.clone()?, self.row.settings);
-        let walk = WalkDirGeneric::<Rules, _, _, _, _>::with_crew(self.fs.clone()?, root)
-            .sort(true)
-            .skip_hidden(false)
-            .follow_links(self.row.settings == "follow")
-            .parallelism(Parallelism::RayonExistingPool {
-                pool: pool.clone()?,
-                busy_timeout: None,
-            });
-        all_by_crew(alloc, walk.process_read_dir(rules))
+        let follows = self.row.settings == "follow";
+        found_by_crew(alloc, pool.clone()?, self.fs.clone()?, root, follows, rules)
     }
 
     /// Returns whether the walk yields what the row says, over a crew and in each way.
@@ -105,7 +137,7 @@ impl Play<'_> {
 }
 
 /// Returns whether the walks of a scene yield what its rows say.
-pub(crate) fn are_right<R: Host>(rt: &R, scene: &Scene) -> Result<bool, BuildError> {
+fn are_right<R: Host>(rt: &R, scene: &Scene) -> Result<bool, BuildError> {
     let planted = Planted::new(rt.alloc(), scene)?;
     let fs = Arc::new(rt.alloc(), planted.fs).map_err(AllocError::from)?;
     let texts = Arc::new(rt.alloc(), planted.texts).map_err(AllocError::from)?;
@@ -122,4 +154,21 @@ pub(crate) fn are_right<R: Host>(rt: &R, scene: &Scene) -> Result<bool, BuildErr
         are_right &= play.is_right(rt, &pool)?;
     }
     Ok(are_right)
+}
+
+#[test]
+fn walks_leave_what_rules_say(rt: HostRuntime) {
+    for (name, scenes) in [
+        ("force", FORCE),
+        ("unread", UNREAD),
+        ("links", LINKS),
+        ("trees", TREES),
+    ] {
+        for (number, scene) in scenes.iter().enumerate() {
+            assert!(rt;
+                matches!(are_right(&rt, scene), Ok(true)),
+                "{name}, scene {number}"
+            );
+        }
+    }
 }

@@ -1,5 +1,5 @@
 //! What walks yield, beside what they must.
-use crate::ignore::planted::{Row, Yields};
+use crate::planted::{Row, Yields};
 use jwalk_ignore::states::RulesState;
 use std::alloc::{AllocError, Global};
 use test_fixtures::answers::Answer;
@@ -7,22 +7,30 @@ use test_fixtures::answers::Answer;
 /// The states of a walk without states of its own.
 pub(crate) type Rules = (RulesState, ());
 
+/// Adds a path on a line, without `/r/` in front.
+fn push_path(text: &mut String, path: &str) -> Result<(), AllocError> {
+    text.push_str(path.strip_prefix("/r/").unwrap_or(path))?;
+    text.push_str("\n")
+}
+
+/// Adds the line of an item that isn't the root.
+fn push_item(text: &mut String, item: &Answer<Rules>) -> Result<(), AllocError> {
+    match item {
+        Ok(entry) if entry.depth == 0 => Ok(()),
+        Ok(entry) => push_path(text, entry.path()?.as_str()),
+        Err(error) => {
+            let depth = error.depth();
+            write!(text, "! {depth} ")?;
+            push_path(text, error.path().unwrap_or("?"))
+        }
+    }
+}
+
 /// Returns the items without the root, each on a line.
 fn text_of(alloc: Global, answers: &[Answer<Rules>]) -> Result<String, AllocError> {
     let mut text = String::new(alloc);
     for answer in answers {
-        let path = match answer {
-            Ok(entry) if entry.depth == 0 => continue,
-            Ok(entry) => entry.path()?,
-            Err(error) => {
-                let depth = error.depth();
-                write!(text, "! {depth} ")?;
-                String::from_str(alloc, error.path().unwrap_or("?"))?
-            }
-        };
-        let path = path.as_str();
-        text.push_str(path.strip_prefix("/r/").unwrap_or(path))?;
-        text.push_str("\n")?;
+        push_item(&mut text, answer)?;
     }
     Ok(text)
 }

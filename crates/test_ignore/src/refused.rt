@@ -1,14 +1,14 @@
 //! Walks with rules, where each request for memory is refused, or all from each on.
-use crate::ignore::planted::{Planted, SCENE, Scene};
-use jwalk::file_system::{BuildError, FileSystem, MemoryFs};
+use crate::planted::{Planted, SCENE, Scene};
+use jwalk::file_system::{BuildError, FileSystem};
 use jwalk::read_dir::ProcessReadDir;
 use jwalk::{ClientState, WalkDirGeneric};
 use jwalk_ignore::chain::Chain;
 use jwalk_ignore::ignore_files::IgnoreFiles;
 use jwalk_ignore::memory_texts::MemoryTexts;
-use std::alloc::{Allocator, Global};
+use std::alloc::{AllocError, Allocator, Global};
 use std::sync::atomic::{AtomicUsize, Ordering};
-use test_fixtures::refused::counting::Counting;
+use test_fixtures::refused::lines::{Given, Shown};
 use test_fixtures::refused::outcome::{Call, Outcome, WAYS, comes};
 use test_fixtures::refused::turns::{MOST, Repeated, first_wrong};
 use test_fixtures::refusing_alloc::Refusing;
@@ -73,14 +73,6 @@ const ROWS: &[Lines] = &[
     ),
 ];
 
-/// A walk that has not begun and has rules.
-type Walk<'f, A> = WalkDirGeneric<
-    ((Chain<A>, ()), ()),
-    &'f MemoryFs,
-    Counting<'f, IgnoreFiles<&'f MemoryTexts>>,
-    A,
->;
-
 /// The walk of a row, with how many directories are read together and how its answers are taken.
 #[derive(Clone, Copy)]
 struct Play<'f> {
@@ -93,36 +85,92 @@ struct Play<'f> {
     within: &'f AtomicUsize,
 }
 
-/// The walk is shown hidden names.
-fn by_name<C: ClientState, S: FileSystem, P: ProcessReadDir<C, A>, A: Allocator + Copy>(
-    fs: S,
-    root: String<A>,
-    width: Width,
-    process: P,
-) -> WalkDirGeneric<C, S, P, A> {
-    WalkDirGeneric::new(fs, root)
-        .sort(true)
-        .skip_hidden(false)
-        .parallelism(width.parallelism())
-        .process_read_dir(process)
+/// The states of a walk with rules.
+type Rules<A> = ((Chain<A>, ()), ());
+
+/// The list of a directory.
+type List<A> = Vec<Given<Rules<A>, A>, A>;
+
+/// The rules of a tree, as a callback that counts how often they run out of memory. It has a type of its own, since the
+/// types of rules are long.
+struct CountedRules<'f> {
+    rules: IgnoreFiles<&'f MemoryTexts>,
+    refusals: &'f AtomicUsize,
+}
+
+impl<'f> Drop for CountedRules<'f> {
+    fn drop(self) {
+        let CountedRules {
+            rules: _,
+            refusals: _,
+        } = self;
+    }
+}
+
+impl<'f, A: Allocator + Copy> ProcessReadDir<Rules<A>, A> for CountedRules<'f> {
+    ghost IsLawful = { λ _. Unit {0} };
+
+    ghost Makes = { λ _ _. ⊥ };
+
+    fn process(
+        &self,
+        depth: Option<usize>,
+        path: &str,
+        state: &mut (Chain<A>, ()),
+        list: &mut List<A>,
+    ) -> Result<(), AllocError> {
+        let processed = self.rules.process(depth, path, state, list);
+        if processed.is_err() {
+            self.refusals.fetch_add(1, Ordering::SeqCst);
+        }
+        processed
+    }
 }
 
 impl<'f> Play<'f> {
-    /// Returns `None` if there is no memory for the root.
-    fn builder<A: Allocator + Copy>(&self, memory: A) -> Option<Walk<'f, A>> {
-        let root = String::from_str(memory, self.root).ok()?;
-        let rules = Counting::new(IgnoreFiles::new(&self.planted.texts), self.within);
-        Some(by_name(&self.planted.fs, root, self.width, rules))
+    /// Returns the outcome of the walk with a callback, which is shown hidden names. All types are parameters, since each
+    /// call at those of a walk with rules costs the prover many seconds.
+    fn comes_with<C: ClientState, S: FileSystem, P: ProcessReadDir<C, A>, A: Allocator + Copy>(
+        &self,
+        alloc: Global,
+        memory: A,
+        fs: S,
+        process: P,
+    ) -> Outcome
+    where
+        C::DirEntryState: Shown,
+        requires { P.IsLawful process }
+    {
+        let Ok(root) = String::from_str(memory, self.root) else {
+            return Outcome::Refused(0);
+        };
+        let walk = WalkDirGeneric::new(fs, root)
+            .sort(true)
+            .skip_hidden(false)
+            .parallelism(self.width.parallelism());
+        comes(
+            alloc,
+            memory,
+            walk.process_read_dir(process),
+            self.call,
+            self.lines,
+        )
+    }
+
+    /// Returns the outcome of the walk with this memory.
+    fn comes_from<A: Allocator + Copy>(&self, alloc: Global, memory: A) -> Outcome {
+        let rules = CountedRules {
+            rules: IgnoreFiles::new(&self.planted.texts),
+            refusals: self.within,
+        };
+        self.comes_with::<Rules<A>, _, _, _>(alloc, memory, &self.planted.fs, rules)
     }
 }
 
 /// A walk whose answers are all asked for at once may come whole after a refusal, as more is asked for then.
 impl Repeated for Play<'_> {
     fn comes(&self, alloc: Global, memory: &Refusing<Global>) -> Outcome {
-        match self.builder(memory) {
-            Some(walk) => comes(alloc, memory, walk, self.call, self.lines),
-            None => Outcome::Refused(0),
-        }
+        self.comes_from(alloc, memory)
     }
 
     fn may_be_whole(&self) -> bool {

@@ -1,5 +1,5 @@
 //! Walks with rules that rows of `seek` can't show, or that are read in other ways there.
-use crate::ignore::planted::{ROW, Row, SCENE, Scene, Yields};
+use crate::planted::{ROW, Row, SCENE, Scene, Yields};
 use jwalk::file_system::FileType;
 
 /// Which files of rules count, and which of them decides.

@@ -1,5 +1,5 @@
 //! Small trees with ignore files, and the part of each that git 2.39 keeps. `bench/ignore_trees.py` writes them.
-use crate::ignore::planted::{ROW, Row, SCENE, Scene, Yields};
+use crate::planted::{ROW, Row, SCENE, Scene, Yields};
 
 pub(crate) const TREES: &[Scene] = &[
     Scene {
