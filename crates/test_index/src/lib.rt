@@ -1,0 +1,9 @@
+//! Listings from records, and the records that are kept, by worked examples.
+#![tactic(auto)]
+
+#[cfg(test)]
+mod folder;
+#[cfg(test)]
+mod recorded;
+#[cfg(test)]
+mod served;
