@@ -20,8 +20,8 @@ PAGE = "docs/API.md"
 WIDTH = 120
 
 # The crates that users name. A path that begins with none of these is in the first.
-CRATES = ["jwalk", "jwalk_contents_first", "jwalk_usage", "jwalk_subtotals", "jwalk_ignore", "jwalk_callbacks"]
-CRATES += ["tree_walk", "tree_crew"]
+CRATES = ["jwalk", "jwalk_contents_first", "jwalk_sort_by", "jwalk_usage", "jwalk_subtotals", "jwalk_ignore"]
+CRATES += ["jwalk_callbacks", "jwalk_indexed_fs", "tree_walk", "tree_crew"]
 
 # What each section has, in this order: items, and with `::` at the end all of a path that isn't named elsewhere.
 SECTIONS = {
@@ -31,9 +31,9 @@ SECTIONS = {
     " file_system::Identity ReadChildren read_dir::Ancestors",
     "Errors": "Error Result",
     "Callbacks": "ClientState read_dir::ProcessReadDir read_dir::NoProcess read_dir::ByFn read_dir::FilterEntry"
-    " read_dir::SkipNames read_dir::Both read_dir::Calls read_dir::Closure jwalk_callbacks::",
+    " read_dir::SkipNames read_dir::Both read_dir::Calls read_dir::Closure jwalk_callbacks:: jwalk_sort_by::",
     "File systems": "file_system::FileSystem file_system::RealFs file_system::Patient file_system::MemoryFs"
-    " file_system::BuildError file_system::Listed file_system::Seen file_system::Sink file_system:: path_text::",
+    " file_system::BuildError file_system::Listed file_system::Seen file_system::Sink file_system:: jwalk_indexed_fs:: path_text::",
     "Contents first": "jwalk_contents_first:: jwalk_contents_first::iter::",
     "Totals": "jwalk_usage::",
     "Subtotals": "jwalk_subtotals:: jwalk_subtotals::SubtotalOptions jwalk_subtotals::iter:: jwalk_subtotals::WithSubtotal"
