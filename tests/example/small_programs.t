@@ -46,6 +46,28 @@ $ example unmarked photos
   photos/2026/sea.jpg
   photos/index.txt
 
+# what would be removed, each directory behind what is in it
+$ example remove_tree photos
+  photos/2025/.nobackup
+  photos/2025/mountain.jpg
+  photos/2025
+  photos/2026/.draft.jpg
+  photos/2026/sea, north.jpg
+  photos/2026/sea.jpg
+  photos/2026
+  photos/index.txt
+  photos
+
+# a tree with branches
+$ example branches photos
+  photos
+  ├── 2025
+  │   └── mountain.jpg
+  ├── 2026
+  │   ├── sea, north.jpg
+  │   └── sea.jpg
+  └── index.txt
+
 # what is on one disk, and in no directory of one name
 $ example one_disk photos 2026
   photos
@@ -127,3 +149,54 @@ $ example newest t
 $ example none t
 !~ usage: example NAME FOLDER, with one of these names:
 = 1
+
+# the newest first in each directory, and by name what is of one age
+disk
+  d r
+  f 1 r/a
+  f 1 r/b
+  d r/c
+  f 1 r/c/x
+  f 1 r/c/y
+  f 1 r/d
+  t 100 r/a
+  t 300 r/b
+  t 200 r/c
+  t 5 r/c/x
+  t 6 r/c/y
+  t 200 r/d
+$ example newest_first r
+  r
+  r/b
+  r/c
+  r/c/y
+  r/c/x
+  r/d
+  r/a
+
+# it is removed
+tree
+  f 1 q/r/s/a
+  f 1 q/r/.b
+$ example remove_tree q/r --really
+$ example batch_walk q
+  q
+
+# rules, a filter and a sort
+disk
+  d p
+  f 1 p/main.c
+  f 1 p/a.c
+  f 1 p/notes.txt
+  d p/lib
+  f 1 p/lib/long_name.c
+  f 1 p/lib/b.c
+  d p/gen
+  f 1 p/gen/out.c
+rules p/.ignore
+  gen/
+$ example sources p .c
+  p/a.c
+  p/lib/b.c
+  p/lib/long_name.c
+  p/main.c

@@ -2,8 +2,8 @@
 #![tactic(auto)]
 
 use examples::{
-    all_errors, archive, batch_walk, crew_walk, finder, ignore_walk, newest, one_disk, to_csv,
-    totals, unmarked, usage_walk,
+    all_errors, archive, batch_walk, branches, crew_walk, finder, ignore_walk, newest,
+    newest_first, one_disk, remove_tree, sources, to_csv, totals, unmarked, usage_walk,
 };
 use jwalk::file_system::{FileSystem, RealFs};
 use jwalk::read_dir::NoProcess;
@@ -13,8 +13,8 @@ use std::{env, io};
 
 /// The names that there are.
 const NAMES: &str =
-    "usage_walk ignore_walk batch_walk crew_walk totals finder unmarked newest one_disk to_csv archive \
-                     all_errors";
+    "usage_walk ignore_walk batch_walk crew_walk totals finder unmarked newest newest_first one_disk to_csv \
+                     archive remove_tree branches sources all_errors";
 
 /// Runs an example that is given a walk.
 fn run<R: Host + AllocGlobal, S: FileSystem + Send + Sync + 'static, W: Write>(
@@ -31,6 +31,7 @@ fn run<R: Host + AllocGlobal, S: FileSystem + Send + Sync + 'static, W: Write>(
         "totals" => totals::run(rt, walk, disk, out),
         "unmarked" => unmarked::run(rt, walk, out),
         "newest" => newest::run(rt.alloc(), walk, out),
+        "newest_first" => newest_first::run(walk, out),
         "one_disk" => one_disk::run(rt, walk, word, out),
         "to_csv" => to_csv::run(rt, walk, &disk, out),
         _ => anyhow::bail!("usage: example NAME FOLDER, with one of these names: {NAMES}"),
@@ -49,6 +50,16 @@ fn main(rt: HostRuntime) -> anyhow::Result<()> {
     let out = &mut io::writer(&rt);
     match name.as_deref().unwrap_or("") {
         "ignore_walk" => ignore_walk::run(&rt, &root, out),
+        "sources" => sources::run(&rt, &root, word, out),
+        "remove_tree" => {
+            remove_tree::run(
+                &rt,
+                WalkDir::at(&rt, &root)?,
+                word.as_str() == "--really",
+                out,
+            )
+        }
+        "branches" => branches::run(rt.alloc(), disk, root, out),
         "crew_walk" => crew_walk::run(&rt, disk, root, out),
         "finder" => finder::run(&rt, disk, root, &word, out),
         "archive" => archive::run(rt.alloc(), rt.reader(), root, out),

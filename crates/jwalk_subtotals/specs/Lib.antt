@@ -1,3 +1,4 @@
+pub mod Options
 pub mod Subtotal
 pub mod Counted
 pub mod Subtotals
