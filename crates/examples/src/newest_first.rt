@@ -3,6 +3,7 @@
 use jwalk::file_system::{FileSystem, Moment};
 use jwalk::read_dir::NoProcess;
 use jwalk::{DirEntry, WalkDirGeneric};
+use jwalk_sort_by::SortBy;
 use std::cmp::Reverse;
 use std::io::Write;
 
@@ -18,10 +19,8 @@ pub fn run<S: FileSystem, W: Write>(
     out: &mut W,
 ) -> anyhow::Result<()> {
     // begin walk
-    let walk = walk
-        .sort(true)
-        .keep_metadata(true)
-        .sort_by_key(|entry| Reverse(modified(entry)));
+    let newest = SortBy::key(|entry: &DirEntry<((), ())>| Reverse(modified(entry)));
+    let walk = walk.sort(true).keep_metadata(true).process_read_dir(newest);
     for answer in walk.into_iter() {
         writeln!(out, "{}", answer?.path()?)?;
     }

@@ -1,4 +1,4 @@
-//! Walks by the calls that loops of `walkdir` use: contents first, filtered and sorted, read in three ways.
+//! Walks by what loops of `walkdir` use: contents first, filtered and sorted, read in three ways.
 #![tactic(auto)]
 
 #[cfg(test)]

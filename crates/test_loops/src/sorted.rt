@@ -1,7 +1,9 @@
-//! Walks that are filtered and sorted by calls of the builder.
+//! Walks that are filtered and sorted by callbacks.
 use crate::three_ways::{READERS, Reader};
+use jwalk::DirEntry;
 use jwalk::file_system::BuildError;
-use jwalk::read_dir::{FilterEntry, SkipNames};
+use jwalk::read_dir::{Both, FilterEntry, SkipNames};
+use jwalk_sort_by::SortBy;
 use std::cmp::Ordering;
 use test_fixtures::answers::are_lines;
 use test_fixtures::by_crew::all_by_crew;
@@ -19,6 +21,9 @@ const QUUX: &[Step] = &[
     Step::Dir("/r/quux"),
 ];
 
+/// An entry of these walks.
+type Entry = DirEntry<((), ())>;
+
 /// Names of several lengths, and a loop.
 const NAMES: &[Step] = &[
     Step::Dir("/r"),
@@ -33,7 +38,7 @@ const NAMES: &[Step] = &[
 fn reversed<R: Host>(rt: &R, reader: Reader) -> Result<bool, BuildError> {
     let walk = reader
         .walk(rt, tree(rt.alloc(), QUUX)?, "/r")?
-        .sort_by(|a, b| b.file_name().cmp(a.file_name()));
+        .process_read_dir(SortBy::new(|a: &Entry, b: &Entry| { b.file_name().cmp(a.file_name()) }));
     let found = all_by_crew(rt.alloc(), walk)?;
     let wanted =
         "0 d /r; 1 d /r/quux; 1 d /r/foo; 2 d /r/foo/bar; 3 d /r/foo/bar/baz; 4 d /r/foo/bar/baz/abc";
@@ -52,7 +57,7 @@ fn by_length<R: Host>(rt: &R, reader: Reader) -> Result<bool, BuildError> {
     let walk = reader
         .walk(rt, tree(rt.alloc(), NAMES)?, "/r")?
         .follow_links(true)
-        .sort_by_key(|entry| entry.file_name().len());
+        .process_read_dir(SortBy::key(|entry: &Entry| entry.file_name().len()));
     let found = all_by_crew(rt.alloc(), walk)?;
     let wanted =
         "0 d /r; 1 f /r/a; 1 f /r/d; 1 f /r/bb; 1 d /r/ccc; 2 f /r/ccc/x; ! 1 /r/l loop /r";
@@ -68,14 +73,17 @@ fn equal_keys_keep_their_order_and_errors_are_last(rt: HostRuntime) {
 
 /// The longest file first, by what the walk keeps.
 fn by_size<R: Host>(rt: &R, reader: Reader) -> Result<bool, BuildError> {
+    let longest_first = SortBy::new(|a: &Entry, b: &Entry| {
+        match (a.metadata_seen(), b.metadata_seen()) {
+            (Some(a), Some(b)) => b.len().cmp(&a.len()),
+            _ => Ordering::Equal,
+        }
+    });
+    let files = FilterEntry::new(|_depth, _name, file_type| file_type.is_file());
     let walk = reader
         .walk(rt, tree(rt.alloc(), NAMES)?, "/r")?
         .keep_metadata(true)
-        .sort_by(|a, b| match (a.metadata_seen(), b.metadata_seen()) {
-            (Some(a), Some(b)) => b.len().cmp(&a.len()),
-            _ => Ordering::Equal,
-        })
-        .filter_entry(|_depth, _name, file_type| file_type.is_file());
+        .process_read_dir(Both::new(longest_first, files));
     let found = all_by_crew(rt.alloc(), walk)?;
     let wanted = "0 d /r; 1 f /r/a; 1 f /r/d; 1 f /r/bb";
     Ok(are_lines(rt.alloc(), found.as_slice(), wanted))
@@ -97,7 +105,7 @@ fn kept<R: Host>(
 ) -> Result<bool, BuildError> {
     let walk = reader
         .walk(rt, tree(rt.alloc(), QUUX)?, "/r")?
-        .filter_entry(|_depth, name, _type| name != dropped);
+        .process_read_dir(FilterEntry::new(|_depth, name, _type| name != dropped));
     let found = all_by_crew(rt.alloc(), walk)?;
     Ok(are_lines(rt.alloc(), found.as_slice(), wanted))
 }
@@ -122,22 +130,22 @@ fn what_is_not_kept_is_not_entered(rt: HostRuntime) {
     }
 }
 
-/// Calls add up, in their order; `process_read_dir` replaces what is there.
+/// A filter, an order and names that are not entered, one behind the other.
 fn composed<R: Host>(rt: &R, reader: Reader) -> Result<bool, BuildError> {
     let alloc = rt.alloc();
+    let filter = FilterEntry::new(|_depth, name, _type| name != "x");
+    let order = SortBy::key(|entry: &Entry| entry.file_name().len());
+    let skip = SkipNames::new(texts(alloc, &["ccc"], &[])?);
     let walk = reader
         .walk(rt, tree(alloc, NAMES)?, "/r")?
-        .filter_entry(|_depth, _name, _type| false)
-        .process_read_dir(FilterEntry::new(|_depth, name, _type| name != "x"))
-        .sort_by_key(|entry| entry.file_name().len())
-        .then(SkipNames::new(texts(alloc, &["ccc"], &[])?));
+        .process_read_dir(Both::new(filter, Both::new(order, skip)));
     let found = all_by_crew(alloc, walk)?;
     let wanted = "0 d /r; 1 f /r/a; 1 f /r/d; 1 L /r/l; 1 f /r/bb; 1 d /r/ccc";
     Ok(are_lines(alloc, found.as_slice(), wanted))
 }
 
 #[test]
-fn calls_of_the_builder_compose(rt: HostRuntime) {
+fn callbacks_compose(rt: HostRuntime) {
     for reader in READERS {
         assert!(rt; matches!(composed(&rt, *reader), Ok(true)), "{reader:?}");
     }
