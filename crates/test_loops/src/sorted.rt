@@ -105,7 +105,7 @@ fn kept<R: Host>(
 ) -> Result<bool, BuildError> {
     let walk = reader
         .walk(rt, tree(rt.alloc(), QUUX)?, "/r")?
-        .process_read_dir(FilterEntry::new(|_depth, name, _type| name != dropped));
+        .process_read_dir(FilterEntry::new(move |_depth, name, _type| { name != dropped }));
     let found = all_by_crew(rt.alloc(), walk)?;
     Ok(are_lines(rt.alloc(), found.as_slice(), wanted))
 }
