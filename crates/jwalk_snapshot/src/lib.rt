@@ -52,3 +52,6 @@ pub use file::replace;
 pub use head::Head;
 pub use name::{Facts, Name};
 pub use snapshot::Snapshot;
+
+#[cfg(test)]
+mod tests;
