@@ -10,3 +10,4 @@ pub mod RunFacts
 pub mod WholeFacts
 pub mod VecFacts
 pub mod AlikeFacts
+pub mod AppliedFacts

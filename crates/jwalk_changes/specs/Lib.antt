@@ -8,3 +8,4 @@ pub mod Coming
 pub mod Steps
 pub mod Laws
 pub mod Whole
+pub mod Rows

@@ -1,5 +1,5 @@
 //! The laws on differences, each as the contract of a function that does nothing.
-ghost use Rattle.jwalk_changes.specs.Laws.{DifferencesExist, DifferencesAreOne, NoneIfEqual};
+ghost use Rattle.jwalk_changes.specs.Laws.{DifferencesExist, DifferencesAreOne, NoneIfEqual, AppliedGiveNew};
 ghost use Rattle.jwalk_changes.specs.Whole.{AllAreYielded, ErrorsAreTrue};
 
 use crate::at_path::AtPath;
@@ -19,6 +19,12 @@ pub fn differences_are_one<O: Entry, N: Entry, U: AtPath>()
 /// aren't known.
 pub fn none_if_equal<O: Entry, N: Entry, U: AtPath>()
     ensures { NoneIfEqual O.path O.facts N.path N.facts U.path }
+{}
+
+/// Applied to the old list, the differences give the new one: a list with the same paths and equal facts, outside the
+/// places whose contents aren't known.
+pub fn applied_give_new<X: Entry, U: AtPath>()
+    ensures { AppliedGiveNew X.path X.facts U.path }
 {}
 
 /// What [`changes`](crate::changes) yields up to `None` are all differences, if none of it is an error.

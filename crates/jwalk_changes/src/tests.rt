@@ -1,1 +1,0 @@
-//! Rows of small lists.
