@@ -121,3 +121,6 @@ pub fn changes_between<O: Entry, N: Entry, U: AtPath, A: Allocator + Copy>(
 {
     all_changes(alloc, old.into_iter(), new.into_iter(), unknown.into_iter())
 }
+
+#[cfg(test)]
+mod tests;
