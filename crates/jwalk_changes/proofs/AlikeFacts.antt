@@ -1,14 +1,13 @@
 -- Ascending lists that have the same at each path.
-use Rattle.std.proofs.Common.{◌≡◌, ℕ, Bool, true, false, not, cond, List, [], ◌∷◌, Option, Some, None, refl, sym, ap, ap₂, ◌∙◌, subst}
-use Rattle.std.specs.Prelude.{filter, if◌then◌else◌}
+use Rattle.std.proofs.Common.{◌≡◌, Bool, true, false, not, cond, List, [], ◌∷◌, Option, Some, None, refl, sym, ap, ap₂, ◌∙◌, subst}
+use Rattle.std.specs.Prelude.{if◌then◌else◌}
 use Rattle.std.specs.List.{AllByRecursion}
 use Rattle.jwalk_changes.specs.declared.facts.Facts.{Facts}
-use Rattle.jwalk_changes.specs.declared.change.Change.{Change}
 use Rattle.jwalk_changes.specs.declared.change.Change.TheVariants.{Changed}
 use Rattle.jwalk_changes.specs.AtPath.{is_before, is_same}
 use Rattle.jwalk_changes.specs.Facts.{which, is_any}
 use Rattle.jwalk_changes.specs.Change.{path_of, change, difference}
-use Rattle.jwalk_changes.specs.Differences.{Ascends, at, is_within, told, IsDifferences}
+use Rattle.jwalk_changes.specs.Differences.{Ascends, at, is_within}
 use Rattle.jwalk_changes.specs.Laws.{outside, AreAlike, AreEqual, DifferencesAreOne, NoneIfEqual}
 use Rattle.jwalk_changes.proofs.OrderFacts.{Path, same_path, same_itself, not_before}
 use Rattle.jwalk_changes.proofs.ListFacts.{before_all, at_none}

@@ -1,8 +1,8 @@
 -- Differences applied to the old list.
-use Rattle.std.proofs.Common.{◌≡◌, ℕ, Bool, true, false, not, ◌&&◌, ◌||◌, cond, ◌==◌, List, [], ◌∷◌, Option, Some, None, refl, sym, ap, ap₂, ◌∙◌, subst}
-use Rattle.std.specs.Prelude.{filter, if◌then◌else◌, nat_eq}
+use Rattle.std.proofs.Common.{◌≡◌, Bool, true, false, not, ◌&&◌, ◌||◌, cond, ◌==◌, List, [], ◌∷◌, Option, Some, None, refl, sym, ap, ap₂, ◌∙◌, subst}
+use Rattle.std.specs.Prelude.{if◌then◌else◌}
 use Rattle.std.specs.List.{AllByRecursion}
-use Rattle.std.specs.Ordering.{int_eq, int_cmp, is_eq}
+use Rattle.std.specs.Ordering.{int_eq, is_eq}
 use Rattle.std.specs.Cmp.{nat_eq_equiv, int_cmp_total}
 use Rattle.std.proofs.lemmas.Cmp.{tied_itself}
 use Rattle.jwalk_model.specs.declared.file_type.FileType.{FileType}
@@ -16,10 +16,10 @@ use Rattle.jwalk_changes.specs.AtPath.{is_before, is_same}
 use Rattle.jwalk_changes.specs.Differ.{differ}
 use Rattle.jwalk_changes.specs.Facts.{same_type, same_moment, which, is_any}
 use Rattle.jwalk_changes.specs.Change.{path_of, difference}
-use Rattle.jwalk_changes.specs.Differences.{Ascends, at, is_within, IsDifferences}
+use Rattle.jwalk_changes.specs.Differences.{Ascends, at, is_within}
 use Rattle.jwalk_changes.specs.Laws.{outside, AreEqual, without, inserted, applied_one, applied, AppliedGiveNew}
 use Rattle.jwalk_changes.proofs.OrderFacts.{Path, same_path, same_itself, not_before}
-use Rattle.jwalk_changes.proofs.ListFacts.{all_map, before_all, at_none}
+use Rattle.jwalk_changes.proofs.ListFacts.{before_all, at_none}
 use Rattle.jwalk_changes.proofs.AlikeFacts.{AtAlike, alike, at_outside, ascends_outside}
 
 -- ---- an entry equals itself

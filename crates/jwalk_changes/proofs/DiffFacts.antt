@@ -1,5 +1,5 @@
 -- The differences of lists that begin with an entry, by those of the rest.
-use Rattle.std.proofs.Common.{◌≡◌, ℕ, Bool, true, false, cond, ◌||◌, List, [], ◌∷◌, ◌++◌, Option, Some, None, refl, sym, ap, ap₂, ◌∙◌, subst}
+use Rattle.std.proofs.Common.{◌≡◌, Bool, true, false, cond, ◌||◌, List, [], ◌∷◌, ◌++◌, Option, Some, None, refl, sym, ap, ap₂, ◌∙◌, subst}
 use Rattle.std.specs.Prelude.{if◌then◌else◌}
 use Rattle.std.specs.List.{AllByRecursion}
 use Rattle.std.specs.Option.{option_to_list}
@@ -9,8 +9,8 @@ use Rattle.jwalk_changes.specs.declared.change.Change.TheVariants.{Added, Remove
 use Rattle.jwalk_changes.specs.AtPath.{is_before, is_same, is_below}
 use Rattle.jwalk_changes.specs.Facts.{which, is_any}
 use Rattle.jwalk_changes.specs.Change.{path_of, change, difference}
-use Rattle.jwalk_changes.specs.Differences.{Ascends, at, is_within, told, IsDifferences}
-use Rattle.jwalk_changes.proofs.OrderFacts.{Path, same_path, same_itself}
+use Rattle.jwalk_changes.specs.Differences.{Ascends, at, is_within, IsDifferences}
+use Rattle.jwalk_changes.proofs.OrderFacts.{Path, same_path}
 use Rattle.jwalk_changes.proofs.ListFacts.{all_map, at_none, at_some, all_found}
 
 module _ {O N U : Type 0} (op : O → Path) (of : O → Facts) (np : N → Path) (nf : N → Facts) (place : U → Path) where

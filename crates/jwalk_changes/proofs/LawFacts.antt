@@ -1,14 +1,11 @@
 -- The laws on differences.
-use Rattle.std.proofs.Common.{◌≡◌, ℕ, Bool, true, false, List, [], ◌∷◌, ◌++◌, refl, sym, ap, ◌∙◌, subst}
+use Rattle.std.proofs.Common.{◌≡◌, Bool, true, false, List, [], ◌∷◌, ◌++◌, refl, sym, ap, ◌∙◌}
 use Rattle.std.specs.List.{AllByRecursion}
 use Rattle.std.specs.Option.{option_to_list}
-use Rattle.std.specs.declared.cmp.Ordering.{Ordering}
-use Rattle.std.specs.declared.cmp.Ordering.TheVariants.{Less, Equal, Greater}
-use Rattle.std.specs.Ordering.{is_lt, is_eq}
 use Rattle.jwalk_changes.specs.declared.facts.Facts.{Facts}
 use Rattle.jwalk_changes.specs.declared.change.Change.{Change}
 use Rattle.jwalk_changes.specs.declared.change.Change.TheVariants.{Added, Removed}
-use Rattle.jwalk_changes.specs.AtPath.{path_cmp, is_before, is_same}
+use Rattle.jwalk_changes.specs.AtPath.{is_before, is_same}
 use Rattle.jwalk_changes.specs.Change.{change}
 use Rattle.jwalk_changes.specs.Differences.{Ascends, is_within, IsDifferences}
 use Rattle.jwalk_changes.specs.Laws.{DifferencesExist}

@@ -1,5 +1,5 @@
 -- Ascending lists, and what they have at a path.
-use Rattle.std.proofs.Common.{◌≡◌, ℕ, Bool, true, false, cond, List, [], ◌∷◌, ◌++◌, Option, Some, None, refl, ap, ◌∙◌, subst}
+use Rattle.std.proofs.Common.{◌≡◌, Bool, true, false, cond, List, [], ◌∷◌, ◌++◌, Option, Some, None, refl, ap, ◌∙◌, subst}
 use Rattle.std.specs.List.{AllByRecursion}
 use Rattle.jwalk_changes.specs.AtPath.{is_before, is_same}
 use Rattle.jwalk_changes.specs.Differences.{Ascends, at}

@@ -1,5 +1,5 @@
 -- Turns up to what a call returns.
-use Rattle.std.proofs.Common.{◌≡◌, ◌≤◌, ◌⊎◌, ℕ, Bool, true, false, ◌||◌, List, [], Option, Some, None, Result, Err, refl, sym, ap, ◌∙◌, arith}
+use Rattle.std.proofs.Common.{◌≡◌, ◌≤◌, Bool, true, false, ◌||◌, [], Option, Some, None, Result, refl, ap, ◌∙◌, arith}
 use Rattle.std.specs.Iterator.{Count, at_most, MakesProgress}
 use Rattle.jwalk_changes.specs.declared.facts.Facts.{Facts}
 use Rattle.jwalk_changes.specs.declared.change.Change.{Change}

@@ -1,5 +1,5 @@
 -- One input of a comparison.
-use Rattle.std.proofs.Common.{◌≡◌, Bool, true, false, ℕ, List, [], ◌∷◌, ◌++◌, Option, Some, None, refl, sym, ap, ap₂, ◌∙◌, subst, append_assoc}
+use Rattle.std.proofs.Common.{◌≡◌, Bool, true, false, List, [], ◌∷◌, ◌++◌, Option, None, refl, sym, ap, ap₂, ◌∙◌, subst, append_assoc}
 use Rattle.std.specs.Iterator.{Yields, YieldsThen}
 use Rattle.std.proofs.lemmas.List.{append-nil}
 use Rattle.jwalk_changes.specs.declared.side.Ahead.{Ahead}

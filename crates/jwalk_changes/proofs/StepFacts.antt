@@ -1,5 +1,5 @@
 -- What is known where a step is taken.
-use Rattle.std.proofs.Common.{◌≡◌, ℕ, Bool, true, false, cond, ◌||◌, List, [], ◌∷◌, Some, None, refl, sym, ap, ap₂, ◌∙◌, subst}
+use Rattle.std.proofs.Common.{◌≡◌, Bool, true, false, cond, ◌||◌, List, [], ◌∷◌, Some, None, refl, sym, ap, ◌∙◌, subst}
 use Rattle.std.specs.Prelude.{if◌then◌else◌}
 use Rattle.std.specs.List.{AllByRecursion}
 use Rattle.std.specs.declared.cmp.Ordering.{Ordering}
@@ -15,7 +15,7 @@ use Rattle.jwalk_changes.specs.AtPath.{path_cmp, is_before, is_same, is_below}
 use Rattle.jwalk_changes.specs.Differences.{Ascends, at, is_within}
 use Rattle.jwalk_changes.specs.Side.{MayBeLeft, is_fallen_in, is_fresh_in}
 use Rattle.jwalk_changes.specs.Steps.{step_at, step_behind, step_of, least, first_of}
-use Rattle.jwalk_changes.proofs.OrderFacts.{Path, same_path, not_before, before_trans, before_is_other, below_is_after, below_between, path_cmp_itself}
+use Rattle.jwalk_changes.proofs.OrderFacts.{Path, same_path, not_before, before_trans, below_is_after, below_between, path_cmp_itself}
 use Rattle.jwalk_changes.proofs.ListFacts.{before_all, all_map}
 
 -- An input was asked, and ascends so far.

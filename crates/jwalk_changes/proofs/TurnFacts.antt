@@ -1,11 +1,11 @@
 -- Turns of a comparison, one after another.
-use Rattle.std.proofs.Common.{◌≡◌, ◌<◌, ◌≤◌, ◌+◌, ◌⊎◌, ℕ, Bool, true, false, cond, ◌||◌, List, [], ◌∷◌, ◌++◌, Option, Some, None, Result, Ok, Err, inl, inr, refl, sym, ap, ap₂, ◌∙◌, subst, append_assoc, arith}
+use Rattle.std.proofs.Common.{◌≡◌, ◌<◌, ◌+◌, ℕ, Bool, true, false, cond, ◌||◌, List, [], ◌∷◌, ◌++◌, Option, Some, None, Ok, Err, inl, inr, refl, sym, ap, ◌∙◌, subst, append_assoc, arith}
 use Rattle.std.specs.Option.{option_to_list}
 use Rattle.std.specs.List.{AllByRecursion}
-use Rattle.std.specs.Iterator.{Count, at_most, MakesProgress, size}
+use Rattle.std.specs.Iterator.{Count, size}
 use Rattle.jwalk_changes.specs.declared.facts.Facts.{Facts}
 use Rattle.jwalk_changes.specs.declared.change.Change.{Change}
-use Rattle.jwalk_changes.specs.declared.change.Change.TheVariants.{Added, Removed, Changed}
+use Rattle.jwalk_changes.specs.declared.change.Change.TheVariants.{Added, Removed}
 use Rattle.jwalk_changes.specs.declared.change.NotAscending.{NotAscending}
 use Rattle.jwalk_changes.specs.declared.side.Ahead.{Ahead}
 use Rattle.jwalk_changes.specs.declared.side.Ahead.TheVariants.{Unasked, Taken, Over, Fallen}
@@ -17,18 +17,17 @@ use Rattle.jwalk_changes.specs.declared.iter.First.TheVariants.{Old, New, Both}
 use Rattle.jwalk_changes.specs.declared.iter.Step.{Step}
 use Rattle.jwalk_changes.specs.declared.iter.Step.TheVariants.{Tell, Skip, Pass, End}
 use Rattle.jwalk_changes.specs.declared.change.NotAscending.TheVariants.{Old as OldInput, New as NewInput, Unknown as UnknownInput}
-use Rattle.jwalk_changes.specs.AtPath.{is_before, is_below}
-use Rattle.jwalk_changes.specs.Facts.{which, is_any}
+use Rattle.jwalk_changes.specs.AtPath.{is_before}
 use Rattle.jwalk_changes.specs.Change.{change}
-use Rattle.jwalk_changes.specs.Differences.{Ascends, at, is_within, IsDifferences}
-use Rattle.jwalk_changes.specs.Side.{MayBeLeft, Passes, Advances, CanGoOnAt, waiting, is_fallen, is_fallen_in, is_over, is_over_in, is_fresh_in, turns_in, turns_left}
-use Rattle.jwalk_changes.specs.Coming.{is_stopped, value, value_of, is_error, stops_with, weight, HasFallen, AreOver, CanGoOn, Goes, Gives}
-use Rattle.jwalk_changes.specs.Steps.{result_of, is_end, Turns, AreAsked, step_of, turn_with, turn_both}
+use Rattle.jwalk_changes.specs.Differences.{Ascends, is_within, IsDifferences}
+use Rattle.jwalk_changes.specs.Side.{Advances, CanGoOnAt, waiting, is_fallen_in, is_over_in, turns_in, turns_left}
+use Rattle.jwalk_changes.specs.Coming.{is_stopped, weight, HasFallen, CanGoOn, Goes}
+use Rattle.jwalk_changes.specs.Steps.{Turns, AreAsked, step_of, turn_with, turn_both}
 use Rattle.jwalk_changes.proofs.OrderFacts.{Path}
 use Rattle.jwalk_changes.proofs.ListFacts.{ascends_back}
 use Rattle.jwalk_changes.proofs.SideFacts.{stays, passes_on}
 use Rattle.jwalk_changes.proofs.DiffFacts.{add_removed, add_added, add_both, skip_old, skip_new, pass_place}
-use Rattle.jwalk_changes.proofs.StepFacts.{Goes as AscendsSoFar, IsOld, IsNew, AreBoth, IsOutside, IsWithin, IsPast, AllOver, Means, means}
+use Rattle.jwalk_changes.proofs.StepFacts.{IsOld, IsNew, AreBoth, IsOutside, IsWithin, IsPast, Means, means}
 
 module _ {I J K O N U : Type 0} (ni : I → Option O → I → Type 0) (nj : J → Option N → J → Type 0) (nk : K → Option U → K → Type 0)
     (op : O → Path) (of : O → Facts) (np : N → Path) (nf : N → Facts) (place : U → Path) where

@@ -1,8 +1,8 @@
 -- What an iterator over differences yields from its beginning on.
-use Rattle.std.proofs.Common.{◌≡◌, ◌⊎◌, ℕ, Bool, true, false, ◌||◌, List, [], ◌∷◌, ◌++◌, Option, Some, None, Result, Ok, Err, inl, inr, refl, sym, ap, ap₂, ◌∙◌, subst, append_assoc}
+use Rattle.std.proofs.Common.{◌≡◌, ◌⊎◌, Bool, true, false, ◌||◌, List, [], ◌∷◌, ◌++◌, Option, Some, None, Result, Err, inl, inr, refl, sym, ap, ap₂, ◌∙◌, subst, append_assoc}
 use Rattle.std.specs.Prelude.{flat_map}
 use Rattle.std.specs.List.{list_any}
-use Rattle.std.specs.Iterator.{Count, Drains, Yields, YieldsThen}
+use Rattle.std.specs.Iterator.{Drains, Yields}
 use Rattle.std.proofs.lemmas.List.{append-nil}
 use Rattle.jwalk_changes.specs.declared.facts.Facts.{Facts}
 use Rattle.jwalk_changes.specs.declared.change.Change.{Change}
@@ -14,7 +14,7 @@ use Rattle.jwalk_changes.specs.declared.side.Side.{Side}
 use Rattle.jwalk_changes.specs.declared.iter.Changes.{Changes}
 use Rattle.jwalk_changes.specs.Differences.{Ascends, IsDifferences}
 use Rattle.jwalk_changes.specs.Side.{MayBeLeft, Passes, Takes, waiting, items_of, is_over, is_over_in, is_fallen, is_fallen_in}
-use Rattle.jwalk_changes.specs.Coming.{old_of, new_of, unknown_of, is_stopped, value, is_error, stops_with, IsFresh, HasFallen, AreOver, CanGoOn, Goes, Gives}
+use Rattle.jwalk_changes.specs.Coming.{old_of, new_of, unknown_of, is_stopped, value, is_error, IsFresh, HasFallen, AreOver, Goes, Gives}
 use Rattle.jwalk_changes.specs.Whole.{DoesNotAscend, ComparesAll, IsTrueOf, AllAreYielded, ErrorsAreTrue}
 use Rattle.jwalk_changes.proofs.OrderFacts.{Path}
 use Rattle.jwalk_changes.proofs.DiffFacts.{none_differ}

@@ -1,7 +1,6 @@
 -- What differs at a path.
 use Rattle.std.specs.Prelude.{ℕ, List, Option, Some, None, if◌then◌else◌}
 use Rattle.jwalk_changes.specs.declared.facts.Facts.{Facts}
-use Rattle.jwalk_changes.specs.declared.facts.Which.{Which}
 use Rattle.jwalk_changes.specs.declared.change.Change.{Change}
 use Rattle.jwalk_changes.specs.declared.change.Change.TheVariants.{Added, Removed, Changed}
 use Rattle.jwalk_changes.specs.Facts.{which, is_any}

@@ -1,5 +1,5 @@
 -- What an iterator over differences yields from its beginning on.
-use Rattle.std.specs.Prelude.{◌≡◌, ℕ, false, List, [], flat_map, Option, Some, None, Result, Err}
+use Rattle.std.specs.Prelude.{◌≡◌, ℕ, false, List, flat_map, Option, Some, None, Result, Err}
 use Rattle.std.specs.List.{list_any}
 use Rattle.std.specs.Iterator.{Drains, Yields, YieldsThen}
 use Rattle.jwalk_changes.specs.declared.facts.Facts.{Facts}

@@ -1,4 +1,4 @@
-use Rattle.std.proofs.Common.{List, Some, Ok, Err, Result, refl, sym, subst}
+use Rattle.std.proofs.Common.{List, Some, Ok, Result, refl, sym, subst}
 use Rattle.jwalk_changes.specs.declared.change.Change.{Change}
 use Rattle.jwalk_changes.specs.declared.change.NotAscending.{NotAscending}
 use Rattle.jwalk_changes.specs.Coming.{Gives}

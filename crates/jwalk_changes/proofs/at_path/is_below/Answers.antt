@@ -1,4 +1,4 @@
-use Rattle.std.proofs.Common.{not, slice_get, Some, ap, ap₂, ◌∙◌, sym, arith}
+use Rattle.std.proofs.Common.{not, Some, ap, ap₂, ◌∙◌, sym, arith}
 use Rattle.std.specs.Prelude.{nat_eq, nat_lt}
 use Rattle.std.specs.Option.{option_eq}
 use Rattle.jwalk_model.specs.Paths.{slash}
