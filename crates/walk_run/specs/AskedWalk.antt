@@ -1,20 +1,26 @@
 -- What a walk that is asked for prints.
-use Rattle.std.specs.Prelude.{◌≡◌, ℕ, true, List, length, Option, Result, is_ok, if◌then◌else◌}
+use Rattle.std.specs.Prelude.{◌≡◌, ℕ, max, min, true, List, length, Option, None, Some, Result, is_ok, if◌then◌else◌}
+use Rattle.std.specs.Arc.{arc_value}
 use Rattle.std.specs.List.{list_all}
 use Rattle.std.specs.Io.KnownBytes.{Appends}
+use Rattle.std.specs.declared.sync.Arc.{Arc}
+use Rattle.std.specs.declared.time.Duration.{Duration}
 use Rattle.jwalk_job.specs.declared.dir_entry.DirEntry.{DirEntry}
 use Rattle.jwalk_job.specs.declared.error.Error.{Error}
 use Rattle.jwalk.specs.declared.crew.Crew.{Crew}
 use Rattle.jwalk.specs.declared.crew.Session.{Session}
 use Rattle.jwalk.specs.declared.walk_dir.WalkDirGeneric.{WalkDirGeneric}
 use Rattle.jwalk.specs.DirEntryIter.{DirEntryIter, held}
-use Rattle.jwalk.specs.WalkDir.{file_system_of, root_of, options_of, Starts}
+use Rattle.jwalk.specs.tree_crew.Crew.{workers_of}
+use Rattle.jwalk.specs.WalkDir.{described, file_system_of, root_of, options_of, Starts}
 use Rattle.jwalk_model.specs.FileSystem.{Functions}
 use Rattle.jwalk_model.specs.Counted.{Worth}
 use Rattle.jwalk_model.specs.Entry.{Item}
 use Rattle.jwalk_model.specs.Walk.{stateless_walk}
 use Rattle.jwalk_model.specs.Lines.{lines_of}
 use Rattle.walk_text.specs.declared.asked.Asked.{Asked}
+use Rattle.walk_text.specs.declared.read_by.ReadBy.{ReadBy}
+use Rattle.walk_text.specs.declared.read_by.ReadBy.TheVariants as read
 use Rattle.walk_text.specs.Asked.{options_asked}
 use Rattle.walk_run.specs.Answers.{PrintsAll}
 use Rattle.walk_run.specs.Totals.{totals_line}
@@ -32,6 +38,12 @@ pub record PrintsOver (fs : Functions) (asked : Asked) (root : List ℕ) (old ne
   pub prints : Appends old new (written asked (answers_over fs asked root))
   pub clean : list_all is_ok (answers_over fs asked root) ≡ true
 
+-- A walk's crew is there if one is named, with as many workers, but at least one and at most 256. The walk blocks for a place of it without a limit.
+abbrev pub IsReadBy : {T A : Type 0} → Option ReadBy → Option (Arc (Crew T) A × Option Duration) → Type 0
+IsReadBy (Some (read.Crew workers)) (Some (crew, limit)) = (workers_of (arc_value crew) ≡ max 1 (min workers 256)) × (limit ≡ None)
+IsReadBy (Some (read.Crew workers)) None = ⊥
+IsReadBy _ own = own ≡ None
+
 -- a walk under way, which may have a crew
 abbrev pub CrewWalk : (T C S P A R E : Type 0) → Type 0
 CrewWalk T C S P A R E = DirEntryIter C S P A (Session T C S P A R E) R E
@@ -47,6 +59,7 @@ module _ {T C S P A R E : Type 0} (calls : CrewCalls T C S P A R E) where
     pub file_system : file_system_of walk ≡ fs
     pub root_of_it : root_of walk ≡ root
     pub options : options_of walk ≡ options_asked asked
+    pub crew : IsReadBy asked.read_by (described walk).crew
     pub it : CrewWalk T C S P A R E
     pub starts : Starts walk it
     pub one : length (held it) ≡ 1

@@ -5,11 +5,12 @@ ghost use Rattle.jwalk_job.specs.Job.{callback};
 ghost use Rattle.jwalk_job.specs.Options.{options_value};
 ghost use Rattle.jwalk.specs.DirEntryIter.{job_of};
 ghost use Rattle.jwalk.specs.Parallelism.{parallelism_value};
-ghost use Rattle.jwalk.specs.WalkDir.{file_system_of, root_of, options_of};
+ghost use Rattle.jwalk.specs.jwalk_readings.Parallelism.{crew_of};
+ghost use Rattle.jwalk.specs.WalkDir.{described, file_system_of, root_of, options_of};
 ghost use Rattle.walk_text.specs.Asked.{options_asked, parallelism_named};
 ghost use Rattle.walk_text.specs.Failure.{status_of};
 ghost use Rattle.walk_run.specs.Answers.{PrintsAll};
-ghost use Rattle.walk_run.specs.AskedWalk.{written, PrintsBegun, PrintsOver};
+ghost use Rattle.walk_run.specs.AskedWalk.{written, IsReadBy, PrintsBegun, PrintsOver};
 
 use crate::answers::status_once;
 use crate::totals::print_totals;
@@ -43,7 +44,8 @@ fn parallelism_of<T: Wait + Clock + Clone + Drop, A: Allocator + Copy>(
     alloc: A,
     by: Option<ReadBy>,
 ) -> Result<Parallelism<Crew<T>, A>, AllocError>
-    ensures { IfOk result (λ it. parallelism_value it ≡ parallelism_named by) }
+    ensures value { IfOk result (λ it. parallelism_value it ≡ parallelism_named by) }
+    ensures crew { IfOk result (λ it. IsReadBy by (crew_of it)) }
 {
     match by {
         None => Ok(Parallelism::Serial),
@@ -86,6 +88,7 @@ pub fn walk_of<
     ensures file_system { IfOk result (λ walk. file_system_of walk ≡ fs) }
     ensures root { IfOk result (λ walk. root_of walk ≡ string_bytes root) }
     ensures options { IfOk result (λ walk. options_of walk ≡ options_asked asked) }
+    ensures crew { IfOk result (λ walk. IsReadBy asked.read_by (described walk).crew) }
 {
     let parallelism = parallelism_of(rt, *root.allocator(), asked.read_by)?;
     Ok(

@@ -19,6 +19,7 @@ returns-clause-walked g c = λ clean.
       file_system = built.file_system;
       root_of_it = built.root ∙ c.in_ok-root.ensures.ok;
       options = built.options;
+      crew = built.crew;
       it = c.into_iter-answers.result;
       starts = c.into_iter-answers.ensures.starts;
       one = c.into_iter-answers.ensures.one stateless (λ depth path state list. refl) (λ depth path state list. refl);
