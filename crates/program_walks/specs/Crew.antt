@@ -1,13 +1,27 @@
 -- The crew that reads directories, and a walk that it may read for.
-use Rattle.std.specs.Prelude.{◌≡◌, Bool, Option, Some, None, Result, if◌then◌else◌}
+use Rattle.std.specs.Prelude.{◌≡◌, ℕ, zero, suc, min, nat_lt, Bool, Option, Some, None, Result, is_some, IfSome, if◌then◌else◌}
 use Rattle.std.specs.Arc.{arc_value}
 use Rattle.std.specs.declared.sync.Arc.{Arc}
 use Rattle.std.specs.declared.time.Duration.{Duration}
 use Rattle.jwalk_model.specs.Options.{serial, crew, Options, with_parallelism}
 use Rattle.jwalk.specs.jwalk_job.declared.dir_entry.DirEntry.{DirEntry}
 use Rattle.jwalk.specs.jwalk_job.declared.error.Error.{Error}
+use Rattle.jwalk.specs.tree_crew.Crew.{limit_of, workers_of}
+use Rattle.jwalk.specs.declared.crew.Crew.{Crew}
 use Rattle.jwalk.specs.DirEntryIter.{DirEntryIter}
 use Rattle.jwalk.specs.declared.crew.Session.{Session}
+
+-- how many threads read: as many as are asked for, or all that can run at a time if no number is, or 0
+abbrev pub threads_in : ℕ → Option ℕ → ℕ
+threads_in cores None = cores
+threads_in cores (Some zero) = cores
+threads_in cores (Some (suc n)) = suc n
+
+-- The crew of this many threads, but at most 256. They read at most 8,192 directories ahead. One thread needs no crew.
+pub record IsCrewOf {T A : Type 0} (threads : ℕ) (crew : Option (Arc (Crew T) A)) : Type 0 where
+  pub several : is_some crew ≡ nat_lt 1 threads
+  pub workers : IfSome crew (λ it. workers_of (arc_value it) ≡ min threads 256)
+  pub ahead : IfSome crew (λ it. limit_of (arc_value it) ≡ 8192)
 
 -- the options of a walk by how its directories are read: by a crew, or one at a time
 abbrev pub with_crew : Bool → Options → Options

@@ -4,7 +4,7 @@ ghost use Rattle.std.specs.Arc.{arc_value};
 ghost use Rattle.jwalk.specs.jwalk_job.Options.{options_value};
 ghost use Rattle.jwalk.specs.tree_crew.Crew.{limit_of, workers_of};
 ghost use Rattle.jwalk.specs.WalkDir.{file_system_of, root_of, state_of, options_of, described};
-ghost use Rattle.program_walks.specs.Crew.{with_crew, ReadsBy};
+ghost use Rattle.program_walks.specs.Crew.{threads_in, with_crew, IsCrewOf, ReadsBy};
 
 use jwalk::crew::{Session, threads_for};
 use jwalk::file_system::FileSystem;
@@ -24,6 +24,37 @@ pub type Plain<T, S> = WalkDirGeneric<OnlyRules, Arc<S>, NoProcess, Global, Crew
 
 /// A walk under way that a crew may read for.
 pub type CrewWalk<T, C, S, P> = DirEntryIter<C, S, P, Global, Session<T, C, S, P, Global>>;
+
+/// Returns how many threads read: as many as are asked for. 0 and no number mean all that can run at a time, which are
+/// `cores`.
+pub fn threads_in(cores: usize, asked: Option<usize>) -> usize
+    ensures { result ≡ threads_in cores asked }
+{
+    match asked {
+        None | Some(0) => cores,
+        Some(threads) => threads,
+    }
+}
+
+/// Returns a crew of this many threads, but at most 256. One thread needs no crew. The threads read at most 8,192
+/// directories ahead.
+///
+/// # Errors
+///
+/// If memory runs out.
+pub fn crew_with<T: Wait + Clock + Clone + Drop>(
+    rt: &T,
+    alloc: Global,
+    threads: usize,
+) -> Result<Option<Arc<Crew<T>>>, AllocError>
+    ensures { IfOk result (IsCrewOf threads) }
+{
+    if threads < 2 {
+        return Ok(None);
+    }
+    let crew = Crew::new(rt.clone()?, 1, threads).with_read_ahead(READ_AHEAD);
+    Ok(Some(Arc::new(alloc, crew)?))
+}
 
 /// Returns a crew of as many threads as are asked for, but at most 256. 0 and no number mean as many as can run at a time.
 /// One thread needs no crew. The threads read at most 8,192 directories ahead.
@@ -46,8 +77,8 @@ pub fn crew_of<T: Wait + Threads + Clock + Clone + Drop>(
     if threads < 2 {
         return Ok(None);
     }
-    let crew = Crew::new(rt.clone()?, 1, threads).with_read_ahead(READ_AHEAD);
-    Ok(Some(Arc::new(alloc, crew)?))
+    let own = Crew::new(rt.clone()?, 1, threads).with_read_ahead(READ_AHEAD);
+    Ok(Some(Arc::new(alloc, own)?))
 }
 
 /// Returns the walk below a root with these options, without a callback. If there is a crew, it reads the directories,
@@ -58,7 +89,7 @@ pub fn crew_of<T: Wait + Threads + Clock + Clone + Drop>(
 /// If memory runs out.
 pub fn walk_below<
     C: ClientState,
-    T: Wait + Threads + Clock + Clone + Drop,
+    T: Wait + Clock + Clone + Drop,
     S: FileSystem,
     A: Allocator + Copy,
 >(

@@ -1,6 +1,7 @@
 //! Counts what is below each directory: `tally [OPTIONS] [ROOT..]` prints how much of the disk is used by what.
 #![tactic(auto)]
 
+use jwalk::crew::threads_for;
 use jwalk::file_system::{Patient, RealFs};
 use jwalk_ignore::real_texts::RealTexts;
 use std::io::{IsTerminal, Write};
@@ -37,6 +38,7 @@ fn main(rt: HostRuntime) -> ExitCode {
         Ok((words, screen, (disk, texts))) => run(
             &rt,
             rt.alloc(),
+            threads_for(&rt, 0),
             disk,
             texts,
             words.as_slice(),

@@ -1,9 +1,9 @@
 -- Roots that are counted one after another.
-use Rattle.std.proofs.Common.{◌≡◌, ◌∙◌, ◌+◌, ◌<◌, ℕ, zero, suc, Bool, true, false, ◌&&◌, List, [], ◌∷◌, ◌++◌, append-nil, append_assoc, map, take, length, Option, inl, inr, refl, sym, ap, ap₂, arith, subst}
-use Rattle.std.specs.Prelude.{get_or}
+use Rattle.std.proofs.Common.{◌≡◌, ◌∙◌, ◌<◌, ◌≤◌, ℕ, zero, suc, Bool, true, false, ◌&&◌, List, [], ◌∷◌, ◌++◌, append-nil, append_assoc, map, length, slice_index_or, Option, Result, Ok, Err, inl, inr, refl, sym, ap, ap₂, arith, subst}
+use Rattle.std.specs.Prelude.{IfOk}
 use Rattle.std.specs.Borrow.{Bor}
 use Rattle.std.specs.List.{list_all}
-use Rattle.std.proofs.lemmas.List.{length-append, map-append, take_more}
+use Rattle.std.proofs.lemmas.List.{map-append}
 use Rattle.jwalk.specs.jwalk_model.Counted.{Worth}
 use Rattle.jwalk.specs.jwalk_model.declared.metadata.Identity.{Identity}
 use Rattle.jwalk.specs.jwalk_model.Entry.{Item}
@@ -16,7 +16,7 @@ use Rattle.program_parts.specs.Values.{texts_of}
 use Rattle.tally_words.specs.declared.asked.Asked.{Asked}
 use Rattle.tally_run.specs.Counting.{is_clean}
 use Rattle.tally_run.specs.Results.{Row, Takes, rows_of}
-use Rattle.tally_run.specs.Roots.{CountsRoot, CountsRoots, IsLeftOut, KeepsFirst, LeavesOut, all_rows, all_subtotals, files_behind}
+use Rattle.tally_run.specs.Roots.{AreSuch, CountsMany, CountsRoot, CountsRoots, IsLeftOut, KeepsFirst, LeavesOut, all_rows, all_subtotals, files_behind}
 use Rattle.tally_run.specs.Shown.{shown_asked}
 use Rattle.tally_run.specs.Walks.{CountsBelow, subtotals_asked}
 use Rattle.tally_run.specs.declared.counting.Counted.{Counted}
@@ -25,66 +25,77 @@ use Rattle.tally_run.proofs.CountingFacts.{all_seam}
 use Rattle.tally_run.proofs.ResultFacts.{takes_none, takes_then}
 
 module _ {X : Type 0} where
-  -- one more is left out
-  one_out : (xs left : List X) (x : X) → LeavesOut xs left → LeavesOut (xs ++ x ∷ []) left
-  one_out [] left x is = inr is
-  one_out (y ∷ xs) left x (inl (rest, is, more)) = inl (rest, is, one_out xs rest x more)
-  one_out (y ∷ xs) left x (inr more) = inr (one_out xs left x more)
+  -- some of a list are left out, and some of another
+  leaves_then : (xs left ys more : List X) → LeavesOut xs left → LeavesOut ys more → LeavesOut (xs ++ ys) (left ++ more)
+  leaves_then [] left ys more is rest = subst (λ (l : List X). LeavesOut ys (l ++ more)) (sym is) rest
+  leaves_then (x ∷ xs) left ys more (inl (kept, is, out)) rest = inl (kept ++ more, ap (λ (l : List X). l ++ more) is, leaves_then xs kept ys more out rest)
+  leaves_then (x ∷ xs) left ys more (inr out) rest = inr (leaves_then xs left ys more out rest)
 
-  -- one more isn't
-  one_in : (xs left : List X) (x : X) → LeavesOut xs left → LeavesOut (xs ++ x ∷ []) (left ++ x ∷ [])
-  one_in [] left x is = inl ([], ap (λ (l : List X). l ++ x ∷ []) is, refl)
-  one_in (y ∷ xs) left x (inl (rest, is, more)) = inl (rest ++ x ∷ [], ap (λ (l : List X). l ++ x ∷ []) is, one_in xs rest x more)
-  one_in (y ∷ xs) left x (inr more) = inr (one_in xs left x more)
+  -- the first of which is kept
+  keeps_then : (xs left ys more : List X) → 0 < length xs → KeepsFirst xs left → LeavesOut ys more → KeepsFirst (xs ++ ys) (left ++ more)
+  keeps_then [] left ys more some is rest = absurd (omega (arith, some))
+  keeps_then (x ∷ xs) left ys more some (kept, is, out) rest = (kept ++ more, ap (λ (l : List X). l ++ more) is, leaves_then xs kept ys more out rest)
 
-  -- one more behind the first is left out
-  later_out : (xs left : List X) (x : X) → 0 < length xs → KeepsFirst xs left → KeepsFirst (xs ++ x ∷ []) left
-  later_out [] left x some is = absurd (omega (arith, some))
-  later_out (y ∷ xs) left x some (rest, is, more) = (rest, is, one_out xs rest x more)
+module _ (are : List ℕ → List (Item Worth Worth) → Type 0) where
+  -- there is a list of answers for each root
+  such_each : (roots : List (List ℕ)) (ls : List (List (Item Worth Worth))) → AreSuch are roots ls → length ls ≡ length roots
+  such_each [] [] such = refl
+  such_each [] (l ∷ ls) such = absurd such
+  such_each (root ∷ roots) [] such = absurd such
+  such_each (root ∷ roots) (l ∷ ls) such = let rest = such_each roots ls such.1 in omega (arith, rest)
 
-  -- one more isn't
-  later_in : (xs left : List X) (x : X) → KeepsFirst xs left → KeepsFirst (xs ++ x ∷ []) (left ++ x ∷ [])
-  later_in [] left x is = ([], ap (λ (l : List X). l ++ x ∷ []) is, refl)
-  later_in (y ∷ xs) left x (rest, is, more) = (rest ++ x ∷ [], ap (λ (l : List X). l ++ x ∷ []) is, one_in xs rest x more)
-
--- two lists are as long with one more
-one_longer : {X Y : Type 0} (xs : List X) (ys : List Y) (x : X) (y : Y) → length xs ≡ length ys → length (xs ++ x ∷ []) ≡ length (ys ++ y ∷ [])
-one_longer xs ys x y same = length-append xs (x ∷ []) ∙ ap (λ (n : ℕ). n + 1) same ∙ sym (length-append ys (y ∷ []))
-
--- one root more
-roots_more : (roots : List (Bor (List ℕ))) (i : ℕ) (d : Bor (List ℕ)) → i < length roots → texts_of (take (i + 1) roots) ≡ texts_of (take i roots) ++ (get_or roots i d).now ∷ []
-roots_more roots i d below = ap texts_of (take_more roots i d below) ∙ map-append (λ it. it.now) (take i roots) (get_or roots i d ∷ [])
-
--- some of the roots
-some_roots : (roots : List (Bor (List ℕ))) (i : ℕ) → i < length roots → 0 < i → 0 < length (texts_of (take i roots))
-some_roots [] i below some = absurd (omega (arith, below))
-some_roots (root ∷ roots) zero below some = absurd (omega (arith, some))
-some_roots (root ∷ roots) (suc i) below some = omega arith
+  -- lists of answers below roots, and then below others
+  such_then : (roots : List (List ℕ)) (ls : List (List (Item Worth Worth))) (more : List (List ℕ)) (ms : List (List (Item Worth Worth))) → AreSuch are roots ls → AreSuch are more ms → AreSuch are (roots ++ more) (ls ++ ms)
+  such_then [] [] more ms such rest = rest
+  such_then [] (l ∷ ls) more ms such rest = absurd such
+  such_then (root ∷ roots) [] more ms such rest = absurd such
+  such_then (root ∷ roots) (l ∷ ls) more ms such rest = (such.0, such_then roots ls more ms such.1 rest)
 
 module _ {R E : Type 0} (o : SubtotalOptions) where
-  -- one list of answers more
-  files_more : (known : List Identity) (ls : List (List (Item R E))) (l : List (Item R E)) → files_behind o known (ls ++ l ∷ []) ≡ files_after o (files_behind o known ls) l
-  files_more known [] l = refl
-  files_more known (m ∷ ls) l = files_more (files_after o known m) ls l
+  -- what is counted of lists of answers, and then of others
+  files_then : (known : List Identity) (ls ms : List (List (Item R E))) → files_behind o known (ls ++ ms) ≡ files_behind o (files_behind o known ls) ms
+  files_then known [] ms = refl
+  files_then known (l ∷ ls) ms = files_then (files_after o known l) ls ms
 
-  subtotals_more : (known : List Identity) (ls : List (List (Item R E))) (l : List (Item R E)) → all_subtotals o known (ls ++ l ∷ []) ≡ all_subtotals o known ls ++ subtotals_beside o (files_behind o known ls) l
-  subtotals_more known [] l = append-nil (subtotals_beside o known l)
-  subtotals_more known (m ∷ ls) l =
-      ap (λ (ys : List (Yielded R E)). subtotals_beside o known m ++ ys) (subtotals_more (files_after o known m) ls l)
-      ∙ sym (append_assoc (subtotals_beside o known m) (all_subtotals o (files_after o known m) ls) (subtotals_beside o (files_behind o (files_after o known m) ls) l))
+  subtotals_then : (known : List Identity) (ls ms : List (List (Item R E))) → all_subtotals o known (ls ++ ms) ≡ all_subtotals o known ls ++ all_subtotals o (files_behind o known ls) ms
+  subtotals_then known [] ms = refl
+  subtotals_then known (l ∷ ls) ms =
+      ap (λ (ys : List (Yielded R E)). subtotals_beside o known l ++ ys) (subtotals_then (files_after o known l) ls ms)
+      ∙ sym (append_assoc (subtotals_beside o known l) (all_subtotals o (files_after o known l) ls) (all_subtotals o (files_behind o (files_after o known l) ls) ms))
 
--- one root more with its list of answers
-rows_more : (asked : Asked) (known : List Identity) (roots : List (List ℕ)) (ls : List (List (Item Worth Worth))) (root : List ℕ) (l : List (Item Worth Worth)) → length ls ≡ length roots
-    → all_rows asked known (roots ++ root ∷ []) (ls ++ l ∷ []) ≡ all_rows asked known roots ls ++ rows_of root (shown_asked asked) (subtotals_beside (subtotals_asked asked) (files_behind (subtotals_asked asked) known ls) l)
-rows_more asked known [] [] root l is = append-nil (rows_of root (shown_asked asked) (subtotals_beside (subtotals_asked asked) known l))
-rows_more asked known [] (m ∷ ls) root l is = absurd (omega (arith, is))
-rows_more asked known (r ∷ roots) [] root l is = absurd (omega (arith, is))
-rows_more asked known (r ∷ roots) (m ∷ ls) root l is =
-    let o = subtotals_asked asked in
-    let here = rows_of r (shown_asked asked) (subtotals_beside o known m) in
-    let more = files_after o known m in
-    ap (λ (rows : List Row). here ++ rows) (rows_more asked more roots ls root l (omega (arith, is)))
-    ∙ sym (append_assoc here (all_rows asked more roots ls) (rows_of root (shown_asked asked) (subtotals_beside o (files_behind o more ls) l)))
+  -- it depends on which files are known alone
+  files_alike : (files known : List Identity) → HaveSame files known → (ls : List (List (Item R E))) → HaveSame (files_behind o files ls) (files_behind o known ls)
+  files_alike files known same [] = same
+  files_alike files known same (l ∷ ls) = files_alike (files_after o files l) (files_after o known l) (after_same o files known same l) ls
+
+  subtotals_alike : (files known : List Identity) → HaveSame files known → (ls : List (List (Item R E))) → all_subtotals o files ls ≡ all_subtotals o known ls
+  subtotals_alike files known same [] = refl
+  subtotals_alike files known same (l ∷ ls) =
+      ap₂ (λ (a b : List (Yielded R E)). a ++ b) (ap (listed_all o) (weighed_same o files known same l)) (subtotals_alike (files_after o files l) (files_after o known l) (after_same o files known same l) ls)
+
+module _ (asked : Asked) where
+  -- the results of roots with their answers, and then of others
+  rows_then : (known : List Identity) (roots : List (List ℕ)) (ls : List (List (Item Worth Worth))) (more : List (List ℕ)) (ms : List (List (Item Worth Worth))) → length ls ≡ length roots
+      → all_rows asked known (roots ++ more) (ls ++ ms) ≡ all_rows asked known roots ls ++ all_rows asked (files_behind (subtotals_asked asked) known ls) more ms
+  rows_then known [] [] more ms is = refl
+  rows_then known [] (l ∷ ls) more ms is = absurd (omega (arith, is))
+  rows_then known (root ∷ roots) [] more ms is = absurd (omega (arith, is))
+  rows_then known (root ∷ roots) (l ∷ ls) more ms is =
+      let o = subtotals_asked asked in
+      let here = rows_of root (shown_asked asked) (subtotals_beside o known l) in
+      let rest = files_after o known l in
+      ap (λ (rows : List Row). here ++ rows) (rows_then rest roots ls more ms (omega (arith, is)))
+      ∙ sym (append_assoc here (all_rows asked rest roots ls) (all_rows asked (files_behind o rest ls) more ms))
+
+  -- they depend on which files are known alone
+  rows_alike : (files known : List Identity) → HaveSame files known → (roots : List (List ℕ)) (ls : List (List (Item Worth Worth))) → all_rows asked files roots ls ≡ all_rows asked known roots ls
+  rows_alike files known same [] [] = refl
+  rows_alike files known same [] (l ∷ ls) = refl
+  rows_alike files known same (root ∷ roots) [] = refl
+  rows_alike files known same (root ∷ roots) (l ∷ ls) =
+      let o = subtotals_asked asked in
+      ap₂ (λ (a b : List Row). a ++ b) (ap (λ w. rows_of root (shown_asked asked) (listed_all o w)) (weighed_same o files known same l))
+      (rows_alike (files_after o files l) (files_after o known l) (after_same o files known same l) roots ls)
 
 both_first : (a b : Bool) → (a && b) ≡ true → a ≡ true
 both_first true b is = refl
@@ -94,112 +105,134 @@ both_second : (a b : Bool) → (a && b) ≡ true → b ≡ true
 both_second true b is = is
 both_second false b is = absurd (cc is)
 
-and_true : (a : Bool) → (a && true) ≡ a
-and_true true = refl
-and_true false = refl
-
-module _ (fixed : Type 0) (below : List ℕ → List (Item Worth Worth)) (asked : Asked) (old : Results) (before : Option (List ℕ)) where
-  -- The roots so far are counted, with these files.
-  pub record RootsSoFar (roots : List (List ℕ)) (files : List Identity) (new : Results) (after : Option (List ℕ)) (clean : Bool) : Type 0 where
-    pub counted : List (List ℕ)
-    pub among : KeepsFirst roots counted
-    pub answered : List (List (Item Worth Worth))
-    pub each : length answered ≡ length counted
-    pub whole : fixed → clean ≡ true → answered ≡ map below counted
-    pub taken : Takes (all_rows asked [] counted answered) old before new after
-    pub tells : clean ≡ list_all is_clean (all_subtotals (subtotals_asked asked) [] answered)
-    pub remembered : HaveSame files (files_behind (subtotals_asked asked) [] answered)
-
+module _ {fixed : Type 0} {are : List ℕ → List (Item Worth Worth) → Type 0} {below : List ℕ → List (Item Worth Worth)} {asked : Asked} where
   -- no roots
-  pub no_roots : (files : List Identity) → files ≡ [] → RootsSoFar [] files old before true
-  no_roots files none = record {
+  pub none_counted : {none_before : Type 0} (roots : List (List ℕ)) → length roots < 1 → (known : List Identity) (old : Results) (before : Option (List ℕ)) → CountsMany fixed are below asked none_before roots known old before old before known true
+  none_counted [] few known old before = record {
     counted = [];
     among = refl;
+    first = λ _. refl;
     answered = [];
-    each = refl;
+    such = tt;
     whole = λ _ _. refl;
     taken = takes_none old before;
     tells = refl;
-    remembered = subst (λ (l : List Identity). HaveSame l []) (sym none) (λ i. refl);
+    remembered = λ i. refl;
   }
+  none_counted (root ∷ roots) few known old before = absurd (omega (arith, few))
 
-  module _ (roots : List (Bor (List ℕ))) (i : ℕ) (d : Bor (List ℕ)) (is_one : i < length roots) (files : List Identity) (mid : Results) (during : Option (List ℕ)) (clean : Bool) (so_far : RootsSoFar (texts_of (take i roots)) files mid during clean) where
+  module _ (root : List ℕ) (known : List Identity) (old : Results) (before : Option (List ℕ)) (new : Results) (after : Option (List ℕ)) (counted : Counted) where
     -- a root that is left out
-    root_out : 0 < i → (new : Results) (after : Option (List ℕ)) (counted : Counted) → IsLeftOut files mid during new after counted
-        → RootsSoFar (texts_of (take (i + 1) roots)) (files_of counted.files) new after (clean && counted.clean)
-    root_out some new after counted out = record {
-      counted = so_far.counted;
-      among = subst (λ (l : List (List ℕ)). KeepsFirst l so_far.counted) (sym (roots_more roots i d is_one)) (later_out (texts_of (take i roots)) so_far.counted (get_or roots i d).now (some_roots roots i is_one some) so_far.among);
-      answered = so_far.answered;
-      each = so_far.each;
-      whole = λ always is. so_far.whole always (both_first clean counted.clean is);
-      taken = subst (λ (r : Results). Takes (all_rows asked [] so_far.counted so_far.answered) old before r after) (sym out.untaken)
-          (subst (λ (w : Option (List ℕ)). Takes (all_rows asked [] so_far.counted so_far.answered) old before mid w) (sym out.unwritten) so_far.taken);
-      tells = ap₂ (λ (a b : Bool). a && b) so_far.tells out.without_error ∙ and_true (list_all is_clean (all_subtotals (subtotals_asked asked) [] so_far.answered));
-      remembered = subst (λ (l : List Identity). HaveSame l (files_behind (subtotals_asked asked) [] so_far.answered)) (sym out.remembered) so_far.remembered;
+    root_out : {none_before : Type 0} → (none_before → ⊥) → IsLeftOut known old before new after counted → CountsMany fixed are below asked none_before (root ∷ []) known old before new after (files_of counted.files) counted.clean
+    root_out some out = record {
+      counted = [];
+      among = inr refl;
+      first = λ none. absurd (some none);
+      answered = [];
+      such = tt;
+      whole = λ _ _. refl;
+      taken = subst (λ (r : Results). Takes [] old before r after) (sym out.untaken) (subst (λ (w : Option (List ℕ)). Takes [] old before old w) (sym out.unwritten) (takes_none old before));
+      tells = out.without_error;
+      remembered = subst (λ (l : List Identity). HaveSame l known) (sym out.remembered) (λ i. refl);
     }
 
     -- a root that is counted
-    root_in : (new : Results) (after : Option (List ℕ)) (counted : Counted) → CountsBelow fixed (below (get_or roots i d).now) asked (get_or roots i d).now files mid during new after counted
-        → RootsSoFar (texts_of (take (i + 1) roots)) (files_of counted.files) new after (clean && counted.clean)
-    root_in new after counted counts =
+    root_in : {none_before : Type 0} → CountsBelow fixed (are root) (below root) asked root known old before new after counted → CountsMany fixed are below asked none_before (root ∷ []) known old before new after (files_of counted.files) counted.clean
+    root_in counts =
         let o = subtotals_asked asked in
-        let shown = shown_asked asked in
-        let root = (get_or roots i d).now in
-        let ls = so_far.answered in
-        let l = counts.answered in
-        let known = files_behind o [] ls in
         record {
-          counted = so_far.counted ++ root ∷ [];
-          among = subst (λ (r : List (List ℕ)). KeepsFirst r (so_far.counted ++ root ∷ [])) (sym (roots_more roots i d is_one)) (later_in (texts_of (take i roots)) so_far.counted root so_far.among);
-          answered = ls ++ l ∷ [];
-          each = one_longer ls so_far.counted l root so_far.each;
-          whole = λ always is.
-              ap₂ (λ (a : List (List (Item Worth Worth))) (b : List (Item Worth Worth)). a ++ b ∷ []) (so_far.whole always (both_first clean counted.clean is)) (counts.whole always (both_second clean counted.clean is))
-              ∙ sym (map-append below so_far.counted (root ∷ []));
-          taken = subst (λ (rows : List Row). Takes rows old before new after)
-              (sym (rows_more asked [] so_far.counted ls root l so_far.each))
-              (takes_then (all_rows asked [] so_far.counted ls) (rows_of root shown (subtotals_beside o known l)) old mid new before during after so_far.taken
-              (subst (λ w. Takes (rows_of root shown (listed_all o w)) mid during new after) (weighed_same o files known so_far.remembered l) counts.takes.taken));
-          tells =
-              ap₂ (λ (a b : Bool). a && b) so_far.tells (counts.takes.tells ∙ ap (λ w. list_all is_clean (listed_all o w)) (weighed_same o files known so_far.remembered l))
-              ∙ sym (ap (list_all is_clean) (subtotals_more o [] ls l) ∙ all_seam is_clean (all_subtotals o [] ls) (subtotals_beside o known l));
-          remembered = λ j. counts.takes.remembered j ∙ after_same o files known so_far.remembered l j ∙ ap (λ (fs : List Identity). is_among fs j) (sym (files_more o [] ls l));
+          counted = root ∷ [];
+          among = inl ([], refl, refl);
+          first = λ _. ([], refl, refl);
+          answered = counts.answered ∷ [];
+          such = (counts.such, tt);
+          whole = λ always is. ap (λ (l : List (Item Worth Worth)). l ∷ []) (counts.whole always is);
+          taken = subst (λ (rows : List Row). Takes rows old before new after) (sym (append-nil (rows_of root (shown_asked asked) (subtotals_beside o known counts.answered)))) counts.takes.taken;
+          tells = counts.takes.tells ∙ ap (list_all is_clean) (sym (append-nil (subtotals_beside o known counts.answered)));
+          remembered = counts.takes.remembered;
         }
 
-    -- a root that is left out unless it is the first
-    later_root : (n : ℕ) → i ≡ n → (new : Results) (after : Option (List ℕ)) (counted : Counted) → (i ≡ 0 → CountsBelow fixed (below (get_or roots i d).now) asked (get_or roots i d).now files mid during new after counted) → IsLeftOut files mid during new after counted
-        → RootsSoFar (texts_of (take (i + 1) roots)) (files_of counted.files) new after (clean && counted.clean)
-    later_root zero is new after counted first out = root_in new after counted (first is)
-    later_root (suc n) is new after counted first out = root_out (omega (arith, is)) new after counted out
+    -- a root that is left out only if another is known
+    later_root : (before_it n : ℕ) → before_it ≡ n → (before_it ≡ 0 → CountsBelow fixed (are root) (below root) asked root known old before new after counted) → IsLeftOut known old before new after counted
+        → CountsMany fixed are below asked (before_it ≡ 0) (root ∷ []) known old before new after (files_of counted.files) counted.clean
+    later_root before_it zero is first out = root_in (first is)
+    later_root before_it (suc n) is first out = root_out (λ none. absurd (omega (arith, is, none))) out
 
-    -- one root more
-    pub one_root : (new : Results) (after : Option (List ℕ)) (counted : Counted) → (i ≡ 0 → CountsBelow fixed (below (get_or roots i d).now) asked (get_or roots i d).now files mid during new after counted) → CountsRoot fixed (below (get_or roots i d).now) asked (get_or roots i d).now files mid during new after counted
-        → RootsSoFar (texts_of (take (i + 1) roots)) (files_of counted.files) new after (clean && counted.clean)
-    one_root new after counted first (inl out) = later_root i refl new after counted first out
-    one_root new after counted first (inr counts) = root_in new after counted counts
+    -- one root
+    pub one_counted : (before_it : ℕ) → (before_it ≡ 0 → CountsBelow fixed (are root) (below root) asked root known old before new after counted) → CountsRoot fixed (are root) (below root) asked root known old before new after counted
+        → CountsMany fixed are below asked (before_it ≡ 0) (root ∷ []) known old before new after (files_of counted.files) counted.clean
+    one_counted before_it first (inl out) = later_root before_it before_it refl first out
+    one_counted before_it first (inr counts) = root_in counts
 
-  -- all roots
-  pub all_roots : (roots : List (List ℕ)) (files : List Identity) (new : Results) (after : Option (List ℕ)) (clean : Bool) → RootsSoFar roots files new after clean → CountsRoots fixed below asked roots old before new after clean
-  all_roots roots files new after clean so_far = record {
-    counted = so_far.counted;
-    among = so_far.among;
-    answered = so_far.answered;
-    each = so_far.each;
-    whole = so_far.whole;
-    taken = so_far.taken;
-    tells = so_far.tells;
-  }
+  -- roots, and then others
+  pub others_counted : {none_before none_between : Type 0} (roots more : List (List ℕ)) (known between files : List Identity) (old mid new : Results) (before during after : Option (List ℕ)) (clean rest : Bool)
+      → 0 < length roots → CountsMany fixed are below asked none_before roots known old before mid during between clean → CountsMany fixed are below asked none_between more between mid during new after files rest
+      → CountsMany fixed are below asked none_before (roots ++ more) known old before new after files (clean && rest)
+  others_counted roots more known between files old mid new before during after clean rest some a b =
+      let o = subtotals_asked asked in
+      let behind = files_behind o known a.answered in
+      record {
+        counted = a.counted ++ b.counted;
+        among = leaves_then roots a.counted more b.counted a.among b.among;
+        first = λ none. keeps_then roots a.counted more b.counted some (a.first none) b.among;
+        answered = a.answered ++ b.answered;
+        such = such_then are a.counted a.answered b.counted b.answered a.such b.such;
+        whole = λ always is.
+            ap₂ (λ (x y : List (List (Item Worth Worth))). x ++ y) (a.whole always (both_first clean rest is)) (b.whole always (both_second clean rest is))
+            ∙ sym (map-append below a.counted b.counted);
+        taken = subst (λ (rows : List Row). Takes rows old before new after)
+            (ap (λ (rows : List Row). all_rows asked known a.counted a.answered ++ rows) (rows_alike asked between behind a.remembered b.counted b.answered)
+            ∙ sym (rows_then asked known a.counted a.answered b.counted b.answered (such_each are a.counted a.answered a.such)))
+            (takes_then (all_rows asked known a.counted a.answered) (all_rows asked between b.counted b.answered) old mid new before during after a.taken b.taken);
+        tells =
+            ap₂ (λ (x y : Bool). x && y) a.tells (b.tells ∙ ap (list_all is_clean) (subtotals_alike o between behind a.remembered b.answered))
+            ∙ sym (ap (list_all is_clean) (subtotals_then o known a.answered b.answered) ∙ all_seam is_clean (all_subtotals o known a.answered) (all_subtotals o behind b.answered));
+        remembered = λ i. b.remembered i ∙ files_alike o between behind a.remembered b.answered i ∙ ap (λ (l : List Identity). is_among l i) (sym (files_then o known a.answered b.answered));
+      }
 
--- the same roots
-pub roots_as : {fixed : Type 0} {below : List ℕ → List (Item Worth Worth)} {asked : Asked} {roots roots' : List (List ℕ)} {old new : Results} {before after : Option (List ℕ)} {clean : Bool}
-    → roots ≡ roots' → CountsRoots fixed below asked roots old before new after clean → CountsRoots fixed below asked roots' old before new after clean
-roots_as is counts = record {
-  counted = counts.counted;
-  among = subst (λ (l : List (List ℕ)). KeepsFirst l counts.counted) is counts.among;
-  answered = counts.answered;
-  each = counts.each;
-  whole = counts.whole;
-  taken = counts.taken;
-  tells = counts.tells;
-}
+  -- all roots, from the beginning
+  pub roots_counted : {none_before : Type 0} {roots : List (List ℕ)} {known files : List Identity} {old new : Results} {before after : Option (List ℕ)} {clean : Bool} → none_before → known ≡ [] → CountsMany fixed are below asked none_before roots known old before new after files clean
+      → CountsRoots fixed are below asked roots old before new after clean
+  roots_counted {none_before} {roots} {known} {files} {old} {new} {before} {after} {clean} none empty counts =
+      let same = subst (λ (l : List Identity). CountsMany fixed are below asked none_before roots l old before new after files clean) empty counts in
+      record {
+        counted = same.counted;
+        among = same.first none;
+        answered = same.answered;
+        such = same.such;
+        whole = same.whole;
+        taken = same.taken;
+        tells = same.tells;
+      }
+
+-- the same roots, by another name
+pub many_as : {fixed : Type 0} {are : List ℕ → List (Item Worth Worth) → Type 0} {below : List ℕ → List (Item Worth Worth)} {asked : Asked} {none_before : Type 0} {roots roots' : List (List ℕ)} {known files : List Identity} {old new : Results} {before after : Option (List ℕ)} {clean : Bool}
+    → roots ≡ roots' → CountsMany fixed are below asked none_before roots known old before new after files clean → CountsMany fixed are below asked none_before roots' known old before new after files clean
+many_as {fixed} {are} {below} {asked} {none_before} {known} {files} {old} {new} {before} {after} {clean} is =
+    subst (λ (r : List (List ℕ)). CountsMany fixed are below asked none_before r known old before new after files clean) is
+
+-- a slice of one root, and the texts of two slices
+pub one_text : (roots : List (Bor (List ℕ))) (d : Bor (List ℕ)) → 1 ≤ length roots → length roots < 2 → (slice_index_or roots 0 d).now ∷ [] ≡ texts_of roots
+one_text [] d some few = absurd (omega (arith, some))
+one_text (root ∷ []) d some few = refl
+one_text (root ∷ other ∷ roots) d some few = absurd (omega (arith, few))
+
+pub texts_then : (roots first rest : List (Bor (List ℕ))) → roots ≡ first ++ rest → texts_of first ++ texts_of rest ≡ texts_of roots
+texts_then roots first rest are = sym (ap texts_of are ∙ map-append (λ it. it.now) first rest)
+
+pub texts_few : (roots : List (Bor (List ℕ))) → length roots < 1 → length (texts_of roots) < 1
+texts_few [] few = few
+texts_few (root ∷ roots) few = absurd (omega (arith, few))
+
+pub texts_some : (roots : List (Bor (List ℕ))) → 0 < length roots → 0 < length (texts_of roots)
+texts_some [] some = absurd (omega (arith, some))
+texts_some (root ∷ roots) some = omega arith
+
+-- what holds of a result follows from two facts of it, of which one has a premise
+pub ok_with : {X Y N : Type 0} {P Q R : X → Type 0} (r : Result X Y) → ((x : X) → (N → P x) → Q x → R x) → (N → IfOk r P) → IfOk r Q → IfOk r R
+ok_with (Ok x) more first second = more x first second
+ok_with (Err y) more first second = tt
+
+-- what holds of a result that is known
+pub ok_known : {X Y : Type 0} (r : Result X Y) (v : X) (P : X → Type 0) → r ≡ Ok v → IfOk r P → P v
+ok_known {X} {Y} r v P is said = subst (λ (o : Result X Y). IfOk o P) is said

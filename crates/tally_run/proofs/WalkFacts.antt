@@ -1,10 +1,12 @@
 -- What is counted of a walk doesn't go by its states.
 use Rattle.std.proofs.Common.{◌≡◌, ◌∙◌, ℕ, Bool, true, false, List, [], ◌∷◌, ◌++◌, ◌&&◌, map, Option, None, Some, Ok, Err, refl, sym, ap, ap₂, subst, Result}
-use Rattle.std.specs.Prelude.{flat_map, if◌then◌else◌}
+use Rattle.std.specs.Prelude.{flat_map, if◌then◌else◌, MatchBool}
 use Rattle.std.specs.Iterator.{Drains}
 use Rattle.std.specs.List.{list_all}
 use Rattle.std.specs.declared.clone.Clone as Clone
 use Rattle.std.specs.declared.default.Default as Default
+use Rattle.std.specs.declared.alloc.Global.{Global}
+use Rattle.std.specs.declared.sync.Arc.{Arc}
 use Rattle.jwalk.specs.jwalk_model.Counted.{Worth}
 use Rattle.jwalk.specs.jwalk_model.declared.metadata.Identity.{Identity}
 use Rattle.jwalk.specs.jwalk_model.Entry.{Item}
@@ -21,11 +23,14 @@ use Rattle.jwalk.specs.DirEntryIter.{DirEntryIter}
 use Rattle.jwalk.specs.jwalk_iter.DirEntryIter.{Answers, StartsSteady}
 use Rattle.jwalk.specs.tree_crew.declared.crew.NotStarted.{NotStarted}
 use Rattle.jwalk.specs.WalkDir.{HoldsUnless, Starts, callback_of, file_system_of, job_for, root_of, state_of}
+use Rattle.jwalk.specs.declared.crew.Crew.{Crew}
 use Rattle.jwalk.specs.declared.walk_dir.WalkDirGeneric.{WalkDirGeneric}
 use Rattle.jwalk.specs.jwalk_job.Entry.{item}
 use Rattle.jwalk.proofs.CleanFacts.{clean_whole}
 use Rattle.jwalk.proofs.WholeFacts.{steady_begun}
 use Rattle.jwalk_ignore.specs.Rules.Texts.{Texts}
+use Rattle.jwalk_ignore.specs.declared.callback.excluding.Excluding.{Excluding}
+use Rattle.jwalk_ignore.specs.declared.callback.states.RulesState.{RulesState}
 use Rattle.jwalk_subtotals.specs.Coming.{Gives, IsFreshBeside, answers_of, held, options_of, value}
 use Rattle.jwalk_subtotals.specs.Counted.{HaveSame, files_after, is_among}
 use Rattle.jwalk_subtotals.specs.Files.{files_of}
@@ -33,14 +38,16 @@ use Rattle.jwalk_subtotals.specs.Subtotals.{Yielded, subtotals_beside, yielded_b
 use Rattle.jwalk_subtotals.specs.declared.iter.Subtotals.{Subtotals}
 use Rattle.jwalk_subtotals.proofs.StateFacts.{files_same, subtotals_same}
 use Rattle.jwalk_subtotals.proofs.WholeFacts.{all_yielded_beside}
-use Rattle.program_walks.specs.Crew.{CallsOf}
+use Rattle.program_walks.specs.Crew.{CrewCallsOf}
 use Rattle.tally_run.specs.Counting.{TakesAll, is_clean}
 use Rattle.tally_words.specs.declared.asked.Asked.{Asked}
 use Rattle.tally_run.specs.OneDevice.{on_devices, root_before, root_of as device_of, source_of, staying, Stays}
 use Rattle.tally_run.specs.Results.{Row, Takes, row_of, rows_of}
 use Rattle.tally_run.specs.Shown.{shown_asked}
 use Rattle.tally_run.specs.Walks.{CountsAnswers, CountsBelow, CountsWalk, TakesSubtotals, all_below, counted_below, kept_below, subtotals_asked, subtotals_taken}
+use Rattle.tally_run.specs.Yielded.{Honours, IsHonouring, IsPlain, Walked, YieldedBy, crew_at, is_folder}
 use Rattle.tally_run.specs.declared.counting.Counted.{Counted}
+use Rattle.tally_run.specs.declared.followed_root.FollowedRoot.{FollowedRoot}
 use Rattle.tally_run.specs.declared.one_device.OneDevice.{OneDevice}
 use Rattle.tally_run.specs.declared.results.Results.{Results}
 use Rattle.tally_run.specs.declared.shown.Shown.{Shown}
@@ -66,17 +73,41 @@ module _ {R E V W : Type 0} (view : R → V) (mark : E → W) (root : List ℕ) 
   all_clean [] = refl
   all_clean (y ∷ ys) = ap₂ (λ (a b : Bool). a && b) (one_clean y) (all_clean ys)
 
+-- the answers of a walk with further facts
+pub yielded_so : {T C S P A R E : Type 0} {calls : CrewCallsOf T C S P A R E} {is be : WalkDirGeneric C S P A (Crew T) R E → Type 0} {one : Bool} → ((walk : WalkDirGeneric C S P A (Crew T) R E) → is walk → be walk)
+    → (answers : List (Item Worth Worth)) → Walked calls is one answers → Walked calls be one answers
+yielded_so more answers y = record {
+  walk = y.walk;
+  is_so = more y.walk y.is_so;
+  it = y.it;
+  starts = y.starts;
+  yielded = y.yielded;
+  drains = y.drains;
+  given = y.given;
+  counted = y.counted;
+}
+
 -- what is counted of a walk is counted of what it yields by value
-pub below_counted : {C S P A W L R E : Type 0} (files : FileSystem.Ghosts S) (process : ProcessReadDir.Ghosts P C A R E) (clone : Clone.Ghosts R) (defaults : Default.Ghosts E) (calls : CallsOf C S P A L R E) (walk : WalkDirGeneric C S P A W R E) (given : Given R E) (fixed : Type 0) (below : List (Item Worth Worth)) (asked : Asked) (root : List ℕ) (known : List Identity) (old new : Results) (before after : Option (List ℕ)) (counted : Counted)
-    → (fixed → IsSteady files process clone defaults (file_system_of walk) (callback_of walk) given) → (fixed → whole_walk (job_for files given walk) (root_of walk) (given.read_dir_state (state_of walk)) ≡ below)
-    → CountsWalk files process clone defaults calls walk asked root known old before new after counted → CountsBelow fixed (on_devices asked.one_file_system below) asked root known old before new after counted
-below_counted files process clone defaults calls walk given fixed below asked root known old new before after counted steady is counts =
+pub below_counted : {T C S P A R E : Type 0} (files : FileSystem.Ghosts S) (process : ProcessReadDir.Ghosts P C A R E) (clone : Clone.Ghosts R) (defaults : Default.Ghosts E) (calls : CrewCallsOf T C S P A R E) (walk : WalkDirGeneric C S P A (Crew T) R E) (given : Given R E) (fixed : Type 0) (is_one : WalkDirGeneric C S P A (Crew T) R E → Type 0) (below : List (Item Worth Worth)) (asked : Asked) (root : List ℕ) (known : List Identity) (old new : Results) (before after : Option (List ℕ)) (counted : Counted)
+    → is_one walk → (fixed → IsSteady files process clone defaults (file_system_of walk) (callback_of walk) given) → (fixed → whole_walk (job_for files given walk) (root_of walk) (given.read_dir_state (state_of walk)) ≡ below)
+    → CountsWalk files process clone defaults calls walk asked root known old before new after counted → CountsBelow fixed (Walked calls is_one asked.one_file_system) (on_devices asked.one_file_system below) asked root known old before new after counted
+below_counted files process clone defaults calls walk given fixed is_one below asked root known old new before after counted so steady is counts =
     let o = subtotals_asked asked in
     let shown = shown_asked asked in
     let one = asked.one_file_system in
     let left = on_devices one counts.answered in
     record {
       answered = map (counted_item given) left;
+      such = record {
+        walk = walk;
+        is_so = so;
+        it = counts.walked.0;
+        starts = counts.walked.1;
+        yielded = counts.walked.2;
+        drains = counts.walked.3;
+        given = given;
+        counted = ap (λ (l : List (Item _ _)). on_devices one (map (counted_item given) l)) counts.walked.4 ∙ devices_same given.read_dir_state given.dir_entry_state one counts.answered;
+      };
       whole = λ always clean. sym (devices_same given.read_dir_state given.dir_entry_state one counts.answered) ∙ ap (on_devices one) (counts.whole clean given (steady always) ∙ is always);
       takes = record {
         taken = subst (λ (rows : List Row). Takes rows old before new after)
@@ -90,13 +121,33 @@ below_counted files process clone defaults calls walk given fixed below asked ro
     }
 
 -- So it is of what is known otherwise.
-pub below_as : {fixed fixed' : Type 0} {below below' : List (Item Worth Worth)} {asked : Asked} {root : List ℕ} {known : List Identity} {old new : Results} {before after : Option (List ℕ)} {counted : Counted}
-    → (fixed → fixed') → below' ≡ below → CountsBelow fixed' below' asked root known old before new after counted → CountsBelow fixed below asked root known old before new after counted
-below_as always is counts = record {
+pub below_as : {fixed fixed' : Type 0} {are are' : List (Item Worth Worth) → Type 0} {below below' : List (Item Worth Worth)} {asked : Asked} {root : List ℕ} {known : List Identity} {old new : Results} {before after : Option (List ℕ)} {counted : Counted}
+    → (fixed → fixed') → ((answers : List (Item Worth Worth)) → are' answers → are answers) → below' ≡ below
+    → CountsBelow fixed' are' below' asked root known old before new after counted → CountsBelow fixed are below asked root known old before new after counted
+below_as always more is counts = record {
   answered = counts.answered;
+  such = more counts.answered counts.such;
   whole = λ fixed clean. counts.whole (always fixed) clean ∙ is;
   takes = counts.takes;
 }
+
+module _ {T Z X C E G H F : Type 0} (plain : CrewCallsOf T G (Arc (FollowedRoot Z) Global) Excluding Global H F) (honouring : CrewCallsOf T C (Arc (FollowedRoot Z) Global) (Honours X Global) Global RulesState E) (disk : Z) (texts : X) (crew : Option (Arc (Crew T) Global)) (asked : Asked) (root : List ℕ) (answers : List (Item Worth Worth)) where
+  abbrev By : Bool → Type 0
+  By b = MatchBool b (Walked honouring (IsHonouring disk texts crew asked root) asked.one_file_system answers) (Walked plain (IsPlain disk crew asked root) asked.one_file_system answers)
+
+  -- the answers below a root are those of one of two walks
+  pub by_rules : asked.ignore ≡ true → Walked honouring (IsHonouring disk texts crew asked root) asked.one_file_system answers → YieldedBy plain honouring disk texts crew asked root answers
+  by_rules is y = subst By (sym is) y
+
+  pub by_itself : asked.ignore ≡ false → Walked plain (IsPlain disk crew asked root) asked.one_file_system answers → YieldedBy plain honouring disk texts crew asked root answers
+  by_itself is y = subst By (sym is) y
+
+-- the crew that reads below a root
+pub crew_below : {W : Type 0} (fs : Functions) (root : List ℕ) (crew : Option W) → is_folder (fs.meta_of root) ≡ true → crew ≡ crew_at fs root crew
+crew_below {W} fs root crew is = ap (λ (b : Bool). if b then crew else None) (sym is)
+
+pub no_crew_below : {W : Type 0} (fs : Functions) (root : List ℕ) (crew : Option W) → is_folder (fs.meta_of root) ≡ false → None ≡ crew_at fs root crew
+no_crew_below {W} fs root crew is = ap (λ (b : Bool). if b then crew else None) (sym is)
 
 -- what is counted below a root, with ignore files and without
 pub kept_counted : (fs : Functions) (texts : Texts) (asked : Asked) (root : List ℕ) → asked.ignore ≡ true → on_devices asked.one_file_system (kept_below fs texts asked root) ≡ counted_below fs texts asked root

@@ -4,6 +4,9 @@ pub mod Counting
 pub mod FollowedRoot
 pub mod OneDevice
 pub mod Walks
+pub mod Yielded
+pub mod RootKind
 pub mod Roots
+pub mod Counts
 pub mod Written
 pub mod Run

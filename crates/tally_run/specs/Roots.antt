@@ -1,10 +1,10 @@
 -- What is counted below several roots.
-use Rattle.std.specs.Prelude.{◌≡◌, ◌⊎◌, ℕ, Bool, true, List, [], ◌∷◌, ◌++◌, length, map, Option}
+use Rattle.std.specs.Prelude.{◌≡◌, ◌⊎◌, ℕ, Bool, true, List, [], ◌∷◌, ◌++◌, map, Option}
 use Rattle.std.specs.List.{list_all}
 use Rattle.jwalk.specs.jwalk_model.Counted.{Worth}
 use Rattle.jwalk.specs.jwalk_model.declared.metadata.Identity.{Identity}
 use Rattle.jwalk.specs.jwalk_model.Entry.{Item}
-use Rattle.jwalk_subtotals.specs.Counted.{files_after}
+use Rattle.jwalk_subtotals.specs.Counted.{HaveSame, files_after}
 use Rattle.jwalk_subtotals.specs.Files.{files_of}
 use Rattle.jwalk_subtotals.specs.Subtotals.{Yielded, subtotals_beside}
 use Rattle.jwalk_subtotals.specs.declared.options.SubtotalOptions.{SubtotalOptions}
@@ -51,16 +51,34 @@ pub record IsLeftOut (known : List Identity) (old : Results) (before : Option (L
   pub without_error : counted.clean ≡ true
 
 -- What is below a root is counted, or it is left out.
-abbrev pub CountsRoot : Type 0 → List (Item Worth Worth) → Asked → List ℕ → List Identity → Results → Option (List ℕ) → Results → Option (List ℕ) → Counted → Type 0
-CountsRoot fixed below asked root known old before new after counted =
-    IsLeftOut known old before new after counted ⊎ CountsBelow fixed below asked root known old before new after counted
+abbrev pub CountsRoot : Type 0 → (List (Item Worth Worth) → Type 0) → List (Item Worth Worth) → Asked → List ℕ → List Identity → Results → Option (List ℕ) → Results → Option (List ℕ) → Counted → Type 0
+CountsRoot fixed are below asked root known old before new after counted =
+    IsLeftOut known old before new after counted ⊎ CountsBelow fixed are below asked root known old before new after counted
 
--- The roots are counted, but for those behind the first that are left out. What is written of the subtotals of answers, a list for each root that is counted, is taken, of all in one, with each root as it was named. It is known whether one has an error. If none has, and what is gone over always answers the same, the lists are the whole walks below the roots.
-pub record CountsRoots (fixed : Type 0) (below : List ℕ → List (Item Worth Worth)) (asked : Asked) (roots : List (List ℕ)) (old : Results) (before : Option (List ℕ)) (new : Results) (after : Option (List ℕ)) (clean : Bool) : Type 0 where
+-- Each of these lists of answers is one that is possible below its root.
+abbrev pub AreSuch : (List ℕ → List (Item Worth Worth) → Type 0) → List (List ℕ) → List (List (Item Worth Worth)) → Type 0
+AreSuch are [] [] = Unit {0}
+AreSuch are (root ∷ roots) (l ∷ ls) = are root l × AreSuch are roots ls
+AreSuch are _ _ = ⊥
+
+-- Roots are counted beside the files that are known, but for some that are left out, none of which is the first if no root was known before. What is written of the subtotals of answers, a possible list for each root that is counted, is taken, of all in one, with each root as it was named. It is known whether one has an error, and which files are counted now. If none has, and what is gone over always returns the same, the lists are the whole walks below the roots.
+pub record CountsMany (fixed : Type 0) (are : List ℕ → List (Item Worth Worth) → Type 0) (below : List ℕ → List (Item Worth Worth)) (asked : Asked) (none_before : Type 0) (roots : List (List ℕ)) (known : List Identity) (old : Results) (before : Option (List ℕ)) (new : Results) (after : Option (List ℕ)) (files : List Identity) (clean : Bool) : Type 0 where
+  pub counted : List (List ℕ)
+  pub among : LeavesOut roots counted
+  pub first : none_before → KeepsFirst roots counted
+  pub answered : List (List (Item Worth Worth))
+  pub such : AreSuch are counted answered
+  pub whole : fixed → clean ≡ true → answered ≡ map below counted
+  pub taken : Takes (all_rows asked known counted answered) old before new after
+  pub tells : clean ≡ list_all is_clean (all_subtotals (subtotals_asked asked) known answered)
+  pub remembered : HaveSame files (files_behind (subtotals_asked asked) known answered)
+
+-- The same from the beginning, with no root and no file known. The first root is counted.
+pub record CountsRoots (fixed : Type 0) (are : List ℕ → List (Item Worth Worth) → Type 0) (below : List ℕ → List (Item Worth Worth)) (asked : Asked) (roots : List (List ℕ)) (old : Results) (before : Option (List ℕ)) (new : Results) (after : Option (List ℕ)) (clean : Bool) : Type 0 where
   pub counted : List (List ℕ)
   pub among : KeepsFirst roots counted
   pub answered : List (List (Item Worth Worth))
-  pub each : length answered ≡ length counted
+  pub such : AreSuch are counted answered
   pub whole : fixed → clean ≡ true → answered ≡ map below counted
   pub taken : Takes (all_rows asked [] counted answered) old before new after
   pub tells : clean ≡ list_all is_clean (all_subtotals (subtotals_asked asked) [] answered)

@@ -106,8 +106,9 @@ pub record CountsWalk {C S P A W L R E : Type 0} (files : FileSystem.Ghosts S) (
       → map (counted_item given) answered ≡ whole_walk (job_for files given walk) (root_of walk) (given.read_dir_state (state_of walk))
   pub takes : TakesSubtotals asked root known (on_devices asked.one_file_system answered) old before new after counted
 
--- Answers are counted. If none has an error, and what the walk goes over always answers the same, they are all that is below a root, by value.
-pub record CountsBelow (fixed : Type 0) (below : List (Item Worth Worth)) (asked : Asked) (root : List ℕ) (known : List Identity) (old : Results) (before : Option (List ℕ)) (new : Results) (after : Option (List ℕ)) (counted : Counted) : Type 0 where
+-- Answers of a walk are counted, and these are possible. If none has an error, and what the walk goes over always returns the same, they are all that is below a root, by value.
+pub record CountsBelow (fixed : Type 0) (are : List (Item Worth Worth) → Type 0) (below : List (Item Worth Worth)) (asked : Asked) (root : List ℕ) (known : List Identity) (old : Results) (before : Option (List ℕ)) (new : Results) (after : Option (List ℕ)) (counted : Counted) : Type 0 where
   pub answered : List (Item Worth Worth)
+  pub such : are answered
   pub whole : fixed → counted.clean ≡ true → answered ≡ below
   pub takes : TakesSubtotals asked root known answered old before new after counted

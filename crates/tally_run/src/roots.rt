@@ -1,5 +1,7 @@
 //! Which roots are counted.
 ghost use Rattle.std.specs.Prelude.{◌≡◌, ◌≢◌, false, length, IfOk};
+ghost use Rattle.tally_run.specs.RootKind.{IsKindOf};
+ghost use Rattle.tally_run.specs.Yielded.{is_folder};
 ghost use Rattle.tally_run.specs.declared.roots.RootKind.TheVariants.{LeftOut};
 
 use jwalk::file_system::{Fault, FileSystem, Identity};
@@ -29,7 +31,9 @@ pub(crate) struct Roots {
 }
 
 /// Returns whether there is a directory at a path, and which file is there, if that is known.
-fn look_at<S: FileSystem>(disk: &S, path: &str) -> Result<(bool, Option<Identity>), AllocError> {
+fn look_at<S: FileSystem>(disk: &S, path: &str) -> Result<(bool, Option<Identity>), AllocError>
+    ensures { S.IsFixed disk.now → IfOk result (λ found. found.0 ≡ is_folder ((S.functions disk.now).meta_of path.now)) }
+{
     match disk.metadata(path) {
         Ok(found) => Ok((found.file_type().is_dir(), found.identity())),
         Err(Fault::Io(_)) => Ok((false, None)),
@@ -159,6 +163,7 @@ impl Roots {
         root: &str,
     ) -> Result<RootKind, AllocError>
         ensures first { length self.old.counted.items ≡ 0 → IfOk result (λ kind. kind ≢ LeftOut) }
+        ensures kind { S.IsFixed disk.now → IfOk result (IsKindOf ((S.functions disk.now).meta_of root.now)) }
     {
         let found = look_at(disk, root)?;
         if self.is_below(alloc, disk, root, found)? {

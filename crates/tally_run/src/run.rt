@@ -2,8 +2,7 @@
 ghost use Rattle.std.specs.Prelude.{◌≡◌, ◌<◌, ◌≤◌, ◌⊎◌, true, flat_map, map, string_bytes, Ok, IfOk, OnOk};
 ghost use Rattle.std.specs.Io.KnownBytes.{Appends};
 ghost use Rattle.tally_text.specs.Nodes.{trees_of};
-ghost use Rattle.tally_words.specs.AsksFor.{AskForText};
-ghost use Rattle.tally_run.specs.Run.{Ends, Counts, WritesAsked};
+ghost use Rattle.tally_run.specs.Run.{Ends, IsDone, WritesAsked};
 ghost use Rattle.tally_run.specs.Written.{are_lines, scale_asked, separator_of, style_asked, table_of, width_of};
 ghost use Rattle.tally_run.specs.Written.{document_text, trees_text, AreNone, Finishes};
 
@@ -11,7 +10,7 @@ use crate::failure::Failure;
 use crate::progress::{Progress, Report};
 use crate::results::{Lines, Results};
 use crate::screen::Screen;
-use crate::walks::Walks;
+use crate::walks::{HonouringWalk, PlainWalk, Walks};
 use jwalk::Host;
 use jwalk::file_system::FileSystem;
 use jwalk_ignore::texts::Texts;
@@ -182,6 +181,7 @@ fn tally<
 >(
     rt: &T,
     alloc: Global,
+    cores: usize,
     disk: S,
     texts: X,
     asked: &Asked<'_>,
@@ -189,10 +189,10 @@ fn tally<
     out: &mut W,
     err: &mut E,
 ) -> Result<bool, Failure>
-    ensures { IfOk result (λ clean. clean ≡ true → WritesAsked (S.IsFixed disk × X.IsFixed texts) (S.functions disk)
-        (X.functions texts) screen asked.now (W.contents out.old) (W.contents out.new)) }
+    ensures { IfOk result (WritesAsked S.FileSystem X.Texts ⟦<PlainWalk<T, S> as Iterator>⟧.next_gives
+        ⟦<HonouringWalk<T, S, X> as Iterator>⟧.next_gives disk texts cores screen asked.now (W.contents out.old) (W.contents out.new)) }
 {
-    let walks = Walks::new(rt, alloc, asked, screen, disk, texts)?;
+    let walks = Walks::new(rt, alloc, cores, asked, screen, disk, texts)?;
     let mut results = results_of(alloc, asked, screen)?;
     let clean = walks.count_asked(alloc, &mut results, out, err)?;
     err.wipe();
@@ -229,6 +229,7 @@ pub fn run<
 >(
     rt: &T,
     alloc: Global,
+    cores: usize,
     disk: S,
     texts: X,
     words: &[String],
@@ -239,14 +240,16 @@ pub fn run<
     ensures status { result ≤ 2 }
     ensures ends { Ends (map string_bytes words.now) result }
     ensures untouched { result ≡ 2 → W.contents out.new ≡ W.contents out.old }
-    ensures done { result ≡ 0 → AskForText (map string_bytes words.now)
-        ⊎ Counts (S.IsFixed disk × X.IsFixed texts) (S.functions disk) (X.functions texts) screen
-        (map string_bytes words.now) (W.contents out.old) (W.contents out.new) }
+    ensures done { result ≡ 0 → IsDone S.FileSystem X.Texts ⟦<PlainWalk<T, S> as Iterator>⟧.next_gives
+        ⟦<HonouringWalk<T, S, X> as Iterator>⟧.next_gives disk texts cores screen (map string_bytes words.now)
+        (W.contents out.old) (W.contents out.new) }
 {
     match read_words(alloc, words) {
         Ok(asked) => {
             let mut told = Progress::new(rt, err, tells(&asked, screen));
-            let ended = tally(rt, alloc, disk, texts, &asked, screen, out, &mut told);
+            let ended = tally(
+                rt, alloc, cores, disk, texts, &asked, screen, out, &mut told,
+            );
             told.wipe();
             status_of(ended, err)
         }

@@ -2,19 +2,14 @@
 ghost use Rattle.std.specs.Prelude.{◌≡◌, length, IfOk};
 ghost use Rattle.std.specs.Arc.{arc_value};
 ghost use Rattle.jwalk.specs.jwalk_job.Options.{options_value};
-ghost use Rattle.jwalk.specs.WalkDir.{file_system_of, options_of, root_of, state_of};
 ghost use Rattle.jwalk_ignore.specs.Callback.Excluding.{excluded_of};
-ghost use Rattle.jwalk_ignore.specs.Callback.States.{rules_held};
-ghost use Rattle.jwalk_ignore.specs.Rules.Chain.{no_rules};
-ghost use Rattle.jwalk_ignore.specs.Callback.IgnoreViews.{next_of, settings_of, texts_of};
-ghost use Rattle.jwalk_ignore.specs.Callback.Kept.{ignoring_walk};
 ghost use Rattle.jwalk_subtotals.specs.Files.{files_of};
 ghost use Rattle.program_parts.specs.Values.{texts_of as words_of};
+ghost use Rattle.program_walks.specs.Crew.{threads_in, IsCrewOf};
+ghost use Rattle.tally_run.specs.Counts.{CountsAll, CountsBy, CountsEach, CountsKept, CountsOne, CountsOwn, CountsPlain, CountsRuled};
 ghost use Rattle.tally_run.specs.FollowedRoot.{disk_in, root_in};
-ghost use Rattle.tally_run.specs.OneDevice.{on_devices};
-ghost use Rattle.tally_run.specs.Roots.{CountsRoot, CountsRoots};
 ghost use Rattle.tally_run.specs.Run.{roots_asked};
-ghost use Rattle.tally_run.specs.Walks.{all_below, counted_below, excluded_asked, kept_below, options_asked, CountsBelow};
+ghost use Rattle.tally_run.specs.Walks.{excluded_asked, options_asked};
 
 use crate::counting::{Counted, count_walk};
 use crate::failure::Failure;
@@ -32,11 +27,23 @@ use jwalk_ignore::ignore_files::IgnoreFiles;
 use jwalk_ignore::states::OnlyRules;
 use jwalk_ignore::texts::Texts;
 use jwalk_subtotals::Files;
-use program_walks::crew::{Plain, crew_of, walk_below};
+use program_walks::crew::{CrewWalk, Plain, crew_with, threads_in, walk_below};
 use std::alloc::{AllocError, Global};
 use std::io::Write;
 use std::sync::Arc;
 use tally_words::asked::Asked;
+
+/// A callback that honours ignore files, and then drops what is excluded.
+type Honours<X> = IgnoreFiles<Arc<X>, Excluding>;
+
+/// A walk with ignore files.
+type RuledWalk<T, S, X> = CrewWalk<T, OnlyRules, Arc<S>, Honours<X>>;
+
+/// A walk below a root without ignore files.
+pub(crate) type PlainWalk<T, S> = CrewWalk<T, ((), ()), Arc<FollowedRoot<S>>, Excluding>;
+
+/// A walk below a root with ignore files.
+pub(crate) type HonouringWalk<T, S, X> = RuledWalk<T, FollowedRoot<S>, X>;
 
 /// Returns the callback that leaves out what is asked for below a root, with its errors. Where a walk without ignore
 /// files skips hidden names, it leaves out theirs too.
@@ -59,19 +66,14 @@ fn count_ruled<
     screen: Screen,
     root: &str,
     walk: Plain<T, S>,
-    rules: IgnoreFiles<Arc<X>, Excluding>,
+    rules: Honours<X>,
     files: Files<Global>,
     asked: &Asked<'_>,
     results: &mut Results,
     out: &mut W,
     err: &mut E,
 ) -> Result<Counted, Failure>
-    ensures { IfOk result (CountsBelow (S.IsFixed (arc_value (file_system_of walk))
-        × X.IsFixed (arc_value (texts_of rules))
-        × (rules_held (state_of walk) ≡ no_rules))
-        (on_devices asked.now.one_file_system (ignoring_walk (S.functions (arc_value (file_system_of walk)))
-        (X.functions (arc_value (texts_of rules))) (settings_of rules) (excluded_of (next_of rules)) (options_of walk)
-        (root_of walk)))
+    ensures { IfOk result (CountsRuled S.FileSystem X.Texts ⟦<RuledWalk<T, S, X> as Iterator>⟧.next_gives walk rules
         asked.now root.now (files_of files) results.old (W.contents out.old) results.new (W.contents out.new)) }
 {
     count_walk(
@@ -104,7 +106,8 @@ impl<
     S: FileSystem + Send + Sync + 'static,
     X: Texts + Send + Sync + 'static,
 > Walks<'a, 'w, T, S, X> {
-    /// Returns the walks over a disk and files of rules that are asked for.
+    /// Returns the walks over a disk and files of rules that are asked for. If no number of threads is asked for, as many
+    /// read as can run at a time, which are `cores`.
     ///
     /// # Errors
     ///
@@ -112,6 +115,7 @@ impl<
     pub(crate) fn new(
         rt: &T,
         alloc: Global,
+        cores: usize,
         asked: &'a Asked<'w>,
         screen: Screen,
         disk: S,
@@ -120,13 +124,14 @@ impl<
         ensures asked { IfOk result (λ walks. walks.asked.now ≡ asked.now) }
         ensures disk { IfOk result (λ walks. arc_value walks.disk ≡ disk) }
         ensures texts { IfOk result (λ walks. arc_value walks.texts ≡ texts) }
+        ensures crew { IfOk result (λ walks. IsCrewOf (threads_in cores asked.now.threads) walks.crew) }
     {
         Ok(Walks {
             asked,
             screen,
             disk: Arc::new(alloc, disk)?,
             texts: Arc::new(alloc, texts)?,
-            crew: crew_of(rt, alloc, asked.threads)?,
+            crew: crew_with(rt, alloc, threads_in(cores, asked.threads))?,
         })
     }
 
@@ -164,11 +169,8 @@ impl<
         out: &mut W,
         err: &mut E,
     ) -> Result<Counted, Failure>
-        ensures { IfOk result (CountsBelow (S.IsFixed (arc_value self.now.disk))
-            (on_devices self.now.asked.now.one_file_system
-            (all_below (S.functions (arc_value self.now.disk)) self.now.asked.now root.now))
-            self.now.asked.now root.now (files_of files)
-            results.old (W.contents out.old) results.new (W.contents out.new)) }
+        ensures { IfOk result (CountsPlain S.FileSystem X.Texts ⟦<PlainWalk<T, S> as Iterator>⟧.next_gives ⟦<HonouringWalk<T, S, X> as Iterator>⟧.next_gives
+            self.now crew.now root.now (files_of files) results.old (W.contents out.old) results.new (W.contents out.new)) }
     {
         let excluding = excluding_of(alloc, self.asked, root)?;
         let below = String::from_str(alloc, root)?;
@@ -198,10 +200,8 @@ impl<
         out: &mut W,
         err: &mut E,
     ) -> Result<Counted, Failure>
-        ensures { IfOk result (CountsBelow (S.IsFixed (arc_value self.now.disk) × X.IsFixed (arc_value self.now.texts))
-            (on_devices self.now.asked.now.one_file_system (kept_below (S.functions (arc_value self.now.disk))
-            (X.functions (arc_value self.now.texts)) self.now.asked.now root.now)) self.now.asked.now root.now (files_of files)
-            results.old (W.contents out.old) results.new (W.contents out.new)) }
+        ensures { IfOk result (CountsKept S.FileSystem X.Texts ⟦<PlainWalk<T, S> as Iterator>⟧.next_gives ⟦<HonouringWalk<T, S, X> as Iterator>⟧.next_gives
+            self.now crew.now root.now (files_of files) results.old (W.contents out.old) results.new (W.contents out.new)) }
     {
         let excluding = excluding_of(alloc, self.asked, root)?;
         let rules = IgnoreFiles::new(self.texts.clone()?)
@@ -235,10 +235,8 @@ impl<
         out: &mut W,
         err: &mut E,
     ) -> Result<Counted, Failure>
-        ensures { IfOk result (CountsBelow (S.IsFixed (arc_value self.now.disk) × X.IsFixed (arc_value self.now.texts))
-            (counted_below (S.functions (arc_value self.now.disk)) (X.functions (arc_value self.now.texts))
-            self.now.asked.now root.now) self.now.asked.now root.now (files_of files)
-            results.old (W.contents out.old) results.new (W.contents out.new)) }
+        ensures { IfOk result (CountsBy S.FileSystem X.Texts ⟦<PlainWalk<T, S> as Iterator>⟧.next_gives ⟦<HonouringWalk<T, S, X> as Iterator>⟧.next_gives
+            self.now crew.now root.now (files_of files) results.old (W.contents out.old) results.new (W.contents out.new)) }
     {
         if self.asked.ignore {
             return self.count_kept(alloc, crew, files, root, results, out, err);
@@ -258,25 +256,50 @@ impl<
         out: &mut W,
         err: &mut E,
     ) -> Result<Counted, Failure>
-        ensures counts { IfOk result (CountsRoot (S.IsFixed (arc_value self.now.disk) × X.IsFixed (arc_value self.now.texts))
-            (counted_below (S.functions (arc_value self.now.disk)) (X.functions (arc_value self.now.texts))
-            self.now.asked.now root.now) self.now.asked.now root.now (files_of files)
-            results.old (W.contents out.old) results.new (W.contents out.new)) }
-        ensures first { length known.old.counted.items ≡ 0 → IfOk result (CountsBelow (S.IsFixed (arc_value self.now.disk) × X.IsFixed (arc_value self.now.texts))
-            (counted_below (S.functions (arc_value self.now.disk)) (X.functions (arc_value self.now.texts))
-            self.now.asked.now root.now) self.now.asked.now root.now (files_of files)
-            results.old (W.contents out.old) results.new (W.contents out.new)) }
+        ensures counts { IfOk result (CountsOne S.FileSystem X.Texts ⟦<PlainWalk<T, S> as Iterator>⟧.next_gives ⟦<HonouringWalk<T, S, X> as Iterator>⟧.next_gives
+            self.now root.now (files_of files) results.old (W.contents out.old) results.new (W.contents out.new)) }
+        ensures first { length known.old.counted.items ≡ 0 → IfOk result (CountsOwn S.FileSystem X.Texts ⟦<PlainWalk<T, S> as Iterator>⟧.next_gives ⟦<HonouringWalk<T, S, X> as Iterator>⟧.next_gives
+            self.now root.now (files_of files) results.old (W.contents out.old) results.new (W.contents out.new)) }
     {
-        let no_crew = None;
-        let crew = match known.add(alloc, &self.disk, root)? {
+        match known.add(alloc, &self.disk, root)? {
             RootKind::LeftOut => {
                 report_root(alloc, self.screen.shows_errors, root, err)?;
-                return Ok(Counted { files, clean: true });
+                Ok(Counted { files, clean: true })
             }
-            RootKind::Directory => &self.crew,
-            RootKind::Other => &no_crew,
-        };
-        self.count_below(alloc, crew, files, root, results, out, err)
+            RootKind::Directory => {
+                self.count_below(alloc, &self.crew, files, root, results, out, err)
+            }
+            RootKind::Other => self.count_below(alloc, &None, files, root, results, out, err),
+        }
+    }
+
+    /// Counts the two halves of the roots in turn. Those that lie below one that is known are left out.
+    fn count_each<W: Write, E: Report>(
+        &self,
+        alloc: Global,
+        roots: &[&str],
+        known: &mut Roots,
+        files: Files<Global>,
+        results: &mut Results,
+        out: &mut W,
+        err: &mut E,
+    ) -> Result<Counted, Failure>
+        ensures { IfOk result (CountsEach S.FileSystem X.Texts ⟦<PlainWalk<T, S> as Iterator>⟧.next_gives ⟦<HonouringWalk<T, S, X> as Iterator>⟧.next_gives
+            self.now known.old (words_of roots.now) (files_of files) results.old (W.contents out.old) results.new (W.contents out.new)) }
+    {
+        match roots {
+            [] => Ok(Counted { files, clean: true }),
+            [root] => self.count_root(alloc, known, files, root, results, out, err),
+            _ => {
+                let (first, rest) = roots.split_at(roots.len() / 2);
+                let counted = self.count_each(alloc, first, known, files, results, out, err)?;
+                let more = self.count_each(alloc, rest, known, counted.files, results, out, err)?;
+                Ok(Counted {
+                    files: more.files,
+                    clean: counted.clean & more.clean,
+                })
+            }
+        }
     }
 
     /// Returns whether there was no error.
@@ -288,20 +311,13 @@ impl<
         out: &mut W,
         err: &mut E,
     ) -> Result<bool, Failure>
-        ensures { IfOk result (CountsRoots (S.IsFixed (arc_value self.now.disk) × X.IsFixed (arc_value self.now.texts))
-            (counted_below (S.functions (arc_value self.now.disk)) (X.functions (arc_value self.now.texts))
-            self.now.asked.now) self.now.asked.now (words_of roots.now)
-            results.old (W.contents out.old) results.new (W.contents out.new)) }
+        ensures { IfOk result (CountsAll S.FileSystem X.Texts ⟦<PlainWalk<T, S> as Iterator>⟧.next_gives ⟦<HonouringWalk<T, S, X> as Iterator>⟧.next_gives
+            self.now (words_of roots.now) results.old (W.contents out.old) results.new (W.contents out.new)) }
     {
         let mut known = Roots::new(alloc, self.asked.one_file_system);
-        let mut files = Files::new(alloc);
-        let mut clean = true;
-        for root in roots {
-            let counted = self.count_root(alloc, &mut known, files, root, results, out, err)?;
-            files = counted.files;
-            clean &= counted.clean;
-        }
-        Ok(clean)
+        let files = Files::new(alloc);
+        let counted = self.count_each(alloc, roots, &mut known, files, results, out, err)?;
+        Ok(counted.clean)
     }
 
     /// Returns whether there was no error.
@@ -312,10 +328,8 @@ impl<
         out: &mut W,
         err: &mut E,
     ) -> Result<bool, Failure>
-        ensures { IfOk result (CountsRoots (S.IsFixed (arc_value self.now.disk) × X.IsFixed (arc_value self.now.texts))
-            (counted_below (S.functions (arc_value self.now.disk)) (X.functions (arc_value self.now.texts))
-            self.now.asked.now) self.now.asked.now (roots_asked self.now.asked.now)
-            results.old (W.contents out.old) results.new (W.contents out.new)) }
+        ensures { IfOk result (CountsAll S.FileSystem X.Texts ⟦<PlainWalk<T, S> as Iterator>⟧.next_gives ⟦<HonouringWalk<T, S, X> as Iterator>⟧.next_gives
+            self.now (roots_asked self.now.asked.now) results.old (W.contents out.old) results.new (W.contents out.new)) }
     {
         let roots = self.asked.roots.as_slice();
         if roots.is_empty() {

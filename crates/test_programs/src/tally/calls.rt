@@ -68,7 +68,7 @@ fn ran<R: Runtime, S: FileSystem + Send + Sync + 'static, W: Write>(
 ) -> (u8, Vec<u8>) {
     let mut err = Vec::new(alloc);
     let rules = MemoryTexts::new(alloc);
-    let status = run(rt, alloc, disk, rules, words, screen, out, &mut err);
+    let status = run(rt, alloc, 4, disk, rules, words, screen, out, &mut err);
     (status, err)
 }
 

@@ -1,14 +1,15 @@
-use Rattle.std.proofs.Common.{inl, inr, map, refl, string_bytes}
+use Rattle.std.proofs.Common.{true, inl, inr, map, string_bytes}
 use Rattle.program_parts.proofs.RefusalFacts.{text_asked}
 use Rattle.tally_words.specs.Command.{tally_app}
 use Rattle.tally_words.specs.Conflict.{has_conflict}
+use Rattle.tally_run.proofs.RootFacts.{ok_known}
 use Rattle.tally_run.proofs.run.run.Goals as goal
 
 pub returns-in-Ok-clause-ends : goal.returns-in-Ok-clause-ends
 returns-in-Ok-clause-ends g c = inl (_, c.in-Ok.ensures.asked, c.status_of.ensures.status)
 
 pub returns-in-Ok-clause-done : goal.returns-in-Ok-clause-done
-returns-in-Ok-clause-done g c = λ none. inr (_, c.in-Ok.ensures.asked, (rw (c.status_of.ensures.clean none) at c.tally-ended.ensures) refl)
+returns-in-Ok-clause-done g c = λ none. inr (_, c.in-Ok.ensures.asked, ok_known c.tally-ended.result true _ (c.status_of.ensures.clean none) c.tally-ended.ensures)
 
 pub returns-in-Err-clause-ends : goal.returns-in-Err-clause-ends
 returns-in-Err-clause-ends g c = inr (record {

@@ -24,7 +24,7 @@ returns g c =
     let from : arc_value (texts_of (callback_of walk)) ≡ arc_value (texts_of rules) = ap (λ x. arc_value (texts_of x)) set.callback in
     IfOk-weaker c.count_walk.result _ _
     (λ counted counts.
-    below_counted _ _ _ _ _ walk given _ _ _ _ _ _ _ _ _ counted
+    below_counted _ _ _ _ _ walk given _ _ _ _ _ _ _ _ _ _ counted set
     (λ always. record {
       file_system = subst g.S.FileSystem.IsFixed (sym over) always.0;
       callback = ignores_kept _ (Unit {0}) rules_held nothing_beside (subst g.X.Texts.IsFixed (sym from) always.1) (ap g.X.Texts.functions from) (ap settings_of set.callback) (ap (λ x. excluded_of (next_of x)) set.callback);

@@ -7,10 +7,11 @@ use Rattle.jwalk.specs.WalkDir.{callback_of, file_system_of, options_of, root_of
 use Rattle.jwalk_ignore.specs.Callback.Excluding.{Excluded, excluded_of, excluding}
 use Rattle.jwalk_ignore.specs.Callback.Kept.{given_excluding}
 use Rattle.jwalk_ignore.proofs.KeptFacts.{whole_of}
-use Rattle.program_walks.specs.Crew.{with_crew}
+use Rattle.program_walks.specs.Crew.{ReadsBy, with_crew}
 use Rattle.program_walks.proofs.CrewFacts.{same_by_crew}
 use Rattle.tally_run.specs.FollowedRoot.{disk_in, functions_from, root_in}
 use Rattle.tally_run.specs.Walks.{excluded_asked, options_asked}
+use Rattle.tally_run.specs.Yielded.{IsPlain}
 use Rattle.tally_run.proofs.WalkFacts.{below_counted}
 use Rattle.tally_run.proofs.walks.Walks.count_all.Goals as goal
 
@@ -31,9 +32,17 @@ returns g c =
     let options : options_of walk ≡ with_crew (is_some c.args.crew.now) (options_asked asked)
     = set.options ∙ built.options ∙ ap (with_crew (is_some c.args.crew.now)) c.options.ensures in
     let root : root_of walk ≡ c.args.root.now = set.root ∙ built.root ∙ c.in_ok-below.ensures.ok in
+    let plain : IsPlain (arc_value self.disk) c.args.crew.now asked c.args.root.now walk = record {
+      over = over;
+      leads_on = from;
+      below = root;
+      options = options;
+      by = subst (ReadsBy c.args.crew.now) (sym set.crew) built.crew;
+      excluded = lines;
+    } in
     IfOk-weaker c.count_walk.result _ _
     (λ counted counts.
-    below_counted _ _ _ _ _ walk (given_excluding excluded) _ _ _ _ _ _ _ _ _ counted
+    below_counted _ _ _ _ _ walk (given_excluding excluded) _ (IsPlain (arc_value self.disk) c.args.crew.now asked c.args.root.now) _ _ _ _ _ _ _ _ counted plain
     (λ fixed. record {
       file_system = subst g.S.FileSystem.IsFixed (sym over) fixed;
       callback = λ depth path state list. ap (λ (x : Excluded). excluding x depth path state list) (sym lines);

@@ -1,19 +1,21 @@
-use Rattle.std.proofs.Common.{◌≡◌, ◌∙◌, true, ap, ap₂, subst, sym}
+use Rattle.std.proofs.Common.{◌≡◌, ◌∙◌, true, false, ap, ap₂, subst, sym}
 use Rattle.std.specs.Prelude.{is_some}
 use Rattle.std.specs.Arc.{arc_value}
 use Rattle.std.proofs.lemmas.Result.{IfOk-weaker}
+use Rattle.jwalk.specs.jwalk_model.Options.{with_skip_hidden}
 use Rattle.jwalk.specs.WalkDir.{file_system_of, options_of}
 use Rattle.jwalk_ignore.specs.Callback.Excluding.{excluded_of, excluding}
 use Rattle.jwalk_ignore.specs.Callback.Given.{no_rules_yet}
 use Rattle.jwalk_ignore.specs.Callback.IgnoreViews.{ignoring, next_of, settings_of, texts_of as texts_in}
 use Rattle.jwalk_ignore.specs.Callback.Settings.{Settings}
+use Rattle.jwalk_ignore.specs.Callback.States.{rules_held}
 use Rattle.jwalk_ignore.proofs.KeptFacts.{ignoring_same}
-use Rattle.program_walks.specs.Crew.{with_crew}
+use Rattle.program_walks.specs.Crew.{ReadsBy, with_crew}
 use Rattle.program_walks.proofs.CrewFacts.{hidden_by_crew}
 use Rattle.tally_run.specs.FollowedRoot.{disk_in, functions_from, root_in}
 use Rattle.tally_run.specs.OneDevice.{on_devices}
 use Rattle.tally_run.specs.Walks.{excluded_asked, options_asked, settings_asked}
-use Rattle.tally_run.proofs.WalkFacts.{below_as}
+use Rattle.tally_run.proofs.WalkFacts.{below_as, yielded_so}
 use Rattle.tally_run.proofs.walks.Walks.count_kept.Goals as goal
 
 pub returns : goal.returns
@@ -41,6 +43,17 @@ returns g c =
     (λ counted counts.
     below_as
     (λ always. (subst g.S.FileSystem.IsFixed (sym over) always.0, subst g.X.Texts.IsFixed (sym from) always.1, built.state))
+    (yielded_so (λ it is. record {
+      over = ap disk_in is.file_system ∙ over;
+      leads_on = ap root_in is.file_system ∙ at_root;
+      below = is.root ∙ built.root ∙ c.in_ok-below.ensures.ok;
+      options = is.options ∙ ap (with_skip_hidden false) options;
+      by = subst (ReadsBy c.args.crew.now) (sym is.crew) built.crew;
+      texts_read = ap (λ x. arc_value (texts_in x)) is.callback ∙ from;
+      settings = ap settings_of is.callback ∙ settings;
+      excluded = ap (λ x. excluded_of (next_of x)) is.callback ∙ lines;
+      begins = ap rules_held is.state ∙ built.state;
+    }))
     (ap (on_devices asked.one_file_system) (ignoring_same (ap₂ functions_from at_root (ap g.S.FileSystem.functions over)) (ap g.X.Texts.functions from) settings lines options (built.root ∙ c.in_ok-below.ensures.ok)
     ∙ hidden_by_crew (ignoring (settings_asked asked) texts (excluding excluded)) (is_some c.args.crew.now) (functions_from c.args.root.now (g.S.FileSystem.functions (arc_value self.disk))) (options_asked asked) c.args.root.now no_rules_yet))
     counts)

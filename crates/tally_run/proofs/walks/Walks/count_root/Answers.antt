@@ -1,12 +1,63 @@
-use Rattle.std.proofs.Common.{inl, inr, refl}
+use Rattle.std.proofs.Common.{None, inl, inr, refl, subst}
+use Rattle.std.specs.Arc.{arc_value}
 use Rattle.std.proofs.lemmas.Result.{IfOk-weaker}
+use Rattle.tally_run.specs.RootKind.{IsKindOf}
+use Rattle.tally_run.proofs.WalkFacts.{below_as, crew_below, no_crew_below}
 use Rattle.tally_run.proofs.walks.Walks.count_root.Goals as goal
 
-pub returns-in-LeftOut-clause-counts : goal.returns-in-LeftOut-clause-counts
-returns-in-LeftOut-clause-counts g c = inl (record { untaken = refl; unwritten = refl; remembered = refl; without_error = refl })
+pub returns-in_ok-report_root-in-LeftOut-clause-counts : goal.returns-in_ok-report_root-in-LeftOut-clause-counts
+returns-in_ok-report_root-in-LeftOut-clause-counts g c = inl (record { untaken = refl; unwritten = refl; remembered = refl; without_error = refl })
 
-pub returns-clause-counts : goal.returns-clause-counts
-returns-clause-counts g c = IfOk-weaker c.count_below.result _ _ (λ counted counts. inr counts) c.count_below.ensures
+pub returns-in-Directory-clause-first : goal.returns-in-Directory-clause-first
+returns-in-Directory-clause-first g c = λ _.
+    let self = c.args.self.now in
+    IfOk-weaker c.count_below.result _ _
+    (λ counted.
+    below_as (λ always. always)
+    (λ answers yielded. record {
+      reads = self.crew;
+      by = λ fixed. crew_below (g.S.FileSystem.functions (arc_value self.disk)) c.args.root.now self.crew (subst (IsKindOf ((g.S.FileSystem.functions (arc_value self.disk)).meta_of c.args.root.now)) c.in-Directory.is (c.in_ok-add.ensures.kind fixed));
+      yielded = yielded;
+    })
+    refl)
+    c.count_below.ensures
 
-pub returns-clause-first : goal.returns-clause-first
-returns-clause-first g c = λ _. c.count_below.ensures
+pub returns-in-Directory-clause-counts : goal.returns-in-Directory-clause-counts
+returns-in-Directory-clause-counts g c =
+    let self = c.args.self.now in
+    IfOk-weaker c.count_below.result _ _
+    (λ counted counts. inr (below_as (λ always. always)
+    (λ answers yielded. record {
+      reads = self.crew;
+      by = λ fixed. crew_below (g.S.FileSystem.functions (arc_value self.disk)) c.args.root.now self.crew (subst (IsKindOf ((g.S.FileSystem.functions (arc_value self.disk)).meta_of c.args.root.now)) c.in-Directory.is (c.in_ok-add.ensures.kind fixed));
+      yielded = yielded;
+    })
+    refl counts))
+    c.count_below.ensures
+
+pub returns-in-Other-clause-first : goal.returns-in-Other-clause-first
+returns-in-Other-clause-first g c = λ _.
+    let self = c.args.self.now in
+    IfOk-weaker c.count_below-in-Other.result _ _
+    (λ counted.
+    below_as (λ always. always)
+    (λ answers yielded. record {
+      reads = None;
+      by = λ fixed. no_crew_below (g.S.FileSystem.functions (arc_value self.disk)) c.args.root.now self.crew (subst (IsKindOf ((g.S.FileSystem.functions (arc_value self.disk)).meta_of c.args.root.now)) c.in-Other.is (c.in_ok-add.ensures.kind fixed));
+      yielded = yielded;
+    })
+    refl)
+    c.count_below-in-Other.ensures
+
+pub returns-in-Other-clause-counts : goal.returns-in-Other-clause-counts
+returns-in-Other-clause-counts g c =
+    let self = c.args.self.now in
+    IfOk-weaker c.count_below-in-Other.result _ _
+    (λ counted counts. inr (below_as (λ always. always)
+    (λ answers yielded. record {
+      reads = None;
+      by = λ fixed. no_crew_below (g.S.FileSystem.functions (arc_value self.disk)) c.args.root.now self.crew (subst (IsKindOf ((g.S.FileSystem.functions (arc_value self.disk)).meta_of c.args.root.now)) c.in-Other.is (c.in_ok-add.ensures.kind fixed));
+      yielded = yielded;
+    })
+    refl counts))
+    c.count_below-in-Other.ensures
