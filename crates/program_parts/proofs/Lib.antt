@@ -1,3 +1,4 @@
+pub mod DigitFacts
 pub mod GatheredFacts
 pub mod MaskedFacts
 pub mod MatchFacts

@@ -1,5 +1,7 @@
+pub mod Digits
 pub mod Gathered
 pub mod Help
+pub mod Joined
 pub mod Masked
 pub mod Matches
 pub mod Paths

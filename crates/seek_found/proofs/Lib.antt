@@ -1,3 +1,4 @@
+mod AccountFacts
 mod GlobFacts
 pub mod EndFacts
 pub mod LimitFacts

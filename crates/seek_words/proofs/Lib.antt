@@ -7,5 +7,4 @@ pub mod CaseFacts
 pub mod ExtensionFacts
 pub mod LengthFacts
 pub mod PathFacts
-pub mod SizeFacts
 pub mod TimeFacts

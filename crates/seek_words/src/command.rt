@@ -8,6 +8,7 @@ use clap::{Arg, ArgAction, Command};
 use program_parts::options::{
     flag, listed, long_flag, number, root_option, threads_option, valued,
 };
+use program_parts::version::VERSION;
 use std::alloc::{AllocError, Global};
 
 static KINDS: [&str; 21] = [
@@ -244,7 +245,7 @@ fn owner_option<'a>(alloc: Global) -> Arg<'a>
         alloc,
         "owner",
         "USER:GROUP",
-        "The numbers of the owner and the group; !N for any but N",
+        "The owner and the group, by number or name, with a ! in front for any but that",
     )
     .short('o')
 }
@@ -400,7 +401,7 @@ fn named<'a>(alloc: Global) -> Result<Command<'a>, AllocError>
     );
     Command::new(alloc, "seek")
         .args_override_self(true)
-        .version("1.0")
+        .version(VERSION)
         .about("Prints the paths of entries by their names")
         .arg(pattern)?
         .arg(root_option(alloc, "Where to look [default: the folder that it runs in]"))
