@@ -1,7 +1,8 @@
 #!/usr/bin/env python3
-"""Makes the man pages and the shells' completions of the programs from the programs' own words.
+"""Makes the man pages and the shells' completions of the programs from the programs' own words, and the version that they
+show from the file VERSION and the toolchain.
 
-    python3 bench/man.py           writes docs/man and docs/completions
+    python3 bench/man.py           writes docs/man, docs/completions and the version
     python3 bench/man.py --check   compares what is there with what it makes, and ends with status 1 if they differ
 
 The options of a program with a crate NAME_words are those of its command.rt, with their texts, and of options.rt in
@@ -12,6 +13,7 @@ no file of the repository, which who installed the program may lack.
 import glob
 import os
 import re
+import subprocess
 import sys
 
 from command_line import Made, Option, command_line
@@ -19,6 +21,9 @@ from command_line import Made, Option, command_line
 TOP = os.path.dirname(os.path.dirname(os.path.abspath(__file__)))
 # The options that command lines share, and the forms of options.
 SHARED = "crates/program_parts/src/options.rt"
+
+# The version that programs show.
+SHOWN = "crates/program_parts/src/version.rt"
 
 # Values that are paths: of folders, and of any files.
 FOLDERS, FILES = ["ROOT", "DIR", "PATH"], ["FILE"]
@@ -84,6 +89,19 @@ class Program:
         if len(calls) < 6:
             sys.exit(f"{document} has {len(calls)} examples, calls with a remark, and not 6")
         self.add("EXAMPLES", [(f"`{call}`", text) for call, text in calls])
+
+
+def toolchain():
+    """What `rt version` prints."""
+    try:
+        return subprocess.run(["rt", "version"], capture_output=True, text=True, check=True).stdout.strip()
+    except (OSError, subprocess.CalledProcessError) as error:
+        sys.exit(f"`rt version` doesn't tell the toolchain: {error}")
+
+
+def shown_version():
+    """The file of programs' sources with the version that they show: that of VERSION, and the toolchain."""
+    return re.sub(r'(?<=: &str = ").*(?=";)', f"{read('VERSION').strip()} ({toolchain()})", read(SHOWN))
 
 
 def plain_option(id, short, text):
@@ -373,7 +391,7 @@ def all_programs():
 def made():
     """Each file that is made, with its text."""
     programs = all_programs()
-    files = {}
+    files = {SHOWN: shown_version()}
     for program in programs:
         others = [it.name for it in programs if it is not program]
         files[f"docs/man/{program.name}.1"] = man_page(program, others)
@@ -386,11 +404,11 @@ def made():
 def main():
     files = made()
     if sys.argv[1:] == ["--check"]:
-        there = {it for it in glob.glob("docs/man/*", root_dir=TOP) + glob.glob("docs/completions/*", root_dir=TOP)}
+        there = {SHOWN, *glob.glob("docs/man/*", root_dir=TOP), *glob.glob("docs/completions/*", root_dir=TOP)}
         wrong = sorted(there ^ set(files)) + [it for it in sorted(there & set(files)) if read(it) != files[it]]
         if wrong:
             sys.exit("not what bench/man.py makes: " + ", ".join(wrong))
-        print(f"{len(files)} man pages and completions are what bench/man.py makes")
+        print(f"{len(files) - 1} man pages and completions, and the version, are what bench/man.py makes")
         return
     for path, text in files.items():
         os.makedirs(os.path.dirname(f"{TOP}/{path}"), exist_ok=True)

@@ -21,11 +21,12 @@ import tempfile
 from install import make_top, names, read, write
 
 TOP = os.path.dirname(os.path.dirname(os.path.abspath(__file__)))
+VERSION = read(f"{TOP}/VERSION").strip()
 
 # Of each program two calls, in a folder with the file some/one of three bytes, and what they print, or how that begins.
 CALLS = {
-    "seek": [("--version", "seek "), ("one some", "some/one\n")],
-    "tally": [("--version", "tally "), ("--plain -ab --apparent some", "3\tsome/one\n")],
+    "seek": [("--version", f"seek {VERSION} ("), ("one some", "some/one\n")],
+    "tally": [("--version", f"tally {VERSION} ("), ("--plain -ab --apparent some", "3\tsome/one\n")],
     "walk": [("--tree /", "0 d /\n"), ("--sort some", "0 d some\n1 f some/one\n")],
 }
 
@@ -77,8 +78,7 @@ def make_packages(top, room, has_deb):
         check(f"it ends with 0 ({ran.stderr.strip()})", ran.returncode == 0)
         made.append({os.path.basename(path): path for path in ran.stdout.split()})
         check("it names what it made", sorted(made[-1]) == sorted(os.listdir(to)))
-    version = read(f"{TOP}/VERSION").strip()
-    wanted = [f"jwalk-{version}-linux-x86_64.tar.gz"] + [f"jwalk_{version}_amd64.deb"] * has_deb
+    wanted = [f"jwalk-{VERSION}-linux-x86_64.tar.gz"] + [f"jwalk_{VERSION}_amd64.deb"] * has_deb
     check(f"it makes {', '.join(wanted)}", sorted(made[0]) == sorted(wanted))
     for name in wanted:
         check(f"{name} has the same bytes again", bytes_of(made[0][name]) == bytes_of(made[1][name]))

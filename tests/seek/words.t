@@ -87,6 +87,6 @@ $ seek -h a
 
 # version
 $ seek --version
-  seek 1.0
+~ (rattle-kit-
 $ seek -V
-  seek 1.0
+~ seek\x20

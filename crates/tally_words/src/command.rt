@@ -6,6 +6,7 @@ ghost use Rattle.tally_words.specs.Command.{named_app, shown_rules, form_rules, 
 
 use clap::{Arg, ArgAction, Command};
 use program_parts::options::{flag, listed, long_flag, number, root_option, threads_option};
+use program_parts::version::VERSION;
 use std::alloc::{AllocError, Global};
 
 fn shown_options<'a>(alloc: Global) -> Result<Vec<Arg<'a>>, AllocError>
@@ -151,7 +152,7 @@ fn named<'a>(alloc: Global) -> Result<Command<'a>, AllocError>
     ensures { IfOk result (λ all. app_of all ≡ with_rules named_app (root_rule ∷ [])) }
 {
     Command::new(alloc, "tally")
-        .version("1.0")
+        .version(VERSION)
         .about("Prints how much is below each directory")
         .disable_help_flag(true)
         .arg(root_option(alloc, "What to count [default: the folder that it runs in]"))
