@@ -1,8 +1,6 @@
-//! Walks over a disk that changes under way, that keeps metadata, or whose answers are in a table.
-mod folder;
+//! Walks over a disk that keeps metadata, or whose answers are in a table.
 mod listings;
 mod metadata;
-mod removed;
 mod told;
 
 use jwalk::file_system::FileSystem;

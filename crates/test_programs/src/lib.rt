@@ -1,13 +1,15 @@
-//! What rows of text files can't say of the programs `walk` and `tally`, and of walks over a disk.
+//! What rows of text files can't say of the programs `walk`, `seek` and `tally`, and walks over the disk.
 #![tactic(auto)]
 
 #[cfg(test)]
 mod disk;
 #[cfg(test)]
-mod output;
+mod parts;
+#[cfg(test)]
+mod programs;
+#[cfg(test)]
+mod seek;
 #[cfg(test)]
 mod tally;
-#[cfg(test)]
-mod tree_disk;
 #[cfg(test)]
 mod walk;

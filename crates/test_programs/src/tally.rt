@@ -1,6 +1,4 @@
-//! Calls of the program `tally`, and subtotals where memory is refused.
-mod calls;
-mod clock;
+//! Calls of `tally` that no rows over a disk can tell, and subtotals where memory is refused.
 mod disk;
 mod refused;
 mod rows;

@@ -1,5 +1,11 @@
-//! Calls of the program `walk`.
-mod calls;
+//! Calls of `walk` that no rows over a disk or over a tree in memory can tell.
 mod failing;
-mod input;
 mod long;
+
+use crate::programs::rows::Program;
+use crate::programs::run::Way;
+
+const WALK: Way = Way {
+    program: Program::Walk,
+    front: &[],
+};

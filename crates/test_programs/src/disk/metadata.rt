@@ -1,7 +1,7 @@
 //! The metadata that entries of the disk keep, beside what the standard library reads.
-use crate::disk::folder::{Made, make, path_in};
 use crate::disk::found;
-use jwalk::file_system::{FileType, Metadata, Moment, RealFs};
+use jwalk::file_system::{FileSystem, FileType, Metadata, Moment, RealFs};
+use std::alloc::{AllocError, Global};
 use std::fs::{File, FileTimes};
 use std::io::ErrorKind;
 use std::os::unix::fs::MetadataExt;
@@ -9,17 +9,18 @@ use std::test::Fail;
 use std::time::{Duration, SystemTime, UNIX_EPOCH};
 use std::{fs, io};
 use test_fixtures::answers::Answer;
+use test_fixtures::folder::{Step, make, path_in, remove};
 use test_fixtures::ways::Setting;
 
 /// A directory, a file, a file that will have two names, a link, a file that will have a hole, and one with set times.
-const KINDS: &[(&str, Made)] = &[
-    ("/d", Made::Dir),
-    ("/f", Made::File(5_000)),
-    ("/h1", Made::File(3)),
-    ("/l", Made::Link("f")),
-    ("/s", Made::File(0)),
-    ("/t", Made::File(0)),
-    ("/t", Made::Mode(0o640)),
+const KINDS: &[Step] = &[
+    Step::Dir("/d"),
+    Step::Zeros(5_000, "/f"),
+    Step::Zeros(3, "/h1"),
+    Step::Link("f", "/l"),
+    Step::Zeros(0, "/s"),
+    Step::Zeros(0, "/t"),
+    Step::Mode(0o640, "/t"),
 ];
 
 /// The folder and everything in it, by name.
@@ -33,20 +34,35 @@ fn since_1970(seconds: u64, nanoseconds: u64) -> io::Result<SystemTime> {
     }
 }
 
-fn make_kinds(rt: &HostRuntime) -> io::Result<String> {
-    let folder = make(rt, "metadata", KINDS)?;
-    let at = folder.as_str();
-    let second = path_in(rt, at, "/h2")?;
-    fs::hard_link(rt, path_in(rt, at, "/h1")?.as_str(), second.as_str())?;
+fn open(rt: &HostRuntime, path: &str) -> io::Result<File> {
     let mut writable = File::options();
     writable.write(true);
-    let sparse = writable.open(rt, path_in(rt, at, "/s")?.as_str())?;
-    sparse.set_len(1 << 20)?;
+    writable.open(rt, path)
+}
+
+fn add_name(rt: &HostRuntime, folder: &str) -> io::Result<()> {
+    let second = path_in(rt, folder, "/h2")?;
+    fs::hard_link(rt, path_in(rt, folder, "/h1")?.as_str(), second.as_str())
+}
+
+fn add_hole(rt: &HostRuntime, folder: &str) -> io::Result<()> {
+    let sparse = open(rt, path_in(rt, folder, "/s")?.as_str())?;
+    sparse.set_len(1 << 20)
+}
+
+fn set_times(rt: &HostRuntime, folder: &str) -> io::Result<()> {
     let times = FileTimes::new()
         .set_modified(since_1970(1_000_000_000, 123_456_789)?)
         .set_accessed(since_1970(1_100_000_000, 5)?);
-    let set = writable.open(rt, path_in(rt, at, "/t")?.as_str())?;
-    set.set_times(times)?;
+    let set = open(rt, path_in(rt, folder, "/t")?.as_str())?;
+    set.set_times(times)
+}
+
+fn make_kinds(rt: &HostRuntime) -> io::Result<String> {
+    let folder = make(rt, "metadata", KINDS)?;
+    add_name(rt, folder.as_str())?;
+    add_hole(rt, folder.as_str())?;
+    set_times(rt, folder.as_str())?;
     Ok(folder)
 }
 
@@ -101,6 +117,29 @@ fn is_same(seen: &Metadata, by_std: &fs::Metadata) -> bool {
         && is_created(details.created, by_std)
 }
 
+fn are_same(kept: &[Answer], by_std: &[fs::Metadata]) -> bool {
+    for (number, by_std) in by_std.iter().enumerate() {
+        let is_kept = match seen_at(kept, number) {
+            Some(seen) => is_same(seen, by_std),
+            None => false,
+        };
+        if !is_kept {
+            return false;
+        }
+    }
+    kept.len() == by_std.len()
+}
+
+fn are_bare(answers: &[Answer]) -> bool {
+    for answer in answers {
+        match answer {
+            Ok(entry) if entry.metadata_seen().is_none() => {}
+            _ => return false,
+        }
+    }
+    true
+}
+
 /// Returns whether the third file is another than the fourth and fifth, which are one with two names, the seventh has
 /// next to no blocks, and the eighth has the times and the mode that were set.
 fn are_as_made(found: &[Answer]) -> Option<bool> {
@@ -117,34 +156,31 @@ fn are_as_made(found: &[Answer]) -> Option<bool> {
     Some(is_one && is_another && sparse.blocks < (1 << 20) / 512 && is_set)
 }
 
-/// The standard library reads the metadata of everything in the folder right before the walks do. The second walk keeps
-/// none.
+/// Returns whether walks of the folder by name keep of each entry what the standard library reads, if it is asked for,
+/// and else nothing.
+fn are_kept<S: FileSystem>(
+    alloc: Global,
+    disk: &S,
+    folder: &str,
+    by_std: &[fs::Metadata],
+) -> Result<bool, AllocError> {
+    let kept = found(alloc, disk, folder, &[Setting::Sort], true)?;
+    let bare = found(alloc, disk, folder, &[Setting::Sort], false)?;
+    Ok(
+        are_same(kept.as_slice(), by_std)
+            && are_as_made(kept.as_slice()) == Some(true)
+            && bare.len() == by_std.len()
+            && are_bare(bare.as_slice()),
+    )
+}
+
+/// The standard library reads the metadata of everything in the folder right before the walks do.
 fn is_kept_if_asked(rt: &HostRuntime, folder: &str) -> io::Result<bool> {
     let mut by_std = Vec::new(rt.alloc());
     for name in NAMES {
         by_std.push(fs::symlink_metadata(rt, path_in(rt, folder, *name)?.as_str())?)?;
     }
-    let kept = found(rt.alloc(), RealFs::new(*rt), folder, &[Setting::Sort], true)?;
-    let bare = found(
-        rt.alloc(),
-        RealFs::new(*rt),
-        folder,
-        &[Setting::Sort],
-        false,
-    )?;
-    for (number, by_std) in by_std.iter().enumerate() {
-        let is_kept = match seen_at(kept.as_slice(), number) {
-            Some(seen) => is_same(seen, by_std),
-            None => false,
-        };
-        let is_bare =
-            matches!(bare.get(number), Some(Ok(entry)) if entry.metadata_seen().is_none());
-        if !is_kept || !is_bare {
-            return Ok(false);
-        }
-    }
-    let are_all = kept.len() == NAMES.len() && bare.len() == NAMES.len();
-    Ok(are_all && are_as_made(kept.as_slice()) == Some(true))
+    Ok(are_kept(rt.alloc(), &RealFs::new(*rt), folder, by_std.as_slice())?)
 }
 
 #[test]
@@ -153,7 +189,7 @@ fn metadata_is_kept_if_asked_and_is_what_the_standard_library_reads(
 ) -> Result<(), Fail> {
     let folder = make_kinds(&rt)?;
     let is_kept = is_kept_if_asked(&rt, folder.as_str());
-    fs::remove_dir_all(&rt, folder.as_str())?;
+    remove(&rt, folder.as_str())?;
     assert!(rt; is_kept?);
     Ok(())
 }

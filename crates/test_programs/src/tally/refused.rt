@@ -1,6 +1,7 @@
 //! Subtotals where each request for memory is refused, or all from each on.
-use crate::tally::disk::{KNOWN, TREE};
-use crate::tree_disk::Disk;
+use crate::programs::counts::Counts;
+use crate::programs::disk::{Disk, Failing};
+use crate::tally::disk::{TOLD, TREE};
 use jwalk::file_system::FileSystem;
 use jwalk::read_dir::NoProcess;
 use jwalk::{DirEntryIter, WalkDirGeneric};
@@ -8,11 +9,9 @@ use jwalk_subtotals::iter::Subtotals;
 use jwalk_subtotals::{SubtotalError, SubtotalOptions, subtotals};
 use std::alloc::{AllocError, Allocator, Global};
 use std::sync::Arc;
-use std::sync::atomic::AtomicUsize;
 use test_fixtures::refused::outcome::Outcome;
 use test_fixtures::refused::turns::{MOST, Repeated, first_wrong};
 use test_fixtures::refusing_alloc::Refusing;
-use test_fixtures::watched::Failing;
 use test_fixtures::width::Width;
 use walk_text::failure::Failure;
 
@@ -98,10 +97,8 @@ impl Repeated for Play {
 }
 
 fn disk(alloc: Global) -> Result<Disk, Failure> {
-    let failures = Arc::new(alloc, AtomicUsize::new(0)).map_err(AllocError::from)?;
-    let mut disk = Disk::new(alloc, TREE, Failing::Never, failures)?;
-    disk.known = KNOWN;
-    Ok(disk)
+    let counts = Arc::new(alloc, Counts::new()).map_err(AllocError::from)?;
+    Disk::new(alloc, TREE, &[], TOLD, Failing::Never, &counts)
 }
 
 #[test]

@@ -1,15 +1,23 @@
 //! Calls over metadata that isn't known, or that a disk doesn't keep.
-use crate::seek::disk::{Failing, Question, Told};
+use crate::programs::counts::Question;
+use crate::programs::disk::Failing;
+use crate::programs::rows::{Asks, FILE, Out, ROW, Row, SCENE, Scene, Screen};
+use crate::programs::told::{DETAILS, Told};
 use crate::seek::failing::DENIED;
-use crate::seek::rows::{Out, ROW, Row, SCENE, Scene};
-use jwalk::file_system::FileType;
+use jwalk::file_system::{Details, FileType};
 use std::io::ErrorKind;
 
+/// Details with a mode that doesn't say what the file is.
+const UNTYPED: Details = Details {
+    mode: 0o644,
+    ..DETAILS
+};
+
 /// Metadata that isn't known, or that a disk doesn't keep.
-pub(super) const SEEN: &[Scene] = &[
+pub(super) const SEEN: &[Scene<'_>] = &[
     Scene {
         tree: "d /t\nf 1 /t/a\nd /t/d\nl a\t/t/l\nf 1 /t/o\n",
-        seen: &[("/t/o", Told::Length(FileType::Other, 17))],
+        told: &[("/t/o", Told::Length(FileType::Other, 17))],
         rows: &[
             // Details that aren't known.
             Row {
@@ -61,7 +69,7 @@ pub(super) const SEEN: &[Scene] = &[
     },
     Scene {
         tree: "d /t\nf 1 /t/a\nf 1 /t/b\nf 0 /t/o\n",
-        seen: &[
+        told: &[
             ("/t/a", Told::Type(FileType::File)),
             ("/t/b", Told::Unknown(ErrorKind::PermissionDenied)),
             ("/t/o", Told::Type(FileType::Other)),
@@ -95,7 +103,7 @@ pub(super) const SEEN: &[Scene] = &[
     },
     Scene {
         tree: "d /t\nf 1 /t/.h\nf 1 /t/a\nf 1 /t/b\nl a\t/t/l\n",
-        seen: &[
+        told: &[
             ("/t/.h", Told::Unknown(ErrorKind::PermissionDenied)),
             ("/t/b", Told::Unknown(ErrorKind::PermissionDenied)),
         ],
@@ -141,38 +149,13 @@ pub(super) const SEEN: &[Scene] = &[
     },
     Scene {
         tree: "d /t\nf 1 /t/a\nf 1 /t/b\nf 1 /t/c\nf 1 /t/d\nf 1 /t/e\nf 1 /t/f\n",
-        seen: &[
-            (
-                "/t/a",
-                Told::Whole(FileType::File, 1, 0o100_644, 1, (0, 0), -2_203_845_904),
-            ),
-            (
-                "/t/b",
-                Told::Whole(FileType::File, 1, 0o100_644, 1, (0, 0), -62_135_596_801),
-            ),
-            (
-                "/t/c",
-                Told::Whole(FileType::File, 1, 0o100_644, 1, (0, 0), -62_167_219_200),
-            ),
-            (
-                "/t/d",
-                Told::Whole(FileType::File, 1, 0o100_644, 1, (0, 0), 253_402_300_799),
-            ),
-            (
-                "/t/e",
-                Told::Whole(FileType::File, 1, 0o100_644, 1, (0, 0), 253_402_300_800),
-            ),
-            (
-                "/t/f",
-                Told::Whole(
-                    FileType::File,
-                    1,
-                    0o100_644,
-                    1,
-                    (0, 0),
-                    9_223_372_036_854_775_807,
-                ),
-            ),
+        told: &[
+            ("/t/a", Told::Modified(-2_203_845_904)),
+            ("/t/b", Told::Modified(-62_135_596_801)),
+            ("/t/c", Told::Modified(-62_167_219_200)),
+            ("/t/d", Told::Modified(253_402_300_799)),
+            ("/t/e", Told::Modified(253_402_300_800)),
+            ("/t/f", Told::Modified(9_223_372_036_854_775_807)),
         ],
         rows: &[
             // Times that a disk doesn't keep.
@@ -225,21 +208,20 @@ pub(super) const SEEN: &[Scene] = &[
         ..SCENE
     },
     Scene {
-        tree: "d /t\nf 1 /t/a\nf 1 /t/b\nf 1 /t/c\n",
-        seen: &[
+        tree: "d /t\nf 12345678901 /t/a\nf 0 /t/b\nf 1 /t/c\n",
+        told: &[
             (
                 "/t/a",
-                Told::Whole(
-                    FileType::File,
-                    12_345_678_901,
-                    0o100_644,
-                    1234,
-                    (165_536, 4_294_967_295),
-                    0,
-                ),
+                Told::Details(Details {
+                    mode: 0o100_644,
+                    links: 1234,
+                    uid: 165_536,
+                    gid: 4_294_967_295,
+                    ..DETAILS
+                }),
             ),
-            ("/t/b", Told::Whole(FileType::File, 0, 0o644, 1, (0, 0), 0)),
-            ("/t/c", Told::Whole(FileType::Other, 0, 0o644, 1, (0, 0), 0)),
+            ("/t/b", Told::Details(UNTYPED)),
+            ("/t/c", Told::Whole(FileType::Other, 0, UNTYPED)),
         ],
         rows: &[
             // Numbers and modes of no file on a disk.
@@ -276,7 +258,10 @@ pub(super) const SEEN: &[Scene] = &[
             },
             Row {
                 call: "--color=always . /t",
-                colors: "no=34:fi=35",
+                screen: Screen {
+                    colors: "no=34:fi=35",
+                    ..FILE
+                },
                 out: Out::Text(
                     "\x1b[01;34m/t/\x1b[0m\x1b[35ma\x1b[0m\n\
                                 \x1b[01;34m/t/\x1b[0m\x1b[35mb\x1b[0m\n\
@@ -289,14 +274,17 @@ pub(super) const SEEN: &[Scene] = &[
     },
     Scene {
         tree: "d /t\nl a\t/t/l\n",
-        seen: &[("/t/l", Told::Type(FileType::Other))],
+        told: &[("/t/l", Told::Type(FileType::Other))],
         rows: &[
             // What is no link to the list is not asked where it leads.
             Row {
                 call: "--color=always l /t",
-                colors: "or=31:ln=32",
+                screen: Screen {
+                    colors: "or=31:ln=32",
+                    ..FILE
+                },
                 out: Out::Text("\x1b[01;34m/t/\x1b[0ml\n"),
-                asked: Some([1, 1, 0, 4]),
+                asks: Asks::These([1, 1, 0, 4]),
                 ..ROW
             },
         ],

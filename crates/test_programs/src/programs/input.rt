@@ -7,10 +7,10 @@ const PIECE: usize = 1000;
 
 /// A text that is read in pieces, followed by its end or an error.
 #[derive(Clone, Copy)]
-pub(super) struct Input<'t> {
-    pub(super) left: &'t [u8],
+pub(crate) struct Input<'t> {
+    pub(crate) left: &'t [u8],
     /// The error that follows the text.
-    pub(super) error: Option<ErrorKind>,
+    pub(crate) error: Option<ErrorKind>,
 }
 
 impl<'t> Read for Input<'t> {

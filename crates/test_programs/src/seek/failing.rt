@@ -1,17 +1,18 @@
 //! Calls over a disk that fails.
-use crate::seek::disk::{Failing, Failure, Question};
-use crate::seek::rows::{Out, ROW, Row, SCENE, Scene};
+use crate::programs::counts::Question;
+use crate::programs::disk::{Failed, Failing};
+use crate::programs::rows::{FILE, Out, ROW, Row, SCENE, Scene, Screen};
 use std::io::ErrorKind;
 
-pub(super) const DENIED: Failure = Failure::Io(ErrorKind::PermissionDenied);
+pub(super) const DENIED: Failed = Failed::Io(ErrorKind::PermissionDenied);
 
-pub(super) const GONE: Failure = Failure::Io(ErrorKind::NotFound);
+pub(super) const GONE: Failed = Failed::Io(ErrorKind::NotFound);
 
 /// Questions that fail.
-pub(super) const FAILING: &[Scene] = &[PLAIN, REPOSITORY];
+pub(super) const FAILING: &[Scene<'_>] = &[PLAIN, REPOSITORY];
 
 /// A repository.
-const REPOSITORY: Scene = Scene {
+const REPOSITORY: Scene<'_> = Scene {
     tree: "d /t\nd /t/.git\nf 1 /t/a\n",
     rows: &[
         // A user's files that fail.
@@ -36,7 +37,7 @@ const REPOSITORY: Scene = Scene {
 };
 
 /// A tree that is no repository.
-const PLAIN: Scene = Scene {
+const PLAIN: Scene<'_> = Scene {
     tree: "d /t\nf 1 /t/.ignore\nf 1 /t/a\nd /t/d\nf 1 /t/d/x\nf 1 /t/z\nl a\t/t/l\n",
     rules: &[("/t/.ignore", "z\n")],
     rows: &[
@@ -65,7 +66,7 @@ const PLAIN: Scene = Scene {
         },
         Row {
             call: ". /t /t/d",
-            failing: Failing::At(Question::List, Failure::Memory, "/t/d"),
+            failing: Failing::At(Question::List, Failed::Memory, "/t/d"),
             out: Out::Text("/t/a\n"),
             err: "seek: memory refused for the walk\n\
                       seek: memory refused for the walk\n",
@@ -89,14 +90,17 @@ const PLAIN: Scene = Scene {
         },
         Row {
             call: "--color=always ^l /t",
-            colors: "or=31",
+            screen: Screen {
+                colors: "or=31",
+                ..FILE
+            },
             failing: Failing::At(Question::Follow, DENIED, "/t/l"),
             out: Out::Text("\x1b[01;34m/t/\x1b[0m\x1b[31ml\x1b[0m\n"),
             ..ROW
         },
         Row {
             call: "--color=always ^l /t",
-            failing: Failing::At(Question::Follow, Failure::Memory, "/t/l"),
+            failing: Failing::At(Question::Follow, Failed::Memory, "/t/l"),
             err: "seek: memory refused\n",
             status: 1,
             ..ROW
@@ -111,7 +115,7 @@ const PLAIN: Scene = Scene {
         },
         Row {
             call: "--newer-than-file=/t/a . /t",
-            failing: Failing::At(Question::Look, Failure::Memory, "/t/a"),
+            failing: Failing::At(Question::Look, Failed::Memory, "/t/a"),
             err: "seek: memory refused\n",
             status: 1,
             ..ROW
@@ -171,7 +175,7 @@ const PLAIN: Scene = Scene {
         },
         Row {
             call: "--base-directory=/t a",
-            failing: Failing::At(Question::Follow, Failure::Memory, "/t/"),
+            failing: Failing::At(Question::Follow, Failed::Memory, "/t/"),
             err: "seek: memory refused\n",
             status: 1,
             ..ROW
@@ -181,7 +185,7 @@ const PLAIN: Scene = Scene {
 };
 
 /// Calls that ask questions of each sort.
-pub(super) const ASKING: &[Scene] = &[Scene {
+pub(super) const ASKING: &[Scene<'_>] = &[Scene {
     tree: "d /t\n\
                d /t/.git\n\
                f 1 /t/.gitignore\n\
@@ -222,7 +226,7 @@ pub(super) const ASKING: &[Scene] = &[Scene {
 }];
 
 /// Calls of which a failed question may change the outcome unsaid.
-pub(super) const UNSAID: &[Scene] = &[Scene {
+pub(super) const UNSAID: &[Scene<'_>] = &[Scene {
     tree: "d /t\nd /t/d\nf 1 /t/d/x.c\nf 0 /t/d/e\nl d\t/t/m\n",
     rules: &[("/named", "m\n")],
     rows: &[
