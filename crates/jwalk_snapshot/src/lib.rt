@@ -33,9 +33,9 @@
 //! # What is proved
 //!
 //! [`to_text`](Snapshot::to_text) returns just this text, or fails as it says. What [`read`](Snapshot::read) returns has
-//! the text that was read, so whatever else the bytes are, they are refused; and each text is read
-//! . That a changed text has another sum is a matter of SHA-256. Nothing is proved
-//! of [`replace`](file::replace), which works on the disk: it is tested.
+//! the text that was read, and each such text is read, unless memory runs out: so bytes that are no such text are
+//! refused. That changed bytes have another sum is a matter of SHA-256. Nothing is proved of
+//! [`replace`](file::replace), which works on the disk.
 #![tactic(auto)]
 
 pub mod block;
