@@ -1,9 +1,9 @@
 -- Reading values one after the other, as a loop does.
 use Rattle.std.proofs.Common.{◌≡◌, ℕ, zero, suc, ◌-◌, ◌+◌, ◌^◌, ◌≤◌, ◌<◌, cond, ltb, List, [], ◌∷◌, ◌++◌, length, map, get_or, drop, Option, Some, None, refl, sym, ap, subst, ◌∙◌, append_assoc, arith}
-use Rattle.std.specs.List.{sum_by}
+use Rattle.std.specs.List.{sum_by, flat_map, AllByRecursion}
 use Rattle.std.proofs.lemmas.Bool.{lt-ltb, le-ltb}
 use Rattle.std.proofs.lemmas.List.Sums.{sum_by-cons, sum_by-drop_more}
-use Rattle.std.proofs.lemmas.List.{append-nil, length-map, drop_all}
+use Rattle.std.proofs.lemmas.List.{append-nil, length-map, drop_all, drop_more}
 use Rattle.jwalk_snapshot.specs.declared.block.Block.{Block}
 use Rattle.jwalk_snapshot.specs.declared.error.SnapshotError.{SnapshotError}
 use Rattle.jwalk_snapshot.specs.declared.error.SnapshotError.TheVariants.{Memory, NoSnapshot, OtherVersion, Damaged, NoText}
@@ -83,3 +83,32 @@ pub count_done : (bs : List Block) (i n : ℕ) → length bs ≤ i → n + sum_b
 count_done bs i n le h =
     let none : sum_by names_in (drop i bs) ≡ 0 = ap (sum_by names_in) (drop_all i bs le) in
     omega (arith, none, h)
+
+-- ---- writing one value after the other, as a loop does
+
+module _ {X A : Type 0} (f : X → A) (text : A → List ℕ) where
+  pub text_more : (xs : List X) (i : ℕ) (x : X) (before after all : List ℕ) → i < length xs → x ≡ get_or xs i x → after ≡ before ++ text (f x) → before ++ flat_map text (map f (drop i xs)) ≡ all → after ++ flat_map text (map f (drop (i + 1) xs)) ≡ all
+  text_more xs i x before after all lt is h so_far =
+      let rest = flat_map text (map f (drop (i + 1) xs)) in
+      let e : flat_map text (map f (drop i xs)) ≡ text (f x) ++ rest = ap (λ (l : List X). flat_map text (map f l)) (drop_more xs i x lt) ∙ ap (λ (y : X). text (f y) ++ rest) (sym is) in
+      ap (λ (t : List ℕ). t ++ rest) h ∙ append_assoc before (text (f x)) rest ∙ ap (λ (t : List ℕ). before ++ t) (sym e) ∙ so_far
+
+  pub text_at : (xs : List X) (i : ℕ) (d : X) (before after all : List ℕ) → i < length xs → after ≡ before ++ text (f (get_or xs i d)) → before ++ flat_map text (map f (drop i xs)) ≡ all → after ++ flat_map text (map f (drop (i + 1) xs)) ≡ all
+  text_at xs i d before after all lt h so_far =
+      let rest = flat_map text (map f (drop (i + 1) xs)) in
+      let e : flat_map text (map f (drop i xs)) ≡ text (f (get_or xs i d)) ++ rest = ap (λ (l : List X). flat_map text (map f l)) (drop_more xs i d lt) in
+      ap (λ (t : List ℕ). t ++ rest) h ∙ append_assoc before (text (f (get_or xs i d))) rest ∙ ap (λ (t : List ℕ). before ++ t) (sym e) ∙ so_far
+
+  pub text_done : (xs : List X) (i : ℕ) (before all : List ℕ) → length xs ≤ i → before ++ flat_map text (map f (drop i xs)) ≡ all → before ≡ all
+  text_done xs i before all le so_far = sym (append-nil before) ∙ ap (λ (l : List X). before ++ flat_map text (map f l)) (sym (drop_all i xs le)) ∙ so_far
+
+module _ {X A : Type 0} (f : X → A) (P : A → Type 0) where
+  pub fits_more : (xs : List X) (i : ℕ) (x : X) → i < length xs → x ≡ get_or xs i x → P (f x) → AllByRecursion P (map f (drop (i + 1) xs)) → AllByRecursion P (map f (drop i xs))
+  fits_more xs i x lt is p rest =
+      subst (λ (l : List X). AllByRecursion P (map f l)) (sym (drop_more xs i x lt)) (subst (λ (y : X). P (f y)) is p, rest)
+
+  pub fits_at : (xs : List X) (i : ℕ) (d : X) → i < length xs → P (f (get_or xs i d)) → AllByRecursion P (map f (drop (i + 1) xs)) → AllByRecursion P (map f (drop i xs))
+  fits_at xs i d lt p rest = subst (λ (l : List X). AllByRecursion P (map f l)) (sym (drop_more xs i d lt)) (p, rest)
+
+  pub fits_all : (xs : List X) (i : ℕ) → length xs ≤ i → AllByRecursion P (map f (drop i xs))
+  fits_all xs i le = subst (λ (l : List X). AllByRecursion P (map f l)) (sym (drop_all i xs le)) tt

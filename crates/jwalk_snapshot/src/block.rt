@@ -1,8 +1,8 @@
 //! A directory.
 ghost use Rattle.std.specs.Prelude.{◌≡◌, ◌++◌, map, flat_map, option_map, string_bytes, OnOk};
-ghost use Rattle.std.specs.List.{list_all};
+ghost use Rattle.std.specs.List.{list_all, AllByRecursion};
 ghost use Rattle.jwalk_snapshot.specs.Reading.{entry_at, folder_at, list_at, listing_at, listing_of, stamp_at, Gives};
-ghost use Rattle.jwalk_snapshot.specs.Text.{entry_of, entry_text, folder_of, folder_text, is_ascending, is_entry, is_folder, listing_text, may_follow, stamp_text, text_in};
+ghost use Rattle.jwalk_snapshot.specs.Text.{entry_of, entry_text, folder_of, folder_text, is_ascending, is_entry, is_folder, listing_text, may_follow, stamp_text, text_in, EntryFits, FolderFits, ListingFits, StampFits};
 
 use crate::error::SnapshotError;
 use crate::name::{Name, is_name, name_at, push_name};
@@ -43,7 +43,8 @@ pub struct Block<'a> {
 }
 
 fn push_stamp(out: &mut String, stamp: &Stamp) -> Result<(), AllocError>
-    ensures { OnOk result (string_bytes out.new ≡ string_bytes out.old ++ stamp_text stamp.now) }
+    ensures text { OnOk result (string_bytes out.new ≡ string_bytes out.old ++ stamp_text stamp.now) }
+    ensures fits { OnOk result (StampFits stamp.now) }
 {
     push_number(out, stamp.identity.device)?;
     push_number(out, stamp.identity.inode)?;
@@ -51,7 +52,8 @@ fn push_stamp(out: &mut String, stamp: &Stamp) -> Result<(), AllocError>
 }
 
 fn push_listing(out: &mut String, listing: &Listing) -> Result<(), AllocError>
-    ensures { OnOk result (string_bytes out.new ≡ string_bytes out.old ++ listing_text listing.now) }
+    ensures text { OnOk result (string_bytes out.new ≡ string_bytes out.old ++ listing_text listing.now) }
+    ensures fits { OnOk result (ListingFits listing.now) }
 {
     match listing {
         Listing::Stamped(stamp) => {
@@ -64,7 +66,8 @@ fn push_listing(out: &mut String, listing: &Listing) -> Result<(), AllocError>
 }
 
 fn push_names(out: &mut String, names: &[Name<'_>]) -> Result<(), AllocError>
-    ensures { OnOk result (string_bytes out.new ≡ string_bytes out.old ++ flat_map entry_text (map entry_of names.now)) }
+    ensures text { OnOk result (string_bytes out.new ≡ string_bytes out.old ++ flat_map entry_text (map entry_of names.now)) }
+    ensures fits { OnOk result (AllByRecursion EntryFits (map entry_of names.now)) }
 {
     for name in names {
         push_name(out, name)?;
@@ -74,7 +77,8 @@ fn push_names(out: &mut String, names: &[Name<'_>]) -> Result<(), AllocError>
 
 /// Adds the text of a directory.
 pub fn push_block(out: &mut String, block: &Block<'_>) -> Result<(), AllocError>
-    ensures { OnOk result (string_bytes out.new ≡ string_bytes out.old ++ folder_text (folder_of block.now)) }
+    ensures text { OnOk result (string_bytes out.new ≡ string_bytes out.old ++ folder_text (folder_of block.now)) }
+    ensures fits { OnOk result (FolderFits (folder_of block.now)) }
 {
     push_listing(out, &block.listing)?;
     push_number(out, block.names.len() as u64)?;

@@ -1,5 +1,5 @@
 //! Of which call a snapshot is.
-ghost use Rattle.std.specs.Prelude.{◌≡◌, ◌++◌, map, flat_map, string_bytes, OnOk};
+ghost use Rattle.std.specs.Prelude.{◌≡◌, ◌++◌, map, flat_map, length, string_bytes, OnOk, ◌<◌, ◌^◌};
 ghost use Rattle.std.specs.List.{list_all};
 ghost use Rattle.jwalk_snapshot.specs.Reading.{call_at, field_at, list_at, Gives};
 ghost use Rattle.jwalk_snapshot.specs.Text.{call_of, call_text, ended, is_call, is_text, text_in};
@@ -30,7 +30,8 @@ fn push_words(out: &mut String, words: &[&str]) -> Result<(), AllocError>
 
 /// Adds the text of what a snapshot is of.
 pub fn push_head(out: &mut String, head: &Head<'_>) -> Result<(), AllocError>
-    ensures { OnOk result (string_bytes out.new ≡ string_bytes out.old ++ call_text (call_of head.now)) }
+    ensures text { OnOk result (string_bytes out.new ≡ string_bytes out.old ++ call_text (call_of head.now)) }
+    ensures fits { length (call_of head.now).words < 2 ^ 64 }
 {
     push_number(out, head.words.len() as u64)?;
     push_ended(out, head.root)?;

@@ -2,7 +2,7 @@
 ghost use Rattle.std.specs.Prelude.{◌≡◌, ◌++◌, ◌==◌, not, option_map, string_bytes, OnOk};
 ghost use Rattle.std.specs.List.{list_all};
 ghost use Rattle.jwalk_snapshot.specs.Reading.{any_facts_at, entry_at, facts_at, kind_in, kind_of};
-ghost use Rattle.jwalk_snapshot.specs.Text.{entry_of, entry_text, facts_text, is_entry, letter};
+ghost use Rattle.jwalk_snapshot.specs.Text.{entry_of, entry_text, facts_text, is_entry, letter, EntryFits, FactsFit};
 
 use crate::numbers::{
     ended_at, is_text, moment_at, number_at, push_ended, push_moment, push_number, word_at,
@@ -75,7 +75,8 @@ fn kind_in(word: &str) -> Option<(FileType, bool)>
 }
 
 fn push_facts(out: &mut String, facts: &Facts) -> Result<(), AllocError>
-    ensures { OnOk result (string_bytes out.new ≡ string_bytes out.old ++ facts_text facts.now) }
+    ensures text { OnOk result (string_bytes out.new ≡ string_bytes out.old ++ facts_text facts.now) }
+    ensures fits { OnOk result (FactsFit facts.now) }
 {
     push_number(out, facts.len)?;
     push_moment(out, facts.modified)?;
@@ -111,7 +112,8 @@ fn any_facts_at(has_facts: bool, text: &str) -> Option<(Option<Facts>, &str)>
 
 /// Adds the text of a name.
 pub fn push_name(out: &mut String, name: &Name<'_>) -> Result<(), AllocError>
-    ensures { OnOk result (string_bytes out.new ≡ string_bytes out.old ++ entry_text (entry_of name.now)) }
+    ensures text { OnOk result (string_bytes out.new ≡ string_bytes out.old ++ entry_text (entry_of name.now)) }
+    ensures fits { OnOk result (EntryFits (entry_of name.now)) }
 {
     out.push(letter(name.file_type, name.facts.is_some()))?;
     out.push_str(" ")?;

@@ -2,7 +2,7 @@
 ghost use Rattle.std.specs.Prelude.{◌≡◌, ◌++◌, option_map, string_bytes, OnOk};
 ghost use Rattle.std.specs.Str.{bytes_eq};
 ghost use Rattle.jwalk_snapshot.specs.Reading.{field_at, moment_at, number_at, number_in, signed_at, signed_in};
-ghost use Rattle.jwalk_snapshot.specs.Text.{ended, is_text, moment_text, number_text, signed_text};
+ghost use Rattle.jwalk_snapshot.specs.Text.{ended, is_text, moment_text, number_text, signed_text, MomentFits};
 
 use itoa::{Buffer, Integer};
 use jwalk_model::metadata::Moment;
@@ -26,7 +26,8 @@ fn push_signed(out: &mut String, number: i64) -> Result<(), AllocError>
 
 /// Adds seconds and nanoseconds.
 pub fn push_moment(out: &mut String, moment: Moment) -> Result<(), AllocError>
-    ensures { OnOk result (string_bytes out.new ≡ string_bytes out.old ++ moment_text moment) }
+    ensures text { OnOk result (string_bytes out.new ≡ string_bytes out.old ++ moment_text moment) }
+    ensures fits { MomentFits moment }
 {
     push_signed(out, moment.seconds)?;
     push_number(out, moment.nanoseconds as u64)

@@ -1,10 +1,10 @@
 //! All of a snapshot, written and read.
-ghost use Rattle.std.specs.Prelude.{◌≡◌, ◌++◌, ℕ, List, Some, map, nat_eq, flat_map, option_map, string_bytes, false, IfOk, IfErr, OnOk, IsErrOf, true, ◌⊎◌};
-ghost use Rattle.std.specs.List.{list_all, starts_with};
+ghost use Rattle.std.specs.Prelude.{◌≡◌, ◌++◌, ◌<◌, ◌^◌, ℕ, List, length, Some, map, nat_eq, flat_map, option_map, string_bytes, false, IfOk, IfErr, OnOk, IsErrOf, true, ◌⊎◌};
+ghost use Rattle.std.specs.List.{list_all, starts_with, AllByRecursion};
 ghost use Rattle.std.specs.Io.KnownBytes.{Appends};
 ghost use Rattle.std.specs.Str.{IsUtf8, bytes_eq};
 ghost use Rattle.jwalk_snapshot.specs.Reading.{after_mark, body_at, folder_at, folders_at, list_at, Gives};
-ghost use Rattle.jwalk_snapshot.specs.Text.{body_text, content_of, count_in, folder_of, folder_text, folders_text, is_folder, is_snapshot, mark, sum_text, text_in, text_of, Content, IsSnapshot};
+ghost use Rattle.jwalk_snapshot.specs.Text.{body_text, content_of, count_in, folder_of, folder_text, folders_text, is_folder, is_snapshot, mark, sum_text, text_in, text_of, Content, ContentFits, FolderFits, IsSnapshot};
 
 use crate::block::{Block, block_at, is_block, push_block};
 use crate::error::SnapshotError;
@@ -41,7 +41,8 @@ fn name_count(blocks: &[Block<'_>]) -> Option<u64>
 }
 
 fn push_each(out: &mut String, blocks: &[Block<'_>]) -> Result<(), AllocError>
-    ensures { OnOk result (string_bytes out.new ≡ string_bytes out.old ++ flat_map folder_text (map folder_of blocks.now)) }
+    ensures text { OnOk result (string_bytes out.new ≡ string_bytes out.old ++ flat_map folder_text (map folder_of blocks.now)) }
+    ensures fits { OnOk result (AllByRecursion FolderFits (map folder_of blocks.now)) }
 {
     for block in blocks {
         push_block(out, block)?;
@@ -52,7 +53,9 @@ fn push_each(out: &mut String, blocks: &[Block<'_>]) -> Result<(), AllocError>
 /// Adds the directories, between how many they are and how many names they have.
 fn push_blocks(out: &mut String, blocks: &[Block<'_>], count: u64) -> Result<(), AllocError>
     requires { count_in (map folder_of blocks.now) ≡ Some count }
-    ensures { OnOk result (string_bytes out.new ≡ string_bytes out.old ++ folders_text (map folder_of blocks.now)) }
+    ensures text { OnOk result (string_bytes out.new ≡ string_bytes out.old ++ folders_text (map folder_of blocks.now)) }
+    ensures fits { OnOk result (AllByRecursion FolderFits (map folder_of blocks.now)) }
+    ensures count { length (map folder_of blocks.now) < 2 ^ 64 }
 {
     push_number(out, blocks.len() as u64)?;
     push_each(out, blocks)?;
@@ -198,7 +201,8 @@ impl<'a> Snapshot<'a> {
     /// Returns the text in front of the sum.
     fn body(&self, alloc: Global, count: u64) -> Result<String, AllocError>
         requires { count_in (content_of self.now).folders ≡ Some count }
-        ensures { IfOk result (λ text. string_bytes text ≡ body_text (content_of self.now)) }
+        ensures text { IfOk result (λ text. string_bytes text ≡ body_text (content_of self.now)) }
+        ensures fits { OnOk result (ContentFits (content_of self.now)) }
     {
         let mut out = String::from_str(alloc, MARK)?;
         push_head(&mut out, &self.head)?;
@@ -213,7 +217,7 @@ impl<'a> Snapshot<'a> {
     /// `NoText` if it [has none](Self::has_text), and `Memory` if memory runs out.
     pub fn to_text(&self, alloc: Global) -> Result<String, SnapshotError>
         ensures text { IfOk result (λ text. string_bytes text ≡ text_of (content_of self.now)) }
-        ensures has { OnOk result (is_snapshot (content_of self.now) ≡ true) }
+        ensures is { OnOk result (IsSnapshot (content_of self.now)) }
         ensures refused { IsErrOf result SnapshotError.NoText → is_snapshot (content_of self.now) ≡ false }
         ensures errors { IfErr result (λ e. (e ≡ SnapshotError.Memory) ⊎ (e ≡ SnapshotError.NoText)) }
     {
@@ -224,7 +228,7 @@ impl<'a> Snapshot<'a> {
             return Err(SnapshotError::NoText);
         }
         let mut text = self.body(alloc, count)?;
-        let sum = sum_of(alloc, text.as_bytes())?;
+        let sum = sum_of(alloc, text.as_str().as_bytes())?;
         text.push_str(sum.as_str())?;
         Ok(text)
     }
