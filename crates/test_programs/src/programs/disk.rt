@@ -32,6 +32,7 @@ pub(crate) enum Failing {
 }
 
 /// A tree and files of rules in memory.
+#[derive(Drop)]
 pub(crate) struct Disk {
     tree: MemoryFs,
     texts: MemoryTexts,
@@ -39,19 +40,6 @@ pub(crate) struct Disk {
     told: &'static [(&'static str, Told)],
     failing: Failing,
     counts: Arc<Counts>,
-}
-
-/// A derived one takes the prover fifty times as long.
-impl Drop for Disk {
-    fn drop(self) {
-        let Disk {
-            tree: _,
-            texts: _,
-            told: _,
-            failing: _,
-            counts: _,
-        } = self;
-    }
 }
 
 fn rules_of(alloc: Global, rules: &[(&str, &str)]) -> Result<MemoryTexts, AllocError> {
