@@ -20,8 +20,8 @@ PAGE = "docs/API.md"
 WIDTH = 120
 
 # The crates that users name. A path that begins with none of these is in the first.
-CRATES = ["jwalk", "jwalk_contents_first", "jwalk_sort_by", "jwalk_usage", "jwalk_subtotals", "jwalk_ignore"]
-CRATES += ["jwalk_callbacks", "jwalk_indexed_fs", "tree_walk", "tree_crew"]
+CRATES = ["jwalk", "jwalk_contents_first", "jwalk_sort_by", "jwalk_usage", "jwalk_subtotals", "jwalk_changes"]
+CRATES += ["jwalk_ignore", "jwalk_callbacks", "jwalk_indexed_fs", "tree_walk", "tree_crew"]
 
 # What each section has, in this order: items, and with `::` at the end all of a path that isn't named elsewhere.
 SECTIONS = {
@@ -38,6 +38,7 @@ SECTIONS = {
     "Totals": "jwalk_usage::",
     "Subtotals": "jwalk_subtotals:: jwalk_subtotals::SubtotalOptions jwalk_subtotals::iter:: jwalk_subtotals::WithSubtotal"
     " jwalk_subtotals::Subtotal jwalk_subtotals::SubtotalError jwalk_subtotals::Files",
+    "Changes": "jwalk_changes::",
     "Ignore files": "jwalk_ignore::builder:: jwalk_ignore::states:: jwalk_ignore::ignore_files:: jwalk_ignore::excluding::"
     " jwalk_ignore::texts:: jwalk_ignore::real_texts:: jwalk_ignore::with_excludes:: jwalk_ignore::memory_texts::"
     " jwalk_ignore::rules::Rules jwalk_ignore::",
