@@ -1,4 +1,3 @@
-pub mod DigitFacts
 pub mod GatheredFacts
 pub mod MaskedFacts
 pub mod MatchFacts

@@ -1,7 +1,5 @@
-pub mod Digits
 pub mod Gathered
 pub mod Help
-pub mod Joined
 pub mod Masked
 pub mod Matches
 pub mod Paths

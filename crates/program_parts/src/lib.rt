@@ -1,12 +1,10 @@
-//! What the programs share: words and their refusal, numbers in texts, the text of help, the written form of paths,
-//! masked texts, output that is gathered, and the version.
+//! What the programs share: words and their refusal, the text of help, the written form of paths, masked texts,
+//! output that is gathered, and the version.
 #![tactic(auto)]
 
-pub mod digits;
 pub mod gathered;
 pub mod halt;
 pub mod help;
-pub mod joined;
 pub mod masked;
 pub mod masked_lines;
 pub mod options;

@@ -1,4 +1,3 @@
-mod AccountFacts
 mod GlobFacts
 pub mod EndFacts
 pub mod LimitFacts

@@ -7,4 +7,5 @@ pub mod CaseFacts
 pub mod ExtensionFacts
 pub mod LengthFacts
 pub mod PathFacts
+pub mod SizeFacts
 pub mod TimeFacts

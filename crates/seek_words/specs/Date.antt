@@ -2,7 +2,7 @@
 use Rattle.std.specs.Prelude.{ℕ, ℤ, pos, ◌≤◌, ◌+◌, ◌*◌, ◌+ℤ◌, ◌*ℤ◌, ◌==◌, Bool, ◌&&◌, nat_le, nat_lt, List, [], ◌∷◌, length, Option, None, Some, if◌then◌else◌}
 use Rattle.std.specs.List.{after_first, before_first}
 use Rattle.jiff_core.specs.Calendar.{days_from_civil, days_in_month}
-use Rattle.program_parts.specs.Digits.{digits_number}
+use Rattle.seek_words.specs.Size.{digits_number}
 
 -- the number of a text of digits, up to a greatest number of these
 abbrev pub few_digits : ℕ → List ℕ → Option ℕ

@@ -3,7 +3,7 @@ use Rattle.std.specs.Prelude.{ℕ, zero, suc, ◌+◌, ◌*◌, ◌^◌, ◌==�
 use Rattle.std.specs.Char.{is_ascii_alphabetic, is_ascii_whitespace}
 use Rattle.std.specs.List.{prefix_len}
 use Rattle.std.specs.Option.{option_or}
-use Rattle.program_parts.specs.Digits.{digit_count, in_64_bits, number_of}
+use Rattle.seek_words.specs.Size.{digit_count, in_64_bits, number_of}
 
 -- a number, if it has at most 128 bits
 abbrev pub in_128_bits : ℕ → Option ℕ

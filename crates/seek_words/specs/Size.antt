@@ -1,15 +1,30 @@
 -- Sizes of files.
-use Rattle.std.specs.Prelude.{ℕ, ◌*◌, ◌==◌, Bool, false, ◌&&◌, ◌||◌, nat_le, List, [], ◌∷◌, length, take, drop, map, bytes_eq, codes, Option, None, Some, if◌then◌else◌}
-use Rattle.std.specs.Char.{to_ascii_lowercase}
-use Rattle.std.specs.List.{list_all}
+use Rattle.std.specs.Prelude.{ℕ, ◌+◌, ◌-◌, ◌*◌, ◌^◌, ◌==◌, Bool, false, ◌&&◌, ◌||◌, nat_lt, nat_le, List, [], ◌∷◌, length, take, drop, map, bytes_eq, codes, Option, None, Some, if◌then◌else◌}
+use Rattle.std.specs.Char.{is_ascii_digit, to_ascii_lowercase}
+use Rattle.std.specs.List.{fold, list_all, prefix_len}
 use Rattle.std.specs.Option.{option_map, option_or}
 use Rattle.jwalk_model.specs.FileType.{is_file}
 use Rattle.jwalk_model.specs.Metadata.{len_of}
 use Rattle.jwalk_model.specs.declared.file_type.FileType.{FileType}
 use Rattle.jwalk_model.specs.declared.metadata.Metadata.{Metadata}
-use Rattle.program_parts.specs.Digits.{digit_count, in_64_bits, number_of}
 use Rattle.seek_words.specs.declared.size.Size.{Size}
 use Rattle.seek_words.specs.declared.size.Size.TheVariants.{AtLeast, AtMost, Exactly}
+
+-- the number of digits that a text begins with
+abbrev pub digit_count : List ℕ → ℕ
+digit_count = prefix_len is_ascii_digit
+
+-- a number with one more digit
+abbrev pub with_digit : ℕ → ℕ → ℕ
+with_digit number digit = number * 10 + (digit - 48)
+
+-- the number of some digits
+abbrev pub number_of : List ℕ → ℕ
+number_of = fold with_digit 0
+
+-- a number, if it has at most 64 bits
+abbrev pub in_64_bits : ℕ → Option ℕ
+in_64_bits number = if nat_lt number (2 ^ 64) then Some number else None
 
 -- whether a unit has one of two names, in either case of the ASCII letters
 abbrev pub is_unit : List ℕ → List ℕ → List ℕ → Bool
@@ -47,6 +62,10 @@ in_bytes _ _ = None
 abbrev pub bytes_in : List ℕ → Option ℕ
 bytes_in text =
     if digit_count text == 0 then None else in_bytes (in_64_bits (number_of (take (digit_count text) text))) (bytes_of (drop (digit_count text) text))
+
+-- the number of a text of digits alone
+abbrev pub digits_number : List ℕ → Option ℕ
+digits_number text = if (length text == 0) || nat_lt (digit_count text) (length text) then None else in_64_bits (number_of text)
 
 -- the sizes of a text: at least a number of bytes after a `+`, at most it after a `-`, and else exactly it
 abbrev pub size_in : List ℕ → Option Size

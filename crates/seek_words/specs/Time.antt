@@ -5,7 +5,7 @@ use Rattle.jiff.specs.Words.{Error, parse_datetime, parse_timestamp}
 use Rattle.jiff_fmt.specs.Temporal.{DateParts, TimeParts, parts_nanos}
 use Rattle.seek_words.specs.Date.{date_in}
 use Rattle.seek_words.specs.Length.{length_in}
-use Rattle.program_parts.specs.Digits.{digits_number, in_64_bits}
+use Rattle.seek_words.specs.Size.{digits_number, in_64_bits}
 use Rattle.seek_words.specs.declared.time.Time.{Time}
 use Rattle.seek_words.specs.declared.time.Time.TheVariants.{Ago, At}
 

@@ -245,7 +245,7 @@ fn owner_option<'a>(alloc: Global) -> Arg<'a>
         alloc,
         "owner",
         "USER:GROUP",
-        "The owner and the group, by number or name, with a ! in front for any but that",
+        "The numbers of the owner and the group; !N for any but N",
     )
     .short('o')
 }

@@ -4,8 +4,8 @@ ghost use Rattle.std.specs.List.{after_first, before_first};
 ghost use Rattle.jiff_core.specs.Calendar.{days_from_civil, days_in_month};
 ghost use Rattle.seek_words.specs.Date.{date_in, day_in, day_of, few_digits, is_colon, is_dash, is_space, HasDay, nanoseconds_of, seconds_in, seconds_of};
 
+use crate::size::digits_number;
 use jiff::civil::Date;
-use program_parts::digits::digits_number;
 
 /// Returns `None` if there are more digits, or other bytes.
 fn few_digits(most: usize, text: &str) -> Option<u64>

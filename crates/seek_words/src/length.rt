@@ -2,7 +2,7 @@
 ghost use Rattle.std.specs.Prelude.{◌≡◌, ◌*◌, Some};
 ghost use Rattle.seek_words.specs.Length.{after_length, clock_unit, first_length, from_unit, in_128_bits, is_called, length_in, lengths_in, letter_count, long_unit, number_in, product, short_unit, space_count, together, trimmed, unit_in};
 
-use program_parts::digits::{digit_count, number_of};
+use crate::size::{digit_count, number_of};
 
 fn letter_count(text: &[u8]) -> usize
     ensures { result ≡ letter_count text.now }
@@ -93,7 +93,7 @@ fn unit_in(unit: &[u8]) -> Option<u64>
     short_unit(unit).or(clock_unit(unit)).or(long_unit(unit))
 }
 
-#[tactic(auto, using(program_parts::proofs::DigitFacts::digits_most))]
+#[tactic(auto, using(crate::proofs::SizeFacts::digits_most))]
 fn number_in(text: &[u8]) -> Option<u64>
     ensures { result ≡ number_in text.now }
 {
@@ -104,7 +104,7 @@ fn number_in(text: &[u8]) -> Option<u64>
     number_of(text.split_at(count).0)
 }
 
-#[tactic(auto, using(program_parts::proofs::DigitFacts::digits_most))]
+#[tactic(auto, using(crate::proofs::SizeFacts::digits_most))]
 fn from_unit(text: &[u8]) -> &[u8]
     ensures { result.now ≡ from_unit text.now }
 {

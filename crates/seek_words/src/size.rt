@@ -3,11 +3,10 @@ ghost use Rattle.std.specs.Prelude.{◌≡◌, ◌*◌};
 ghost use Rattle.std.specs.List.{list_all};
 ghost use Rattle.std.specs.Option.{option_copied};
 ghost use Rattle.jwalk_model.specs.Metadata.{len_of};
-ghost use Rattle.seek_words.specs.Size.{bytes_in, bytes_of, bytes_of_ten, bytes_of_two, has_sizes, is_size, is_sized, is_unit};
+ghost use Rattle.seek_words.specs.Size.{bytes_in, bytes_of, bytes_of_ten, bytes_of_two, digit_count, digits_number, has_sizes, in_64_bits, is_size, is_sized, is_unit, number_of, with_digit};
 
 use jwalk_model::file_type::FileType;
 use jwalk_model::metadata::Metadata;
-use program_parts::digits::{digit_count, number_of};
 
 /// Sizes of files that are looked for.
 #[derive(Clone, Copy, Debug, PartialEq, Eq)]
@@ -18,6 +17,36 @@ pub enum Size {
     AtMost(u64),
     /// This many bytes.
     Exactly(u64),
+}
+
+pub(crate) fn digit_count(text: &[u8]) -> usize
+    ensures { result ≡ digit_count text.now }
+{
+    let mut count = 0;
+    while count < text.len() && text[count].is_ascii_digit() {
+        count += 1;
+    }
+    count
+}
+
+/// Returns `None` if the number has more than 64 bits.
+fn with_digit(number: u64, digit: u8) -> Option<u64>
+    ensures { result ≡ in_64_bits (with_digit number digit) }
+{
+    number
+        .checked_mul(10)?
+        .checked_add(u64::from(digit.saturating_sub(b'0')))
+}
+
+/// Returns `None` if the number has more than 64 bits.
+pub(crate) fn number_of(digits: &[u8]) -> Option<u64>
+    ensures { result ≡ in_64_bits (number_of digits.now) }
+{
+    let mut number = 0;
+    for digit in digits {
+        number = with_digit(number, *digit)?;
+    }
+    Some(number)
 }
 
 #[tactic(auto, using(crate::proofs::ExtensionFacts::same_folded))]
@@ -69,7 +98,7 @@ fn bytes_of(unit: &[u8]) -> Option<u64>
 }
 
 /// The unit follows the number.
-#[tactic(auto, using(program_parts::proofs::DigitFacts::digits_most))]
+#[tactic(auto, using(crate::proofs::SizeFacts::digits_most))]
 fn bytes_in(text: &[u8]) -> Option<u64>
     ensures { result ≡ bytes_in text.now }
 {
@@ -79,6 +108,16 @@ fn bytes_in(text: &[u8]) -> Option<u64>
     }
     let (digits, unit) = text.split_at(count);
     number_of(digits)?.checked_mul(bytes_of(unit)?)
+}
+
+/// Returns `None` if the text isn't of digits alone, or if the number has more than 64 bits.
+pub(crate) fn digits_number(text: &[u8]) -> Option<u64>
+    ensures { result ≡ digits_number text.now }
+{
+    if text.is_empty() || digit_count(text) < text.len() {
+        return None;
+    }
+    number_of(text)
 }
 
 impl Size {

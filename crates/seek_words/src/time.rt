@@ -7,9 +7,9 @@ ghost use Rattle.seek_words.specs.Time.{ago_in, ago_of, civil_in, instant_in, se
 
 use crate::date::date_in;
 use crate::length::length_in;
+use crate::size::digits_number;
 use jiff::Timestamp;
 use jiff::civil::DateTime;
-use program_parts::digits::digits_number;
 use std::time::Duration;
 
 /// A time that a call names.

@@ -34,10 +34,9 @@ returns-clause-done g c = λ zero.
     let done = c.search_for.ensures.done zero in
     inr (record {
       asked = _;
-      ask = shown_ask_for _ _ done.0 done.1 c.in-Ok-owner.owner read.0;
+      ask = shown_ask_for _ _ done.0 done.1 read.0;
       sought = _;
-      is_for = shown_for _ done.0 done.1 c.in-Ok-owner.owner _ read.1;
-      owner = c.in-Ok-owner.ensures.owner;
+      is_for = shown_for _ done.0 done.1 _ read.1;
       over = c.in-Ok-Ok.disk;
       is_over = record { of = over.of; from = over.from };
       from = c.in-Ok-Ok.texts;

@@ -1,8 +1,8 @@
 use Rattle.std.proofs.Common.{◌≡◌, ◌∙◌, ap, arith, length, sym, take}
 use Rattle.std.proofs.Math.Seq.{take-length}
-use Rattle.program_parts.specs.Digits.{in_64_bits, number_of}
-use Rattle.program_parts.proofs.DigitFacts.{read_none, read_on}
-use Rattle.program_parts.proofs.digits.number_of.Goals as goal
+use Rattle.seek_words.specs.Size.{in_64_bits, number_of}
+use Rattle.seek_words.proofs.SizeFacts.{read_none, read_on}
+use Rattle.seek_words.proofs.size.number_of.Goals as goal
 
 pub loop-digit-preserved : goal.loop-digit-preserved
 loop-digit-preserved c =

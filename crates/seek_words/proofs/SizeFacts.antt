@@ -7,7 +7,7 @@ use Rattle.std.proofs.Math.ListN.{get_or}
 use Rattle.std.proofs.lemmas.Bool.{le-ltb, ltb-false}
 use Rattle.std.proofs.lemmas.List.Sums.{prefix_len-le-length}
 use Rattle.std.proofs.lemmas.List.{take-append-drop, take_more}
-use Rattle.program_parts.specs.Digits.{digit_count, in_64_bits, number_of, with_digit}
+use Rattle.seek_words.specs.Size.{digit_count, in_64_bits, number_of, with_digit}
 
 fold_more : (number digit : ℕ) (digits : List ℕ) → fold with_digit number (digits ++ digit ∷ []) ≡ with_digit (fold with_digit number digits) digit
 fold_more number digit [] = refl

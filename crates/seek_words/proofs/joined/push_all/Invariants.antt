@@ -1,5 +1,5 @@
 use Rattle.std.proofs.Common.{◌≡◌, ◌++◌, map, string_bytes, take}
-use Rattle.program_parts.proofs.joined.push_all.Given as goal
+use Rattle.seek_words.proofs.joined.push_all.Given as goal
 
 -- the words so far are behind those that were there
 abbrev pub invariant-loop-word : goal.invariant-loop-word

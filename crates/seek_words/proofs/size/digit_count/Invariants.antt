@@ -1,6 +1,6 @@
 use Rattle.std.proofs.Common.{length, ◌-◌, ◌≡◌, ◌+◌, drop}
-use Rattle.program_parts.specs.Digits.{digit_count}
-use Rattle.program_parts.proofs.digits.digit_count.Given as goal
+use Rattle.seek_words.specs.Size.{digit_count}
+use Rattle.seek_words.proofs.size.digit_count.Given as goal
 
 -- the digits so far, and those after them
 abbrev pub invariant-loop-count : goal.invariant-loop-count

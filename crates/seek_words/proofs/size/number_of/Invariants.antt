@@ -1,6 +1,6 @@
 use Rattle.std.proofs.Common.{◌≡◌, Some, take}
-use Rattle.program_parts.specs.Digits.{in_64_bits, number_of}
-use Rattle.program_parts.proofs.digits.number_of.Given as goal
+use Rattle.seek_words.specs.Size.{in_64_bits, number_of}
+use Rattle.seek_words.proofs.size.number_of.Given as goal
 
 -- the number of the digits so far
 abbrev pub invariant-loop-digit : goal.invariant-loop-digit
