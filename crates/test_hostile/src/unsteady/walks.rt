@@ -78,7 +78,7 @@ impl Drawn {
     }
 
     /// Returns whether a walk goes by the rules, by the number of listings that it asked for. Each directory that was
-    /// given must be read once. Some may be unread if memory ran out. A walk from depth 0 yields the root or an error.
+    /// given must be read once. Some may be unread if memory ran out.
     fn lets(
         &self,
         alloc: Global,
@@ -89,7 +89,7 @@ impl Drawn {
         let (lists, given) = (lists.load(Ordering::SeqCst), given.load(Ordering::SeqCst));
         Ok(
             match end_of(alloc, found, self.min_depth, self.max_depth)? {
-                End::Whole => lists == given && (self.min_depth > 0 || !found.is_empty()),
+                End::Whole => lists == given,
                 End::Memory => self.runs_out && lists <= given,
                 End::Wrong => false,
             },
