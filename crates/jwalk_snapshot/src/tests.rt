@@ -1,12 +1,10 @@
 //! Snapshots written and read again, and damage.
 
 use super::*;
-use crate::file::TEMPORARY;
 use jwalk_model::file_type::FileType;
 use jwalk_model::metadata::{Identity, Moment};
 use std::alloc::Global;
 use std::test::Fail;
-use std::{env, fs, process};
 
 /// The text of [`sample`], with the sum that `sha256sum` prints.
 const SAMPLE: &str = "jwalk-snapshot 1 1 .\0/srv\0--exclude-hidden\0\
@@ -244,28 +242,5 @@ fn errors_tell_what_is_wrong(rt: HostRuntime) -> Result<(), Fail> {
         );
         assert_eq!(rt; error.to_string(rt.alloc())?.as_str(), message);
     }
-    Ok(())
-}
-
-#[test]
-fn a_file_is_replaced_whole(rt: HostRuntime) -> Result<(), Fail> {
-    let folder = env::temp_dir(&rt)?;
-    let folder = folder.as_path().as_str();
-    let id = process::id(rt.process());
-    let path = format!(in rt.alloc(); "{folder}/jwalk-snapshot-{id}")?;
-    let taken = format!(in rt.alloc(); "{path}{TEMPORARY}0")?;
-    let beside = format!(in rt.alloc(); "{path}{TEMPORARY}1")?;
-    fs::write(&rt, taken.as_str(), "another's")?;
-    for text in ["first", "second"] {
-        replace(&rt, rt.alloc(), path.as_str(), text.as_bytes())?;
-        assert_eq!(rt; fs::read_to_string(&rt, path.as_str())?.as_str(), text);
-    }
-    assert_eq!(rt;
-        fs::read_to_string(&rt, taken.as_str())?.as_str(),
-        "another's"
-    );
-    assert!(rt; fs::metadata(&rt, beside.as_str()).is_err());
-    fs::remove_file(&rt, path.as_str())?;
-    fs::remove_file(&rt, taken.as_str())?;
     Ok(())
 }
