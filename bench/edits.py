@@ -2,7 +2,8 @@
 """Tries the wrong bodies that the gate doesn't try, those in bench/edits: the prover must refuse each.
 
     python3 bench/edits.py [--check] [CRATE | CRATE/NAME ..]
-    python3 bench/edits.py --since COMMIT
+    python3 bench/edits.py [--kept] --since COMMIT
+    python3 bench/edits.py --kept [CRATE | CRATE/NAME ..]
     python3 bench/edits.py --twins [CRATE | CRATE/NAME ..]
 
 An edit is the file bench/edits/CRATE/NAME.edit. All are tried where none is named, of a crate that is named all of its
@@ -11,6 +12,10 @@ runs on them; the crate's own folder is put back whatever happens, so change not
 check of its crate takes after a change. The lines of `rt` come first, with its reason for each. Then there is a line
 for each edit, which says whether it is refused, NOT REFUSED, a BAD EDIT, which can't be applied or compiled, or NOT
 TRIED. The script ends with 1 if one isn't refused.
+
+With --kept each is tried on a copy of its crate, over what `rt lib` or `rt check` keeps there and in the crates below:
+run `rt check` in the crate first. An edit then takes some 20 seconds and not a whole check. The gate's edits are tried
+too. The gate itself takes nothing from kept work.
 
 With --since it tries those of each crate whose text, or that of a library below it, changed since a commit: the files in
 src/, specs/ and proofs/, the line of crates.txt, and the crate's own edits. What isn't committed yet counts too. Who
@@ -30,6 +35,7 @@ import shutil
 import signal
 import subprocess
 import sys
+import tempfile
 
 TOP = os.path.dirname(os.path.dirname(os.path.abspath(__file__)))
 
@@ -59,13 +65,28 @@ def gate_edits(crate):
     return f"{TOP}/crates/{crate}/must-fail"
 
 
-def asked_for(words, folder_of):
+def own_names(crate):
+    """The names of the edits of a crate that the gate doesn't try."""
+    return edits_in(own_edits(crate))
+
+
+def gate_names(crate):
+    """The names of those that it tries."""
+    return edits_in(gate_edits(crate))
+
+
+def all_names(crate):
+    """The names of both."""
+    return sorted(own_names(crate) + gate_names(crate))
+
+
+def asked_for(words, names_of):
     """The names of the edits that words ask for, by crate."""
-    crates = [crate for crate in sorted(os.listdir(f"{TOP}/crates")) if edits_in(folder_of(crate))]
+    crates = [crate for crate in sorted(os.listdir(f"{TOP}/crates")) if names_of(crate)]
     asked = {}
     for word in words or crates:
         crate, _, name = word.partition("/")
-        there = edits_in(folder_of(crate))
+        there = names_of(crate)
         names = [name.removesuffix(".edit")] if name else there
         if not names or not set(names) <= set(there):
             sys.exit(f"{word} is no edit here, nor a crate that has some")
@@ -97,14 +118,14 @@ def changed_since(commit):
     return {it[1] or it[2] for it in found if it} | {name for name in now if now[name] != was.get(name)}
 
 
-def edits_since(commit):
+def edits_since(commit, names_of):
     """The names of the edits to be tried after the changes since a commit, by crate."""
     uses, changed = uses_in(read(f"{TOP}/crates.txt")), changed_since(commit)
 
     def is_touched(crate):
         return crate in changed or any(is_touched(it) for it in uses.get(crate, []))
 
-    every = asked_for([], own_edits)
+    every = asked_for([], names_of)
     return {crate: names for crate, names in every.items() if is_touched(crate)}
 
 
@@ -137,8 +158,7 @@ def check(asked):
     """Looks at the edits that are asked for, and at those that the gate tries. Returns how many can't be applied."""
     paths = [(crate, f"bench/edits/{crate}/{name}.edit") for crate, names in asked.items() for name in names]
     for crate in sorted(os.listdir(f"{TOP}/crates")):
-        own = f"crates/{crate}/must-fail"
-        paths += [(crate, f"{own}/{name}.edit") for name in edits_in(f"{TOP}/{own}")]
+        paths += [(crate, f"crates/{crate}/must-fail/{name}.edit") for name in gate_names(crate)]
     bad = 0
     for crate, path in paths:
         fault = fault_of(crate, f"{TOP}/{path}")
@@ -193,6 +213,83 @@ def tried(crate, texts):
         put_back(crate)
 
 
+def edited(crate, path):
+    """The texts of the files that an edit changes, by their path in the crate."""
+    file, old, texts = None, None, {}
+    for line in read(path).splitlines():
+        if line.startswith("file: "):
+            file = line.removeprefix("file: ")
+            texts.setdefault(file, read(f"{TOP}/crates/{crate}/{file}"))
+        elif line.startswith("old: "):
+            old = line.removeprefix("old: ")
+        elif line.startswith("new:"):
+            texts[file] = texts[file].replace(old, line.removeprefix("new:").removeprefix(" "))
+    return texts
+
+
+def below(crate):
+    """The crates of the repository that a crate is over, itself among them."""
+    uses, found = uses_in(read(f"{TOP}/crates.txt")), []
+
+    def add(name):
+        if name in uses and name not in found:
+            found.append(name)
+            for it in uses[name]:
+                add(it)
+
+    add(crate)
+    return found
+
+
+def copy_kept(crate, room):
+    """Copies a crate with its kept work, and the libraries below it as they were built, into a folder."""
+    uses = uses_in(read(f"{TOP}/crates.txt"))
+    with open(f"{room}/crates.txt", "w", encoding="utf-8") as out:
+        out.writelines(f"{name}: {' '.join(uses[name])}\n" for name in below(crate))
+    shutil.copy(f"{TOP}/HANDLES", room)
+    for name in below(crate):
+        at, to = f"{TOP}/crates/{name}", f"{room}/crates/{name}"
+        for part in ("src", "specs", "proofs"):
+            if os.path.isdir(f"{at}/{part}"):
+                shutil.copytree(f"{at}/{part}", f"{to}/{part}")
+        part, copy = ("incremental", shutil.copy2) if name == crate else ("rlib", os.link)
+        if os.path.isdir(f"{at}/out/{part}"):
+            shutil.copytree(f"{at}/out/{part}", f"{to}/out/{part}", copy_function=copy)
+
+
+def verdict_over(folder, texts):
+    """The verdict of a check of a crate in this folder with these texts in place of its own, and the first error."""
+    own = {file: read(f"{folder}/{file}") for file in texts}
+    try:
+        for file, text in texts.items():
+            with open(f"{folder}/{file}", "w", encoding="utf-8") as out:
+                out.write(text)
+        words = ["rt", "check", "--jobs", "1"]
+        done = subprocess.run(words, cwd=folder, stdout=subprocess.PIPE, stderr=subprocess.STDOUT, text=True)
+    finally:
+        for file, text in own.items():
+            with open(f"{folder}/{file}", "w", encoding="utf-8") as out:
+                out.write(text)
+    errors = [line for line in done.stdout.splitlines() if re.match(r"\S+:\d+:\d+: error", line)]
+    first = errors[0] if errors else done.stdout.strip().rpartition("\n")[2]
+    if done.returncode == 0:
+        return "NOT REFUSED", ""
+    return "refused" if re.search(r"^logic=not-proved", done.stdout, re.M) else "BAD EDIT", first
+
+
+def tried_over_kept(crate, names):
+    """Tries edits of a crate over its kept work."""
+    verdicts = {}
+    with tempfile.TemporaryDirectory(prefix="edits-", dir=f"{TOP}/crates/{crate}/out") as room:
+        copy_kept(crate, room)
+        for name in names:
+            folder = own_edits(crate) if name in own_names(crate) else gate_edits(crate)
+            texts = edited(crate, f"{folder}/{name}.edit")
+            verdicts[name], why = verdict_over(f"{room}/crates/{crate}", texts)
+            print(f"{crate}/{name}: {verdicts[name]}: {why}"[:300], flush=True)
+    return verdicts
+
+
 def harmless(old, new):
     """A harmless text in the place of a new one; none if no rule makes one."""
     if new.endswith(old.strip()) and re.match(r"\s*if ", new):
@@ -223,12 +320,13 @@ def texts_of(crate, names, twins):
 
 
 def main():
-    twins = "--twins" in sys.argv
-    words = [word for word in sys.argv[1:] if word not in ("--check", "--twins")]
+    twins, kept = "--twins" in sys.argv, "--kept" in sys.argv
+    words = [word for word in sys.argv[1:] if word not in ("--check", "--twins", "--kept")]
+    names_of = gate_names if twins else all_names if kept else own_names
     if words[:1] == ["--since"] and len(words) == 2:
-        asked = edits_since(words[1])
+        asked = edits_since(words[1], names_of)
     else:
-        asked = asked_for(words, gate_edits if twins else own_edits)
+        asked = asked_for(words, names_of)
     if "--check" in sys.argv:
         sys.exit(1 if check(asked) else 0)
     # so that an end by one of these signals puts the folder back
@@ -236,8 +334,10 @@ def main():
         signal.signal(number, lambda number, frame: sys.exit(128 + number))
     results = []
     for crate, names in asked.items():
-        texts = texts_of(crate, names, twins)
-        verdicts = tried(crate, texts) if texts else {}
+        texts = {name: "" for name in names} if kept else texts_of(crate, names, twins)
+        verdicts = {}
+        if texts:
+            verdicts = tried_over_kept(crate, names) if kept else tried(crate, texts)
         results += [(f"{crate}/{name}", verdicts.get(name, "NOT TRIED")) for name in texts]
     for name, verdict in results:
         print(f"{name}: {verdict}")
