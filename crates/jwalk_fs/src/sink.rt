@@ -9,6 +9,7 @@ use jwalk_model::file_type::FileType;
 use jwalk_model::seen::Seen;
 use std::alloc::{AllocError, Allocator, Global};
 use std::io;
+use std::io::ErrorKind;
 
 /// Takes the items of a listing one after another, so that no list of them need be kept. A walk makes its entries in
 /// one.
@@ -49,6 +50,19 @@ pub trait Sink {
     fn take_error(&mut self, error: io::Error) -> Result<(), AllocError>
         ensures { (first : _) (before : List value.Listed) → Took first before self.old
             → OnOk result (Took first (before ++ Err (error_kind error) ∷ []) self.new) };
+
+    /// Takes the bytes of a name that isn't UTF-8: an item that is an error of the kind `InvalidFilename`. The error that a
+    /// walk makes of it keeps the bytes. A sink without a body of its own for this takes the error alone.
+    ///
+    /// # Errors
+    ///
+    /// If memory runs out.
+    fn take_bad_name(&mut self, _name: &[u8]) -> Result<(), AllocError>
+        ensures { (first : _) (before : List value.Listed) → Took first before self.old
+            → OnOk result (Took first (before ++ Err ErrorKind.InvalidFilename ∷ []) self.new) }
+    {
+        self.take_error(io::Error::from(ErrorKind::InvalidFilename))
+    }
 }
 
 /// A sink that keeps the items in a vector, as `read_dir` returns them.
