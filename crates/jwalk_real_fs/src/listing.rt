@@ -53,7 +53,7 @@ impl<A: Allocator + Copy> Listing<A> {
         }
     }
 
-    /// Gives the item of a name in a directory: an error if the name isn't UTF-8.
+    /// Gives the item of a name in a directory: an error with the name's bytes if it isn't UTF-8.
     fn add<R: Files, K: Sink>(
         &mut self,
         rt: &R,
@@ -64,7 +64,7 @@ impl<A: Allocator + Copy> Listing<A> {
         ensures { OnOk result (Adds K.Took (name.now ∷ []) sink.old sink.new) }
     {
         let Ok(name) = str::from_utf8(name) else {
-            return sink.take_error(io::Error::from(ErrorKind::InvalidFilename));
+            return sink.take_bad_name(name);
         };
         self.path.clear();
         self.path.push_str(dir)?;
