@@ -2,6 +2,7 @@ pub mod GivenFacts
 mod TieFacts
 mod PathListFacts
 mod ListFacts
+mod EscapeFacts
 mod GatheredFacts
 mod ReadingFacts
 mod OrderedFacts

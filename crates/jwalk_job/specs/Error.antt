@@ -1,6 +1,7 @@
 -- Errors as values: an `io::Error` counts only by its kind.
-use Rattle.std.specs.Prelude.{ℕ, List, [], ◌++◌, Option, Some, None, option_map, unwrap_or, codes}
+use Rattle.std.specs.Prelude.{ℕ, List, [], ◌++◌, Option, Some, None, option_map, unwrap_or, flat_map, codes, encode_utf8_all}
 use Rattle.std.specs.IoError.{error_kind}
+use Rattle.std.specs.Char.Escape.{escape_ascii}
 use Rattle.std.specs.declared.io.ErrorKind.{ErrorKind}
 use Rattle.std.specs.declared.io.ErrorKind.TheVariants.{Other}
 use Rattle.jwalk_model.specs.Error as value
@@ -12,7 +13,7 @@ use Rattle.jwalk_job.specs.Text.{text}
 
 abbrev inner_failure : {A : Type 0} → ℕ → ErrorInner A → Failure
 inner_failure depth (Io path err) = value.io depth (option_map text path) (error_kind err)
-inner_failure depth (Unnamed directory err) = value.unnamed depth (text directory) (error_kind err)
+inner_failure depth (Unnamed directory name err) = value.unnamed depth (text directory) (error_kind err)
 inner_failure depth (Loop ancestor child) = value.looped depth (text ancestor) (text child)
 inner_failure depth Busy = value.busy
 inner_failure depth Memory = value.memory
@@ -21,6 +22,14 @@ inner_failure depth Lost = value.lost
 -- the error as a value
 abbrev pub failure : {A : Type 0} → Error A → Failure
 failure e = inner_failure e.depth e.inner
+
+abbrev inner_name : {A : Type 0} → ErrorInner A → Option (List ℕ)
+inner_name (Unnamed directory name err) = option_map (λ bytes. bytes.items) name
+inner_name _ = None
+
+-- the bytes of an item's name that isn't UTF-8, where they are known
+abbrev pub name_of : {A : Type 0} → Error A → Option (List ℕ)
+name_of e = inner_name e.inner
 
 -- the depth of an error: 0 if it has none
 abbrev pub depth_of : Failure → ℕ
@@ -71,22 +80,31 @@ kind_or_other f = unwrap_or (kind_of f) Other
 abbrev pub loop_text : List ℕ → List ℕ → List ℕ
 loop_text child ancestor = codes "File system loop found: " ++ child ++ codes " points to an ancestor " ++ ancestor
 
--- the text of an error, where that of an `io::Error` ends in its own text, which is given
-abbrev pub text_with : List ℕ → Failure → List ℕ
-text_with own (value.io depth (Some path) kind) = codes "IO error for operation on " ++ path ++ codes ": " ++ own
-text_with own (value.io depth None kind) = own
-text_with own (value.unnamed depth directory kind) = own
-text_with own (value.looped depth ancestor child) = loop_text child ancestor
-text_with own value.busy =
+-- the bytes of a name as text, as `<[u8]>::escape_ascii` has them
+abbrev pub escaped : List ℕ → List ℕ
+escaped name = encode_utf8_all (flat_map escape_ascii name)
+
+-- the text of an item without a path: its own, the directory, and the bytes of its name where they are known
+abbrev pub item_text : List ℕ → List ℕ → Option (List ℕ) → List ℕ
+item_text own directory None = own ++ codes " in " ++ directory
+item_text own directory (Some name) = own ++ codes " in " ++ directory ++ codes ": " ++ escaped name
+
+-- the text of an error, of its `io::Error`'s own text, which is given, and the bytes of its name
+abbrev pub text_with : List ℕ → Option (List ℕ) → Failure → List ℕ
+text_with own name (value.io depth (Some path) kind) = codes "IO error for operation on " ++ path ++ codes ": " ++ own
+text_with own name (value.io depth None kind) = own
+text_with own name (value.unnamed depth directory kind) = item_text own directory name
+text_with own name (value.looped depth ancestor child) = loop_text child ancestor
+text_with own name value.busy =
     codes "rayon thread-pool too busy or dependency loop detected - aborting before possibility of deadlock"
-text_with own value.memory = codes "memory refused for the walk"
-text_with own value.lost = codes "a reading of the crew is lost"
+text_with own name value.memory = codes "memory refused for the walk"
+text_with own name value.lost = codes "a reading of the crew is lost"
 
 -- the text of an error that has no `io::Error`, whose own text isn't known
 abbrev pub text_of : Failure → Option (List ℕ)
 text_of (value.io depth path kind) = None
 text_of (value.unnamed depth directory kind) = None
 text_of (value.looped depth ancestor child) = Some (loop_text child ancestor)
-text_of value.busy = Some (text_with [] value.busy)
-text_of value.memory = Some (text_with [] value.memory)
-text_of value.lost = Some (text_with [] value.lost)
+text_of value.busy = Some (text_with [] None value.busy)
+text_of value.memory = Some (text_with [] None value.memory)
+text_of value.lost = Some (text_with [] None value.lost)

@@ -3,6 +3,7 @@ mod text;
 
 use std::alloc::{Allocator, Global};
 use std::io;
+use std::io::ErrorKind;
 use std::sync::Arc;
 
 #[derive(Drop)]
@@ -14,6 +15,7 @@ enum ErrorInner<A: Allocator + Copy> {
     },
     Unnamed {
         parent: Arc<String<A>, A>,
+        name: Option<Vec<u8, A>>,
         err: io::Error,
     },
     Loop {
@@ -51,7 +53,7 @@ impl<A: Allocator + Copy> Error<A> {
     ghost use Rattle.std.specs.IoError.{error_kind};
     ghost use Rattle.jwalk_model.specs.Error.{io, unnamed, looped, busy, memory, lost};
     ghost use Rattle.jwalk_job.specs.Text.{text};
-    ghost use Rattle.jwalk_job.specs.Error.{failure, depth_of, path_of, parent_of, ancestor_of, kind_of};
+    ghost use Rattle.jwalk_job.specs.Error.{failure, name_of, depth_of, path_of, parent_of, ancestor_of, kind_of};
 
     /// Returns an error of the file system at a depth, with the path that was asked for.
     pub fn from_path(depth: usize, path: Arc<String<A>, A>, err: io::Error) -> Self
@@ -78,11 +80,32 @@ impl<A: Allocator + Copy> Error<A> {
 
     /// Returns an error of the file system at a depth, that came in this directory and has no path of its own.
     pub fn from_item(depth: usize, parent: Arc<String<A>, A>, err: io::Error) -> Self
-        ensures { failure result ≡ unnamed depth (text parent) (error_kind err) }
+        ensures failure { failure result ≡ unnamed depth (text parent) (error_kind err) }
+        ensures name { name_of result ≡ None }
     {
         Error {
             depth,
-            inner: ErrorInner::Unnamed { parent, err },
+            inner: ErrorInner::Unnamed {
+                parent,
+                name: None,
+                err,
+            },
+        }
+    }
+
+    /// Returns the error at a depth of an item in this directory whose name, of these bytes, isn't UTF-8. Its kind is
+    /// `InvalidFilename`.
+    pub fn from_bad_name(depth: usize, parent: Arc<String<A>, A>, name: Vec<u8, A>) -> Self
+        ensures failure { failure result ≡ unnamed depth (text parent) ErrorKind.InvalidFilename }
+        ensures name { name_of result ≡ Some name.items }
+    {
+        Error {
+            depth,
+            inner: ErrorInner::Unnamed {
+                parent,
+                name: Some(name),
+                err: io::Error::from(ErrorKind::InvalidFilename),
+            },
         }
     }
 
@@ -130,8 +153,8 @@ impl<A: Allocator + Copy> Error<A> {
     }
 
     /// Returns the path that the error came with; for a loop it is the path of the link. There is none if an item of a
-    /// listing had no name, or if the text of a link could not be read: `parent_path` then says in which directory.
-    /// There is also none if memory ran out, or if a crew is the cause.
+    /// listing had no name or one that isn't UTF-8, or if the text of a link could not be read: `parent_path` then says
+    /// in which directory. There is also none if memory ran out, or if a crew is the cause.
     pub fn path(&self) -> Option<&str>
         ensures { option_copied result ≡ path_of (failure self.now) }
     {
@@ -146,12 +169,27 @@ impl<A: Allocator + Copy> Error<A> {
     }
 
     /// Returns the path of the directory that the error came in, if the error has no path of its own: for an item of a
-    /// listing that has no name, and for a link whose text could not be read. It is `None` for all other errors.
+    /// listing that has no name or one that isn't UTF-8, and for a link whose text could not be read. It is `None` for
+    /// all other errors.
     pub fn parent_path(&self) -> Option<&str>
         ensures { option_copied result ≡ parent_of (failure self.now) }
     {
         match &self.inner {
             ErrorInner::Unnamed { parent, .. } => Some(parent.as_str()),
+            _ => None,
+        }
+    }
+
+    /// Returns the bytes of the name of an item that isn't UTF-8, and so has no path: such an item can't be reached. It is
+    /// `None` for all other errors, and where the file system gave no bytes.
+    pub fn name_bytes(&self) -> Option<&[u8]>
+        ensures { option_copied result ≡ name_of self.now }
+    {
+        match &self.inner {
+            ErrorInner::Unnamed {
+                name: Some(name),
+                ..
+            } => Some(name.as_slice()),
             _ => None,
         }
     }

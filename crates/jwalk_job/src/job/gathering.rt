@@ -1,5 +1,7 @@
 //! The items of a directory while it is listed.
-ghost use Rattle.std.specs.Prelude.{◌≡◌, ◌+◌, ◌<◌, ◌^◌, []};
+ghost use Rattle.std.specs.Prelude.{◌≡◌, ◌+◌, ◌<◌, ◌^◌, List, [], ◌∷◌, ◌++◌, Err, Some, OnOk};
+ghost use Rattle.jwalk_model.specs.FileSystem as value;
+ghost use Rattle.jwalk_job.specs.Error.{name_of};
 ghost use Rattle.jwalk_job.specs.ReadDirSpec.{spec};
 
 use super::Job;
@@ -15,6 +17,7 @@ use jwalk_model::file_type::FileType;
 use jwalk_model::seen::Seen;
 use std::alloc::{AllocError, Allocator};
 use std::io;
+use std::io::ErrorKind;
 
 /// The entries and errors of a directory that is being listed, each made as soon as its name is known.
 #[derive(Drop)]
@@ -81,6 +84,21 @@ impl<'g, C: ClientState, S: FileSystem, P: ProcessReadDir<C, A>, A: Allocator + 
         let parent = self.of.path.clone()?;
         self.items
             .push(Err(Error::from_item(depth, parent, error)))?;
+        Ok(())
+    }
+
+    fn take_bad_name(&mut self, name: &[u8]) -> Result<(), AllocError>
+        ensures taken { (first : _) (before : List value.Listed)
+            → IsGathered S.FileSystem C.DirEntryState.Default first before self.old → OnOk result (IsGathered S.FileSystem
+            C.DirEntryState.Default first (before ++ Err ErrorKind.InvalidFilename ∷ []) self.new) }
+        ensures named { OnOk result ((e : _) × (self.new.items.items ≡ self.old.items.items ++ Err e ∷ [])
+            × (name_of e ≡ Some name.now)) }
+    {
+        let depth = self.of.depth() + 1;
+        let parent = self.of.path.clone()?;
+        let name = name.to_vec(self.job.alloc)?;
+        self.items
+            .push(Err(Error::from_bad_name(depth, parent, name)))?;
         Ok(())
     }
 }

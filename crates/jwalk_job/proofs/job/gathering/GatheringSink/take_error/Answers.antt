@@ -10,7 +10,7 @@ pub returns : goal.returns
 returns g c = λ first before so_far.
     let kind = error_kind c.args.error in
     let failed =
-    c.from_item.ensures
+    c.from_item.ensures.failure
     ∙ ap (λ d. unnamed (d + 1) (text c.in_ok-parent.parent) kind) c.depth-depth.ensures
     ∙ ap (λ p. unnamed (c.args.self.now.of.now.depth + 1) (string_bytes p) kind) c.in_ok-parent.ensures.cases in
     gathered_more g.S.FileSystem g.C.DirEntryState.Default first c.args.self.now _ before (Err kind) (Err c.from_item.result ∷ []) refl refl c.in_ok-push.ensures.items tt
