@@ -91,6 +91,21 @@ ttyerr$ tally --plain -b --apparent /no\x1b[2J /r/c/y
 ! tally: /no?[2J: No such file or directory (os error 2)
 = 1
 
+# names that are no UTF-8 are errors with their folder and their bytes, and don't count
+tree
+  d /odd
+  f 1 /odd/bad\xff\xfename
+  f 2 /odd/d/b\xe9
+  f 4 /odd/y
+$ tally --plain -a -b --apparent /odd
+  {folders /odd/d}	/odd/d
+  4	/odd/y
+  4+{folders /odd}	/odd
+! tally: invalid filename in /odd: bad\x5cxff\x5cxfename
+! tally: invalid filename in /odd/d: b\x5cxe9
+= 1
+any order
+
 # a followed link is the file that it leads to, which counts once, and a directory counts as often as it is reached
 tree
   d /r

@@ -25,13 +25,14 @@ fn place_of<C: ClientState, A: Allocator + Copy>(found: &DirEntry<C, A>) -> Plac
     join_parts(found.parent_path(), found.file_name())
 }
 
-/// Reports an error on a line, with its path, or else with `own`. A failed write is ignored.
+/// Reports an error on a line, with its path, or else with `own`. One of a name that isn't UTF-8 has no path but its text,
+/// which has the folder and the name. A failed write is ignored.
 fn report_at<A: Allocator + Copy, E: Write>(error: &Error<A>, own: Place<'_>, err: &mut E) {
     let (folder, slash, name) = match path_of(error) {
         Some(path) => (path, "", ""),
         None => own,
     };
-    let is_known = !folder.is_empty() || !name.is_empty();
+    let is_known = error.name_bytes().is_none() && (!folder.is_empty() || !name.is_empty());
     let _ = match (error.io_error(), error.loop_ancestor()) {
         (Some(io), _) if is_known => writeln!(err, "seek: {folder}{slash}{name}: {io}"),
         (_, Some(above)) => writeln!(err, "seek: {folder}: a link that leads back to {above}"),

@@ -36,7 +36,8 @@ fn looped_line<A: Allocator + Copy>(
     }
 }
 
-/// Returns the line of an error of a walk: with its path, or else with that of the directory that it came in.
+/// Returns the line of an error of a walk: with its path, or else with that of the directory that it came in. The text of
+/// an error of a name that isn't UTF-8 has the directory and the name.
 fn line_of<A: Allocator + Copy>(
     alloc: Global,
     error: &Error<A>,
@@ -44,7 +45,9 @@ fn line_of<A: Allocator + Copy>(
     match (error.path(), error.parent_path(), error.io_error()) {
         (Some(path), _, Some(io)) => format!(in alloc; "tally: {path}: {io}"),
         (Some(path), _, None) => looped_line(alloc, path, error),
-        (None, Some(folder), _) => format!(in alloc; "tally: {folder}: {error}"),
+        (None, Some(folder), Some(io)) if error.name_bytes().is_none() => {
+            format!(in alloc; "tally: {folder}: {io}")
+        }
         _ => format!(in alloc; "tally: {error}"),
     }
 }
