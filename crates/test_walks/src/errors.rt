@@ -4,6 +4,7 @@ use jwalk::Error;
 use jwalk::file_system::{FileSystem, FileType, MemoryFs, Metadata};
 use std::alloc::Global;
 use std::io::ErrorKind;
+use std::sync::Arc;
 use test_fixtures::answers::Answer;
 use test_fixtures::builders::{Builder, builder};
 use test_fixtures::listed_directory::{Item, ListedDirectory};
@@ -84,16 +85,34 @@ fn unread(alloc: Global, kind: ErrorKind) -> Option<Error> {
     last(alloc, fs, "/d", &[])?.err()
 }
 
-/// The error has no path, and the item's own text alone.
+/// The error has no path. Its text is the item's own and the folder.
 fn tells_of_the_unread(alloc: Global, kind: ErrorKind) -> Option<bool> {
     let error = unread(alloc, kind)?;
-    let is_told = is_at(&error, 1, None) && tells_own(alloc, &error, kind, "")?;
+    let text = format!(in alloc; "{} in /d", error.io_error()?).ok()?;
+    let is_bare = is_at(&error, 1, None) && error.name_bytes().is_none();
+    let is_told = is_bare && tells(alloc, &error, kind, text.as_str());
     Some(is_told && kind_of(error) == Some(kind))
 }
 
 #[test]
-fn an_error_without_a_path_tells_its_own_text(rt: HostRuntime) {
+fn an_error_without_a_path_tells_its_own_text_and_the_folder(rt: HostRuntime) {
     assert!(rt; tells_of_the_unread(rt.alloc(), ErrorKind::InvalidData) == Some(true));
+}
+
+/// The bytes and their text are those of the example of `escape_ascii` in Rust's documents.
+fn tells_of_a_bad_name(alloc: Global) -> Option<bool> {
+    let name: &[u8] = b"0\t\r\n'\"\\\x9d";
+    let text = "invalid filename in odd: 0\\t\\r\\n\\'\\\"\\\\\\x9d";
+    let parent = Arc::new(alloc, String::from_str(alloc, "odd").ok()?).ok()?;
+    let error: Error = Error::from_bad_name(1, parent, name.to_vec(alloc).ok()?);
+    let is_named = error.parent_path() == Some("odd") && error.name_bytes() == Some(name);
+    let is_told = tells(alloc, &error, ErrorKind::InvalidFilename, text);
+    Some(is_at(&error, 1, None) && is_named && is_told)
+}
+
+#[test]
+fn an_error_of_a_bad_name_has_its_bytes(rt: HostRuntime) {
+    assert!(rt; tells_of_a_bad_name(rt.alloc()) == Some(true));
 }
 
 /// The error has neither a path nor a cause.

@@ -193,6 +193,34 @@ const REFUSED: &[Row] = &[
     },
 ];
 
+/// Returns what is told of each error of a walk over names that are no texts.
+fn names_told(alloc: Global) -> Result<String, AllocError> {
+    let told = Told {
+        readings: Readings::NamesThatAreNoTexts,
+        interrupted: 0,
+        failing: &[],
+        kind: ErrorKind::NotFound,
+    };
+    let calls = Rc::new(alloc, Cell::new((0, 0, 0, 0)))?;
+    let disk = ToldDisk { told, calls };
+    let mut text = String::new(alloc);
+    for answer in found(alloc, RealFs::new(disk), "/t", &[], false)? {
+        if let Err(error) = answer {
+            let (name, path) = (error.name_bytes(), error.path());
+            write!(text, "{name:?} {path:?} {error}; ")?;
+        }
+    }
+    Ok(text)
+}
+
+#[test]
+fn a_name_that_is_no_text_keeps_its_bytes(rt: HostRuntime) {
+    let wanted = "Some([97, 255]) None invalid filename in /t: a\\xff; \
+                  Some([195]) None invalid filename in /t: \\xc3; ";
+    let told = names_told(rt.alloc());
+    assert!(rt; matches!(&told, Ok(told) if told.as_str() == wanted));
+}
+
 #[test]
 fn walks_over_a_disk_whose_answers_are_in_a_table(rt: HostRuntime) {
     for (name, rows) in [
