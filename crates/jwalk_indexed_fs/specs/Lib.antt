@@ -2,6 +2,7 @@ pub mod Stamp
 pub mod Name
 pub mod Names
 pub mod Listing
+pub mod Item
 pub mod Records
 pub mod Index
 pub mod Taken

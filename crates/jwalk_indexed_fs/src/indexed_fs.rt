@@ -64,14 +64,9 @@ impl<S: FileSystem> FileSystem for IndexedFs<S> {
         alloc: A,
         path: &str,
     ) -> Result<Vec<io::Result<Listed<A>>, A>, Fault> {
-        match self.current(path)? {
-            Some(kept) => {
-                let mut names = Kept::new(alloc);
-                kept.list_into(&mut names)?;
-                Ok(names.items)
-            }
-            None => typed::list(&self.fs, alloc, path),
-        }
+        let mut items = Kept::new(alloc);
+        self.read_dir_into(alloc, path, &mut items)?;
+        Ok(items.items)
     }
 
     fn read_dir_into<A: Allocator + Copy, K: Sink>(

@@ -4,6 +4,7 @@
 
 pub mod index;
 pub mod indexed_fs;
+mod item;
 pub mod laws;
 pub mod names;
 pub mod recording_fs;

@@ -2,26 +2,27 @@
 ghost use Rattle.std.specs.Prelude.{◌≡◌, ◌++◌, ◌&&◌, List, [], ◌∷◌, true, Some, None, Ok, OnOk, IfOk, IfErr, map, if◌then◌else◌};
 ghost use Rattle.std.specs.Ordering.{is_lt};
 ghost use Rattle.jwalk_model.specs.FileSystem as value;
-ghost use Rattle.jwalk_fs.specs.Views.{listed, FailsAs, IfIo, TakesAll};
+ghost use Rattle.jwalk_fs.specs.Views.{FailsAs, IfIo, TakesAll};
 ghost use Rattle.jwalk_indexed_fs.specs.Index.{HasStamp, IsRecordOf};
+ghost use Rattle.jwalk_indexed_fs.specs.Item.{item_of};
 ghost use Rattle.jwalk_indexed_fs.specs.Listing.{listed_before, in_order};
 ghost use Rattle.jwalk_indexed_fs.specs.Records.{list_kept};
 ghost use Rattle.jwalk_indexed_fs.specs.Stamp.{IsSettled};
 ghost use Rattle.jwalk_indexed_fs.specs.Taken.{item_typed, is_seen, is_whole, seen_items, IsKeptOf};
 ghost use Rattle.jwalk_indexed_fs.specs.declared.stamp.Stamp.{Stamp as StampValue};
 
+use crate::item::{Item, Items};
 use crate::names::Names;
 use crate::records::Record;
 use crate::stamp::Stamp;
 use jwalk_fs::fault::Fault;
 use jwalk_fs::file_system::FileSystem;
 use jwalk_fs::listed::Listed;
-use jwalk_fs::sink::{Kept, Sink};
+use jwalk_fs::sink::Sink;
 use jwalk_model::file_type::FileType;
 use jwalk_model::metadata::Moment;
 use std::alloc::{AllocError, Allocator, Global};
 use std::cmp::Ordering;
-use std::io;
 
 /// A name with its type.
 #[derive(Drop)]
@@ -50,14 +51,14 @@ impl<A: Allocator + Copy> Taken<A> {
     }
 
     /// Gives an item on, and keeps its name and type.
-    fn give<K: Sink>(&mut self, sink: &mut K, item: io::Result<Listed<A>>) -> Result<(), AllocError>
-        ensures given { OnOk result (TakesAll K.Took (listed item ∷ []) sink.old sink.new) }
+    fn give<K: Sink>(&mut self, sink: &mut K, item: Item<A>) -> Result<(), AllocError>
+        ensures given { OnOk result (TakesAll K.Took (item_of item ∷ []) sink.old sink.new) }
         ensures names { OnOk result (map item_typed self.new.names.items
-            ≡ map item_typed self.old.names.items ++ seen_items (listed item ∷ [])) }
-        ensures whole { OnOk result (self.new.is_whole ≡ (self.old.is_whole && is_seen (listed item))) }
+            ≡ map item_typed self.old.names.items ++ seen_items (item_of item ∷ [])) }
+        ensures whole { OnOk result (self.new.is_whole ≡ (self.old.is_whole && is_seen (item_of item))) }
     {
         match item {
-            Ok(Listed { name, seen }) => match seen {
+            Item::Named(Listed { name, seen }) => match seen {
                 Ok(seen) => {
                     let file_type = seen.file_type();
                     sink.take_seen(name.as_str(), Ok(seen))?;
@@ -69,7 +70,11 @@ impl<A: Allocator + Copy> Taken<A> {
                     sink.take_seen(name.as_str(), Err(error))
                 }
             },
-            Err(error) => {
+            Item::BadName(name) => {
+                self.is_whole = false;
+                sink.take_bad_name(&name)
+            }
+            Item::Unread(error) => {
                 self.is_whole = false;
                 sink.take_error(error)
             }
@@ -80,12 +85,12 @@ impl<A: Allocator + Copy> Taken<A> {
 /// Gives items on, and returns what is kept of them.
 fn give_all<A: Allocator + Copy, K: Sink>(
     alloc: A,
-    items: Vec<io::Result<Listed<A>>, A>,
+    items: Vec<Item<A>, A>,
     sink: &mut K,
 ) -> Result<Taken<A>, AllocError>
-    ensures given { OnOk result (TakesAll K.Took (map listed items.items) sink.old sink.new) }
-    ensures names { IfOk result (λ taken. map item_typed taken.names.items ≡ seen_items (map listed items.items)) }
-    ensures whole { IfOk result (λ taken. taken.is_whole ≡ is_whole (map listed items.items)) }
+    ensures given { OnOk result (TakesAll K.Took (map item_of items.items) sink.old sink.new) }
+    ensures names { IfOk result (λ taken. map item_typed taken.names.items ≡ seen_items (map item_of items.items)) }
+    ensures whole { IfOk result (λ taken. taken.is_whole ≡ is_whole (map item_of items.items)) }
 {
     let mut taken = Taken::new(alloc);
     for item in items {
@@ -163,7 +168,7 @@ pub fn list_into<S: FileSystem, A: Allocator + Copy, K: Sink>(
     ensures unchanged { IfErr result (λ fault. IfIo fault (sink.new ≡ sink.old)) }
 {
     let stamp = settled_stamp(fs, start, path)?;
-    let mut listing = Kept::new(alloc);
+    let mut listing = Items::new(alloc);
     fs.read_dir_into(alloc, path, &mut listing)?;
     let Taken { names, is_whole } = give_all(alloc, listing.items, sink)?;
     let names = ordered(records, names)?;

@@ -2,9 +2,11 @@
 ghost use Rattle.std.specs.Prelude.{◌≡◌, List, ◌++◌, [], ◌∷◌, Ok, IfOk, IfErr, OnOk, map, option_copied};
 ghost use Rattle.std.specs.Ordering.{is_lt};
 ghost use Rattle.jwalk_model.specs.FileSystem as value;
-ghost use Rattle.jwalk_fs.specs.Views.{listed, AnswersValue, FailsAs, IfIo, TakesAll};
+ghost use Rattle.jwalk_fs.specs.Views.{AnswersValue, FailsAs, IfIo, TakesAll};
+ghost use Rattle.jwalk_indexed_fs.specs.Item.{item_of};
 ghost use Rattle.jwalk_indexed_fs.specs.Listing.{bare, name_of, listed_before, in_order, typed_answer};
 
+use crate::item::Item;
 use jwalk_fs::fault::Fault;
 use jwalk_fs::file_system::FileSystem;
 use jwalk_fs::listed::Listed;
@@ -17,7 +19,7 @@ use std::io;
 /// A sink that keeps of the items their types alone.
 #[derive(Drop)]
 pub struct Typed<A: Allocator + Copy> {
-    pub items: Vec<io::Result<Listed<A>>, A>,
+    pub items: Vec<Item<A>, A>,
 }
 
 impl<A: Allocator + Copy> Typed<A> {
@@ -31,7 +33,7 @@ impl<A: Allocator + Copy> Typed<A> {
 }
 
 impl<A: Allocator + Copy> Sink for Typed<A> {
-    ghost Took = { λ first items last. map listed last.items.items ≡ map listed first.items.items ++ map bare items };
+    ghost Took = { λ first items last. map item_of last.items.items ≡ map item_of first.items.items ++ map bare items };
 
     fn take_seen(&mut self, name: &str, seen: io::Result<Seen>) -> Result<(), AllocError> {
         let name = String::from_str(*self.items.allocator(), name)?;
@@ -39,28 +41,35 @@ impl<A: Allocator + Copy> Sink for Typed<A> {
             Ok(seen) => Ok(seen.file_type()),
             Err(error) => Err(error),
         };
-        self.items.push(Ok(Listed::of_type(name, file_type)))?;
+        self.items
+            .push(Item::Named(Listed::of_type(name, file_type)))?;
         Ok(())
     }
 
     fn take_error(&mut self, error: io::Error) -> Result<(), AllocError> {
-        self.items.push(Err(error))?;
+        self.items.push(Item::Unread(error))?;
+        Ok(())
+    }
+
+    fn take_bad_name(&mut self, name: &[u8]) -> Result<(), AllocError> {
+        let name = name.to_vec(*self.items.allocator())?;
+        self.items.push(Item::BadName(name))?;
         Ok(())
     }
 }
 
 /// Returns the name of an item, if something is seen of it.
-fn name_of<A: Allocator + Copy>(item: &io::Result<Listed<A>>) -> Option<&str>
-    ensures { option_copied result ≡ name_of (listed item.now) }
+fn name_of<A: Allocator + Copy>(item: &Item<A>) -> Option<&str>
+    ensures { option_copied result ≡ name_of (item_of item.now) }
 {
     match item {
-        Ok(item) if item.seen.is_ok() => Some(item.name.as_str()),
+        Item::Named(item) if item.seen.is_ok() => Some(item.name.as_str()),
         _ => None,
     }
 }
 
-fn by_name<A: Allocator + Copy>(a: &io::Result<Listed<A>>, b: &io::Result<Listed<A>>) -> Ordering
-    ensures { is_lt result ≡ listed_before (listed a.now) (listed b.now) }
+fn by_name<A: Allocator + Copy>(a: &Item<A>, b: &Item<A>) -> Ordering
+    ensures { is_lt result ≡ listed_before (item_of a.now) (item_of b.now) }
 {
     match (name_of(a), name_of(b)) {
         (Some(a), Some(b)) => a.cmp(b),
@@ -70,39 +79,25 @@ fn by_name<A: Allocator + Copy>(a: &io::Result<Listed<A>>, b: &io::Result<Listed
     }
 }
 
-fn sorted<A: Allocator + Copy>(
-    mut items: Vec<io::Result<Listed<A>>, A>,
-) -> Result<Vec<io::Result<Listed<A>>, A>, AllocError>
-    ensures { IfOk result (λ v. map listed v.items ≡ in_order (map listed items.items)) }
+fn sorted<A: Allocator + Copy>(mut items: Vec<Item<A>, A>) -> Result<Vec<Item<A>, A>, AllocError>
+    ensures { IfOk result (λ v. map item_of v.items ≡ in_order (map item_of items.items)) }
 {
     items.sort_by(by_name)?;
     Ok(items)
 }
 
 /// Lists a directory as a file system does, with types alone and in the order of names.
-pub fn list<S: FileSystem, A: Allocator + Copy>(
+fn list<S: FileSystem, A: Allocator + Copy>(
     fs: &S,
     alloc: A,
     path: &str,
-) -> Result<Vec<io::Result<Listed<A>>, A>, Fault>
+) -> Result<Vec<Item<A>, A>, Fault>
     ensures { S.IsFixed fs.now
-        → AnswersValue (λ v. map listed v.items) result (typed_answer ((S.functions fs.now).list_of path.now)) }
+        → AnswersValue (λ v. map item_of v.items) result (typed_answer ((S.functions fs.now).list_of path.now)) }
 {
     let mut typed = Typed::new(alloc);
     fs.read_dir_into(alloc, path, &mut typed)?;
     Ok(sorted(typed.items)?)
-}
-
-fn give<A: Allocator + Copy, K: Sink>(
-    sink: &mut K,
-    item: io::Result<Listed<A>>,
-) -> Result<(), AllocError>
-    ensures { OnOk result (TakesAll K.Took (listed item ∷ []) sink.old sink.new) }
-{
-    match item {
-        Ok(Listed { name, seen }) => sink.take_seen(name.as_str(), seen),
-        Err(error) => sink.take_error(error),
-    }
 }
 
 /// Gives a sink the items of such a listing.
@@ -119,7 +114,7 @@ pub fn list_into<S: FileSystem, A: Allocator + Copy, K: Sink>(
     ensures unchanged { IfErr result (λ fault. IfIo fault (sink.new ≡ sink.old)) }
 {
     for item in list(fs, alloc, path)? {
-        give(sink, item)?;
+        item.give(sink)?;
     }
     Ok(())
 }

@@ -2,6 +2,8 @@
 #![tactic(auto)]
 
 #[cfg(test)]
+mod bad_names;
+#[cfg(test)]
 mod folder;
 #[cfg(test)]
 mod recorded;

@@ -1,6 +1,7 @@
 use Rattle.std.proofs.Common.{◌∷◌, [], ◌++◌, ◌&&◌, ◌∙◌, map, ap, sym, subst}
 use Rattle.std.proofs.lemmas.List.{map-append}
-use Rattle.jwalk_fs.specs.Views.{listed, TakesAll}
+use Rattle.jwalk_fs.specs.Views.{TakesAll}
+use Rattle.jwalk_indexed_fs.specs.Item.{item_of}
 use Rattle.jwalk_fs.proofs.SinkFacts.{takes_on}
 use Rattle.jwalk_indexed_fs.specs.Taken.{is_seen, is_whole, seen_items}
 use Rattle.jwalk_indexed_fs.proofs.TakenFacts.{seen_more, whole_more}
@@ -10,9 +11,9 @@ pub loop-item-preserved : goal.loop-item-preserved
 loop-item-preserved g c =
     let took = g.K.Sink.Took in
     let so_far = c.loop-item.invariant in
-    let items = map listed c.loop-item.yielded in
-    let item = listed c.in-Some.item in
-    let more = sym (map-append listed c.loop-item.yielded (c.in-Some.item ∷ [])) in
+    let items = map item_of c.loop-item.yielded in
+    let item = item_of c.in-Some.item in
+    let more = sym (map-append item_of c.loop-item.yielded (c.in-Some.item ∷ [])) in
     record {
       given = subst (λ l. TakesAll took l c.args.sink.now c.give.new.sink) more
           (takes_on took items (item ∷ []) c.args.sink.now c.loop-item.sink c.give.new.sink so_far.given c.in_ok-give.ensures.given);

@@ -1,6 +1,6 @@
 use Rattle.std.proofs.Common.{◌≡◌, ◌++◌, [], ◌∙◌, List, Ok, map, ap, sym, append-nil}
 use Rattle.jwalk_model.specs.FileSystem.{Listed}
-use Rattle.jwalk_fs.specs.Views.{listed}
+use Rattle.jwalk_indexed_fs.specs.Item.{item_of}
 use Rattle.jwalk_indexed_fs.specs.Listing.{in_order}
 use Rattle.jwalk_indexed_fs.specs.Taken.{IsKeptOf}
 use Rattle.jwalk_indexed_fs.proofs.TakenFacts.{if_some, is_record_of}
@@ -10,9 +10,9 @@ pub returns-clause-taken : goal.returns-clause-taken
 returns-clause-taken g c =
     let lists = c.in_ok-read_dir_into.ensures.taken in
     let before = c.new-listing.result in
-    let items : List Listed = map listed c.read_dir_into.new.sink.items.items in
-    let empty : map listed before.items.items ≡ [] = ap (map listed) c.new-listing.ensures in
-    let took : items ≡ lists.0 = lists.1 before [] (sym (append-nil (map listed before.items.items))) ∙ ap (λ l. l ++ lists.0) empty in (
+    let items : List Listed = map item_of c.read_dir_into.new.sink.items.items in
+    let empty : map item_of before.items.items ≡ [] = ap (map item_of) c.new-listing.ensures in
+    let took : items ≡ lists.0 = lists.1 before [] (sym (append-nil (map item_of before.items.items))) ∙ ap (λ l. l ++ lists.0) empty in (
       items,
       c.in_ok-names.ensures.given,
       record {

@@ -1,14 +1,12 @@
-use Rattle.std.proofs.Common.{rules, ◌≡◌, ◌++◌, [], ◌∙◌, Ok, map, ap, sym, append-nil}
+use Rattle.std.proofs.Common.{◌≡◌, ◌++◌, [], ◌∙◌, Ok, map, ap, sym, append-nil}
 use Rattle.jwalk_fs.specs.Views.{listed}
-use Rattle.jwalk_indexed_fs.specs.Records.{list_kept}
 use Rattle.jwalk_indexed_fs.proofs.indexed_fs.IndexedFsFileSystem.read_dir.Goals as goal
 
--- a record that is current is what the directory holds
-pub returns-in_ok-list_into-in-Some : goal.returns-in_ok-list_into-in-Some
-returns-in_ok-list_into-in-Some g c = λ fixed.
-    let names = c.new-names.result in
-    let held = list_kept c.in-Some.kept.now.names in
-    let empty : map listed names.items.items ≡ [] = ap (map listed) c.new-names.ensures in
-    let took : map listed c.list_into.new.sink.items.items ≡ held =
-    c.in_ok-list_into-in-Some.ensures names [] (sym (append-nil (map listed names.items.items))) ∙ ap (λ l. l ++ held) empty in
-    fixed.1 c.args.path.now c.in-Some.kept.now (search (rules, fixed)) ∙ ap Ok (sym took)
+pub returns : goal.returns
+returns g c = λ fixed.
+    let taken = c.in_ok-read_dir_into.ensures.taken in
+    let before = c.new-items.result in
+    let empty : map listed before.items.items ≡ [] = ap (map listed) c.new-items.ensures in
+    let took : map listed c.read_dir_into.new.sink.items.items ≡ taken.0 =
+    taken.1 before [] (sym (append-nil (map listed before.items.items))) ∙ ap (λ l. l ++ taken.0) empty in
+    taken.2 fixed ∙ ap Ok (sym took)
