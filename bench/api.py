@@ -20,7 +20,7 @@ PAGE = "docs/API.md"
 WIDTH = 120
 
 # The crates that users name. A path that begins with none of these is in the first.
-CRATES = ["jwalk", "jwalk_contents_first", "jwalk_sort_by", "jwalk_usage", "jwalk_subtotals", "jwalk_changes"]
+CRATES = ["jwalk", "jwalk_contents_first", "jwalk_usage", "jwalk_subtotals", "jwalk_changes"]
 CRATES += ["jwalk_ignore", "jwalk_callbacks", "jwalk_indexed_fs", "tree_walk", "tree_crew"]
 
 # What each section has, in this order: items, and with `::` at the end all of a path that isn't named elsewhere.
@@ -31,7 +31,8 @@ SECTIONS = {
     " file_system::Identity ReadChildren read_dir::Ancestors",
     "Errors": "Error Result",
     "Callbacks": "ClientState read_dir::ProcessReadDir read_dir::NoProcess read_dir::ByFn read_dir::FilterEntry"
-    " read_dir::SkipNames read_dir::Both read_dir::Calls read_dir::Closure jwalk_callbacks:: jwalk_sort_by::",
+    " read_dir::SkipNames read_dir::SortBy read_dir::Both read_dir::Calls read_dir::Closure read_dir::Compares"
+    " read_dir::ByOrder read_dir::ByKey jwalk_callbacks::",
     "File systems": "file_system::FileSystem file_system::RealFs file_system::Patient file_system::MemoryFs"
     " file_system::BuildError file_system::Listed file_system::Seen file_system::Sink file_system:: jwalk_indexed_fs:: path_text::",
     "Contents first": "jwalk_contents_first:: jwalk_contents_first::iter::",

@@ -16,6 +16,7 @@ pub use Rattle.jwalk_job.specs as jwalk_job
 pub use Rattle.jwalk_readings.specs as jwalk_readings
 pub use Rattle.jwalk_iter.specs as jwalk_iter
 pub use Rattle.jwalk_callbacks.specs as jwalk_callbacks
+pub use Rattle.jwalk_sort_by.specs as jwalk_sort_by
 pub use Rattle.jwalk_order.specs as jwalk_order
 pub use Rattle.jwalk_board.specs as jwalk_board
 pub use Rattle.tree_walk.specs as tree_walk

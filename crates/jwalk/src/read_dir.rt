@@ -12,3 +12,5 @@ pub use jwalk_job::options::Options;
 pub use jwalk_job::process_read_dir::{NoProcess, ProcessReadDir};
 pub use jwalk_job::read_dir::ReadDir;
 pub use jwalk_job::read_dir_spec::ReadDirSpec;
+pub use jwalk_sort_by::SortBy;
+pub use jwalk_sort_by::compares::{ByKey, ByOrder, Compares};

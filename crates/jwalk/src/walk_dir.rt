@@ -3,6 +3,7 @@ ghost use Rattle.std.specs.Prelude.{◌≡◌, ◌⊎◌, true, false, None, str
 ghost use Rattle.jwalk_model.specs.Error.{memory};
 ghost use Rattle.jwalk_job.specs.Error.{failure};
 
+mod added;
 mod crew_start;
 mod each;
 mod handed;
@@ -267,8 +268,7 @@ impl<
 
     /// Returns the same walk with this callback instead of its own: a second call replaces the first callback.
     ///
-    /// A walk has one callback, that of the last call of this or of `process_read_dir_by`. To have two called, one after
-    /// the other, pass `Both::new(first, second)`.
+    /// `then` adds a callback behind the walk's own instead, as do `filter_entry`, `sort_by` and `sort_by_key`.
     ///
     /// The callback is called with each list before the walk goes on with it: the root's first, then that of each
     /// directory as it is read. The list is in its order, and links have been followed. It isn't called for a directory
@@ -382,8 +382,7 @@ impl<C: ClientState, S: FileSystem, P: ProcessReadDir<C, Global>, W: Drop> WalkD
     /// Returns the same walk with a closure instead of its own callback: a second call replaces the first callback. The
     /// closure's types need not be written.
     ///
-    /// A walk has one callback, that of the last call of this or of `process_read_dir`. To have two called, one after the
-    /// other, use `process_read_dir(Both::new(first, second))`, where a closure is `ByFn::new(..)`.
+    /// `then(ByFn::new(..))` adds a closure behind the walk's own callback instead.
     ///
     /// The closure is called with the depth and the path of a directory, the state and the list. It may change the
     /// state and the list. For the root's list the depth is `None`, and the path is the root's parent, or empty if the

@@ -2,8 +2,8 @@
 //! number in a name.
 //!
 //! ```text
-//! let by_size = SortBy::key(|entry: &DirEntry<((), ())>| entry.file_name().len());
-//! let walk = WalkDir::at(&rt, "/usr")?.process_read_dir(by_size).into_iter();
+//! let by_length = SortBy::key(|entry: &DirEntry<((), ())>| entry.file_name().len());
+//! let walk = WalkDir::at(&rt, "/usr")?.process_read_dir(by_length).into_iter();
 //! ```
 #![tactic(auto)]
 
