@@ -1,0 +1,9 @@
+//! Walks by what loops of `walkdir` use: filtered, sorted and contents first, read in three ways.
+#![tactic(auto)]
+
+#[cfg(test)]
+mod calls;
+#[cfg(test)]
+mod table;
+#[cfg(test)]
+mod three_ways;
