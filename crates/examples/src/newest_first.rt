@@ -3,7 +3,6 @@
 use jwalk::file_system::{FileSystem, Moment};
 use jwalk::read_dir::NoProcess;
 use jwalk::{DirEntry, WalkDirGeneric};
-use jwalk_sort_by::SortBy;
 use std::cmp::Reverse;
 use std::io::Write;
 
@@ -19,8 +18,10 @@ pub fn run<S: FileSystem, W: Write>(
     out: &mut W,
 ) -> anyhow::Result<()> {
     // begin walk
-    let newest = SortBy::key(|entry: &DirEntry<((), ())>| Reverse(modified(entry)));
-    let walk = walk.sort(true).keep_metadata(true).process_read_dir(newest);
+    let walk = walk
+        .sort(true)
+        .keep_metadata(true)
+        .sort_by_key(|entry| Reverse(modified(entry)));
     for answer in walk.into_iter() {
         writeln!(out, "{}", answer?.path()?)?;
     }
