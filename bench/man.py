@@ -99,9 +99,14 @@ def toolchain():
         sys.exit(f"`rt version` doesn't tell the toolchain: {error}")
 
 
-def shown_version():
-    """The file of programs' sources with the version that they show: that of VERSION, and the toolchain."""
-    return re.sub(r'(?<=: &str = ").*(?=";)', f"{read('VERSION').strip()} ({toolchain()})", read(SHOWN))
+def told_toolchain():
+    """The toolchain that the programs' sources tell. Another machine may have another, and needs no other sources."""
+    return re.search(r': &str = ".* \((.*)\)";', read(SHOWN))[1]
+
+
+def shown_version(of_toolchain):
+    """The file of programs' sources with the version that they show: that of VERSION, and a toolchain."""
+    return re.sub(r'(?<=: &str = ").*(?=";)', f"{read('VERSION').strip()} ({of_toolchain})", read(SHOWN))
 
 
 def plain_option(id, short, text):
@@ -388,10 +393,10 @@ def all_programs():
     return [walk()] + [by_clap(path) for path in command_files()]
 
 
-def made():
+def made(of_toolchain):
     """Each file that is made, with its text."""
     programs = all_programs()
-    files = {SHOWN: shown_version()}
+    files = {SHOWN: shown_version(of_toolchain)}
     for program in programs:
         others = [it.name for it in programs if it is not program]
         files[f"docs/man/{program.name}.1"] = man_page(program, others)
@@ -402,8 +407,9 @@ def made():
 
 
 def main():
-    files = made()
-    if sys.argv[1:] == ["--check"]:
+    checks = sys.argv[1:] == ["--check"]
+    files = made(told_toolchain() if checks else toolchain())
+    if checks:
         there = {SHOWN, *glob.glob("docs/man/*", root_dir=TOP), *glob.glob("docs/completions/*", root_dir=TOP)}
         wrong = sorted(there ^ set(files)) + [it for it in sorted(there & set(files)) if read(it) != files[it]]
         if wrong:
