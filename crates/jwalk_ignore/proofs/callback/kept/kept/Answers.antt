@@ -7,6 +7,12 @@ use Rattle.jwalk.specs.jwalk_job.Entry.{item}
 use Rattle.jwalk_ignore.proofs.ListFacts.{filter_more}
 use Rattle.jwalk_ignore.proofs.callback.kept.kept.Goals as goal
 
+pub loop-found-init : goal.loop-found-init
+loop-found-init g c = record {
+  same = λ test decides. decides;
+  kept = λ test decides. ap (map item) c.in_ok-kept.ensures.items;
+}
+
 pub loop-found-preserved : goal.loop-found-preserved
 loop-found-preserved g c =
     let held = c.loop-found.invariant in
