@@ -1,11 +1,14 @@
 //! Walks with the calls of a row.
+ghost use Rattle.jwalk.specs.WalkDir.{callback_of};
+
 use crate::three_ways::Reader;
-use jwalk::DirEntry;
-use jwalk::file_system::{BuildError, FileType};
-use jwalk::read_dir::SkipNames;
+use jwalk::file_system::{BuildError, FileType, MemoryFs};
+use jwalk::read_dir::{ProcessReadDir, SkipNames};
+use jwalk::{Crew, DirEntry, WalkDirGeneric};
 use jwalk_contents_first::WalkExt;
+use std::alloc::{AllocError, Global};
 use std::cmp::Ordering;
-use test_fixtures::answers::are_lines;
+use test_fixtures::answers::{Answer, are_lines};
 use test_fixtures::by_crew::all_by_crew;
 use test_fixtures::host::Host;
 use test_fixtures::texts::texts;
@@ -83,6 +86,22 @@ pub struct Row {
     pub answers: &'static str,
 }
 
+/// Returns what a walk yields. A function that writes closures can't own a walk that a crew reads, so this one does.
+fn answers_of<R: Host, P: ProcessReadDir<((), ()), Global> + Send + Sync + 'static>(
+    alloc: Global,
+    walk: WalkDirGeneric<((), ()), MemoryFs, P, Global, Crew<R>>,
+    contents_first: bool,
+) -> Result<Vec<Answer<((), ())>>, AllocError>
+    requires { P.IsLawful (callback_of walk) }
+{
+    if !contents_first {
+        return all_by_crew(alloc, walk);
+    }
+    let mut found = Vec::new(alloc);
+    add_rest(&mut walk.into_iter().contents_first(), &mut found)?;
+    Ok(found)
+}
+
 impl Row {
     /// Returns whether the walk yields these answers.
     // All walks have one type, since each type of a walk costs time.
@@ -109,13 +128,7 @@ impl Row {
                 }
             })
             .then(SkipNames::new(texts(alloc, calls.skipped, &[])?));
-        let found = if calls.contents_first {
-            let mut found = Vec::new(alloc);
-            add_rest(&mut walk.into_iter().contents_first(), &mut found)?;
-            found
-        } else {
-            all_by_crew(alloc, walk)?
-        };
+        let found = answers_of(alloc, walk, calls.contents_first)?;
         Ok(are_lines(alloc, found.as_slice(), self.answers))
     }
 }
