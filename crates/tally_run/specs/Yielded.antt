@@ -1,5 +1,5 @@
 -- The answers of the walks that a call counts, whatever the disk and the texts return.
-use Rattle.std.specs.Prelude.{◌≡◌, ℕ, Bool, true, false, List, Option, None, Result, Ok, Err, is_some, MatchBool, if◌then◌else◌}
+use Rattle.std.specs.Prelude.{◌≡◌, ℕ, ◌==◌, Bool, ◌&&◌, ◌||◌, not, true, false, List, Option, None, Some, Result, Ok, Err, is_some, MatchBool, if◌then◌else◌}
 use Rattle.std.specs.Arc.{arc_value}
 use Rattle.std.specs.Iterator.{Drains}
 use Rattle.std.specs.declared.io.ErrorKind.{ErrorKind}
@@ -8,7 +8,8 @@ use Rattle.jwalk.specs.jwalk_model.Counted.{Worth}
 use Rattle.jwalk.specs.jwalk_model.Entry.{Item}
 use Rattle.jwalk.specs.jwalk_model.FileSystem.{Functions}
 use Rattle.jwalk.specs.jwalk_model.FileType.{is_dir}
-use Rattle.jwalk.specs.jwalk_model.Metadata.{type_of}
+use Rattle.jwalk.specs.jwalk_model.Metadata.{details_of, type_of}
+use Rattle.jwalk.specs.jwalk_model.declared.metadata.Details.{Details}
 use Rattle.jwalk.specs.jwalk_model.declared.metadata.Metadata.{Metadata}
 use Rattle.jwalk.specs.jwalk_model.Options.{with_skip_hidden}
 use Rattle.jwalk.specs.jwalk_job.Given.{Given, counted_list}
@@ -69,14 +70,24 @@ pub record IsHonouring {T C Z B X A E : Type 0} (disk : Z) (texts : X) (crew : O
   pub excluded : excluded_of (next_of (callback_of walk)) ≡ excluded_asked asked root
   pub begins : rules_held (state_of walk) ≡ no_rules
 
--- whether this is the metadata of a directory
-abbrev pub is_folder : Result Metadata ErrorKind → Bool
-is_folder (Ok m) = is_dir (type_of m)
-is_folder (Err k) = false
+-- what a path leads to, if that is known
+abbrev pub found_in : Result Metadata ErrorKind → Option Metadata
+found_in (Ok m) = Some m
+found_in (Err k) = None
 
--- the crew that reads below a root: what is no directory needs none
-abbrev pub crew_at : {W : Type 0} → Functions → List ℕ → Option W → Option W
-crew_at fs root crew = if is_folder (fs.meta_of root) then crew else None
+-- whether something has two names, as a directory has that no other is in, where a file system counts them
+abbrev has_two_names : Option Details → Bool
+has_two_names None = false
+has_two_names (Some d) = d.links == 2
+
+-- whether directories may be in something, or in what links in it lead to if links are followed
+abbrev pub has_folders : Bool → Option Metadata → Bool
+has_folders follow None = false
+has_folders follow (Some m) = is_dir (type_of m) && (follow || not (has_two_names (details_of m)))
+
+-- the crew that reads below a root: where no directory is in it, none is needed
+abbrev pub crew_at : {W : Type 0} → Functions → Bool → List ℕ → Option W → Option W
+crew_at fs follow root crew = if has_folders follow (found_in (fs.meta_of root)) then crew else None
 
 module _ {T C Z B X A E G H F : Type 0} (plain : CrewCallsOf T G (Arc (FollowedRoot Z) B) Excluding A H F) (honouring : CrewCallsOf T C (Arc (FollowedRoot Z) B) (Honours X B) A RulesState E) where
   -- The answers are those of the walk that is asked for below this root, for which this crew reads, if there is one.
@@ -84,8 +95,8 @@ module _ {T C Z B X A E G H F : Type 0} (plain : CrewCallsOf T G (Arc (FollowedR
   YieldedBy disk texts crew asked root answers =
       MatchBool asked.ignore (Walked honouring (IsHonouring disk texts crew asked root) asked.one_file_system answers) (Walked plain (IsPlain disk crew asked root) asked.one_file_system answers)
 
-  -- The same, where the crew reads below directories alone. Whether the root is one is known if the disk always returns the same.
+  -- The same, where the crew reads below directories that others may be in alone. Whether the root is one is known if the disk always returns the same.
   pub record YieldedBelow (fixed : Type 0) (fs : Functions) (disk : Z) (texts : X) (crew : Option (Arc (Crew T) A)) (asked : Asked) (root : List ℕ) (answers : List (Item Worth Worth)) : Type 0 where
     pub reads : Option (Arc (Crew T) A)
-    pub by : fixed → reads ≡ crew_at fs root crew
+    pub by : fixed → reads ≡ crew_at fs asked.follow root crew
     pub yielded : YieldedBy disk texts reads asked root answers

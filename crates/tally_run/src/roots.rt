@@ -1,10 +1,10 @@
 //! Which roots are counted.
 ghost use Rattle.std.specs.Prelude.{◌≡◌, ◌≢◌, false, length, IfOk};
 ghost use Rattle.tally_run.specs.RootKind.{IsKindOf};
-ghost use Rattle.tally_run.specs.Yielded.{is_folder};
+ghost use Rattle.tally_run.specs.Yielded.{found_in, has_folders};
 ghost use Rattle.tally_run.specs.declared.roots.RootKind.TheVariants.{LeftOut};
 
-use jwalk::file_system::{Fault, FileSystem, Identity};
+use jwalk::file_system::{Fault, FileSystem, Identity, Metadata};
 use jwalk::path_text::{join, parent};
 use std::alloc::{AllocError, Global};
 
@@ -16,9 +16,9 @@ const ABOVE: usize = 2048;
 pub(crate) enum RootKind {
     /// The same directory as an earlier root, or something below one. It is left out.
     LeftOut,
-    /// A directory.
+    /// A directory that others may be in.
     Directory,
-    /// Anything else, or nothing that can be asked.
+    /// One that none is in; or anything else, or nothing that can be asked.
     Other,
 }
 
@@ -30,20 +30,39 @@ pub(crate) struct Roots {
     one_file_system: bool,
 }
 
-/// Returns whether there is a directory at a path, and which file is there, if that is known.
-fn look_at<S: FileSystem>(disk: &S, path: &str) -> Result<(bool, Option<Identity>), AllocError>
-    ensures { S.IsFixed disk.now → IfOk result (λ found. found.0 ≡ is_folder ((S.functions disk.now).meta_of path.now)) }
+/// Returns what a path leads to, if that is known.
+fn look_at<S: FileSystem>(disk: &S, path: &str) -> Result<Option<Metadata>, AllocError>
+    ensures { S.IsFixed disk.now → IfOk result (λ found. found ≡ found_in ((S.functions disk.now).meta_of path.now)) }
 {
     match disk.metadata(path) {
-        Ok(found) => Ok((found.file_type().is_dir(), found.identity())),
-        Err(Fault::Io(_)) => Ok((false, None)),
+        Ok(found) => Ok(Some(found)),
+        Err(Fault::Io(_)) => Ok(None),
         Err(Fault::Memory) => Err(AllocError),
     }
 }
 
+/// Returns whether something is a directory, and which file it is, if that is known.
+fn folder_and_identity(found: Option<Metadata>) -> (bool, Option<Identity>) {
+    match found {
+        Some(found) => (found.is_dir(), found.identity()),
+        None => (false, None),
+    }
+}
+
+/// Returns whether directories may be in something. A directory without one has two names, where a file system counts them.
+/// Where links are followed, one may lead to a directory.
+fn has_folders(found: Option<Metadata>, follow: bool) -> bool
+    ensures { result ≡ has_folders follow found }
+{
+    let Some(found) = found else {
+        return false;
+    };
+    found.is_dir() && (follow || !matches!(found.details(), Some(details) if details.links == 2))
+}
+
 /// Returns `None` for what is no directory, and where its identity isn't known.
 fn directory_at<S: FileSystem>(disk: &S, path: &str) -> Result<Option<Identity>, AllocError> {
-    match look_at(disk, path)? {
+    match folder_and_identity(look_at(disk, path)?) {
         (true, own) => Ok(own),
         (false, _) => Ok(None),
     }
@@ -130,28 +149,36 @@ impl Roots {
         }
     }
 
-    /// Returns whether a root is the same directory as an earlier root, or lies below one. `found` says whether it is a
-    /// directory, and which file it is. Of what is no directory, or unknown, the folder that it lies in tells, if anything
-    /// is there at all.
+    /// Returns whether a root is the same directory as an earlier root, or lies below one. `found` is what is found there.
+    /// Of what is no directory, or unknown, the folder that it lies in tells, if anything is there at all.
     fn is_below<S: FileSystem>(
         &self,
         alloc: Global,
         disk: &S,
         root: &str,
-        found: (bool, Option<Identity>),
+        found: Option<Metadata>,
     ) -> Result<bool, AllocError>
         ensures first { length self.now.counted.items ≡ 0 → IfOk result (λ below. below ≡ false) }
     {
         if self.counted.is_empty() {
             return Ok(false);
         }
-        match found {
+        match folder_and_identity(found) {
             (true, Some(own)) => self.has_above(alloc, disk, root, own),
             (_, own) => self.has_folder_of(alloc, disk, root, own),
         }
     }
 
-    /// Adds a root, and returns what it is. The first is never left out, nor is one where nothing is found.
+    /// Adds what is found at a root, if it is a directory.
+    fn push(&mut self, found: Option<Metadata>) -> Result<(), AllocError> {
+        if let (true, Some(own)) = folder_and_identity(found) {
+            self.counted.push(own)?;
+        }
+        Ok(())
+    }
+
+    /// Adds a root, and returns what it is, where links are followed or not. The first is never left out, nor is one where
+    /// nothing is found.
     ///
     /// # Errors
     ///
@@ -161,20 +188,20 @@ impl Roots {
         alloc: Global,
         disk: &S,
         root: &str,
+        follow: bool,
     ) -> Result<RootKind, AllocError>
         ensures first { length self.old.counted.items ≡ 0 → IfOk result (λ kind. kind ≢ LeftOut) }
-        ensures kind { S.IsFixed disk.now → IfOk result (IsKindOf ((S.functions disk.now).meta_of root.now)) }
+        ensures kind { S.IsFixed disk.now → IfOk result (IsKindOf follow ((S.functions disk.now).meta_of root.now)) }
     {
         let found = look_at(disk, root)?;
         if self.is_below(alloc, disk, root, found)? {
             return Ok(RootKind::LeftOut);
         }
-        let (true, own) = found else {
-            return Ok(RootKind::Other);
-        };
-        if let Some(own) = own {
-            self.counted.push(own)?;
+        self.push(found)?;
+        if has_folders(found, follow) {
+            Ok(RootKind::Directory)
+        } else {
+            Ok(RootKind::Other)
         }
-        Ok(RootKind::Directory)
     }
 }

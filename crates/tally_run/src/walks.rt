@@ -244,7 +244,7 @@ impl<
         self.count_all(alloc, crew, files, root, results, out, err)
     }
 
-    /// A root that lies below one of those that are known is left out, and that is reported. A root that is no directory
+    /// A root that lies below one of those that are known is left out, and that is reported. A root that no directory is in
     /// needs no crew.
     fn count_root<W: Write, E: Report>(
         &self,
@@ -261,7 +261,7 @@ impl<
         ensures first { length known.old.counted.items ≡ 0 → IfOk result (CountsOwn S.FileSystem X.Texts ⟦<PlainWalk<T, S> as Iterator>⟧.next_gives ⟦<HonouringWalk<T, S, X> as Iterator>⟧.next_gives
             self.now root.now (files_of files) results.old (W.contents out.old) results.new (W.contents out.new)) }
     {
-        match known.add(alloc, &self.disk, root)? {
+        match known.add(alloc, &self.disk, root, self.asked.follow)? {
             RootKind::LeftOut => {
                 report_root(alloc, self.screen.shows_errors, root, err)?;
                 Ok(Counted { files, clean: true })

@@ -16,7 +16,7 @@ returns-in-Directory-clause-first g c = λ _.
     below_as (λ always. always)
     (λ answers yielded. record {
       reads = self.crew;
-      by = λ fixed. crew_below (g.S.FileSystem.functions (arc_value self.disk)) c.args.root.now self.crew (subst (IsKindOf ((g.S.FileSystem.functions (arc_value self.disk)).meta_of c.args.root.now)) c.in-Directory.is (c.in_ok-add.ensures.kind fixed));
+      by = λ fixed. crew_below (g.S.FileSystem.functions (arc_value self.disk)) self.asked.now.follow c.args.root.now self.crew (subst (IsKindOf self.asked.now.follow ((g.S.FileSystem.functions (arc_value self.disk)).meta_of c.args.root.now)) c.in-Directory.is (c.in_ok-add.ensures.kind fixed));
       yielded = yielded;
     })
     refl)
@@ -29,7 +29,7 @@ returns-in-Directory-clause-counts g c =
     (λ counted counts. inr (below_as (λ always. always)
     (λ answers yielded. record {
       reads = self.crew;
-      by = λ fixed. crew_below (g.S.FileSystem.functions (arc_value self.disk)) c.args.root.now self.crew (subst (IsKindOf ((g.S.FileSystem.functions (arc_value self.disk)).meta_of c.args.root.now)) c.in-Directory.is (c.in_ok-add.ensures.kind fixed));
+      by = λ fixed. crew_below (g.S.FileSystem.functions (arc_value self.disk)) self.asked.now.follow c.args.root.now self.crew (subst (IsKindOf self.asked.now.follow ((g.S.FileSystem.functions (arc_value self.disk)).meta_of c.args.root.now)) c.in-Directory.is (c.in_ok-add.ensures.kind fixed));
       yielded = yielded;
     })
     refl counts))
@@ -43,7 +43,7 @@ returns-in-Other-clause-first g c = λ _.
     below_as (λ always. always)
     (λ answers yielded. record {
       reads = None;
-      by = λ fixed. no_crew_below (g.S.FileSystem.functions (arc_value self.disk)) c.args.root.now self.crew (subst (IsKindOf ((g.S.FileSystem.functions (arc_value self.disk)).meta_of c.args.root.now)) c.in-Other.is (c.in_ok-add.ensures.kind fixed));
+      by = λ fixed. no_crew_below (g.S.FileSystem.functions (arc_value self.disk)) self.asked.now.follow c.args.root.now self.crew (subst (IsKindOf self.asked.now.follow ((g.S.FileSystem.functions (arc_value self.disk)).meta_of c.args.root.now)) c.in-Other.is (c.in_ok-add.ensures.kind fixed));
       yielded = yielded;
     })
     refl)
@@ -56,7 +56,7 @@ returns-in-Other-clause-counts g c =
     (λ counted counts. inr (below_as (λ always. always)
     (λ answers yielded. record {
       reads = None;
-      by = λ fixed. no_crew_below (g.S.FileSystem.functions (arc_value self.disk)) c.args.root.now self.crew (subst (IsKindOf ((g.S.FileSystem.functions (arc_value self.disk)).meta_of c.args.root.now)) c.in-Other.is (c.in_ok-add.ensures.kind fixed));
+      by = λ fixed. no_crew_below (g.S.FileSystem.functions (arc_value self.disk)) self.asked.now.follow c.args.root.now self.crew (subst (IsKindOf self.asked.now.follow ((g.S.FileSystem.functions (arc_value self.disk)).meta_of c.args.root.now)) c.in-Other.is (c.in_ok-add.ensures.kind fixed));
       yielded = yielded;
     })
     refl counts))
