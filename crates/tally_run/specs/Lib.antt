@@ -9,4 +9,5 @@ pub mod RootKind
 pub mod Roots
 pub mod Counts
 pub mod Written
+pub mod ExcludeFiles
 pub mod Run

@@ -11,15 +11,15 @@ use Rattle.jwalk.specs.declared.crew.Crew.{Crew}
 use Rattle.jwalk_ignore.specs.jwalk_ignore_rules.declared.rules.texts.Texts as Texts
 use Rattle.jwalk_ignore.specs.declared.callback.excluding.Excluding.{Excluding}
 use Rattle.jwalk_ignore.specs.declared.callback.states.RulesState.{RulesState}
-use Rattle.program_parts.specs.Refusal.{status_of}
 use Rattle.program_parts.specs.Values.{texts_of}
-use Rattle.program_parts.specs.declared.refusal.CommonRefusal.{CommonRefusal}
 use Rattle.program_walks.specs.Crew.{CrewCallsOf, IsCrewOf, threads_in}
 use Rattle.tally_words.specs.AsksFor.{AskFor, AskForText}
-use Rattle.tally_words.specs.Refusal.{IsRefusedFor}
+use Rattle.tally_words.specs.Refusal.{IsRefusedFor, status_of}
+use Rattle.tally_words.specs.declared.refusal.Refusal.{Refusal}
 use Rattle.tally_words.specs.declared.asked.Asked.{Asked}
 use Rattle.tally_run.specs.Counting.{is_clean}
 use Rattle.tally_run.specs.Counts.{AreFixed}
+use Rattle.tally_run.specs.ExcludeFiles.{IncludesFiles}
 use Rattle.tally_run.specs.Roots.{AreSuch, KeepsFirst, all_rows, all_subtotals}
 use Rattle.tally_run.specs.Walks.{counted_below, subtotals_asked}
 use Rattle.tally_run.specs.Written.{Writes}
@@ -29,7 +29,7 @@ use Rattle.tally_run.specs.declared.screen.Screen.{Screen}
 
 -- There is nothing to count for this reason, and the call ends with its status; where a text is asked for, with 0, or with 1 if it can't be written.
 pub record EndsUncounted (words : List (List ℕ)) (status : ℕ) : Type 0 where
-  pub refusal : CommonRefusal
+  pub refusal : Refusal
   pub is_for : IsRefusedFor words refusal
   pub refused : 0 < status_of refusal → status ≡ status_of refusal
   pub text : status_of refusal ≡ 0 → status ≤ 1
@@ -55,9 +55,15 @@ module _ {T Z X C E G H F : Type 0} (files : FileSystem.Ghosts Z) (rules : Texts
     pub tells : clean ≡ list_all is_clean (all_subtotals (subtotals_asked asked) [] answered)
     pub written : Writes asked screen (all_rows asked [] counted answered) before after
 
+  -- The same, where the lines of the files that are named come before those of the call.
+  pub record WritesIncluding (disk : Z) (texts : X) (cores : ℕ) (screen : Screen) (asked : Asked) (before after : Option (List ℕ)) (clean : Bool) : Type 0 where
+    pub all : Asked
+    pub included : IncludesFiles rules texts asked all
+    pub writes : WritesAsked disk texts cores screen all before after clean
+
   -- The words ask for something to be counted, and what is asked for is written. It is known whether some of it is an error.
   abbrev pub Counts : Z → X → ℕ → Screen → List (List ℕ) → Option (List ℕ) → Option (List ℕ) → Bool → Type 0
-  Counts disk texts cores screen words before after clean = (asked : Asked) × AskFor words asked × WritesAsked disk texts cores screen asked before after clean
+  Counts disk texts cores screen words before after clean = (asked : Asked) × AskFor words asked × WritesIncluding disk texts cores screen asked before after clean
 
   -- A call whose status is 0 wrote what is asked for, and none of it is an error; or it was asked for a text.
   abbrev pub IsDone : Z → X → ℕ → Screen → List (List ℕ) → Option (List ℕ) → Option (List ℕ) → Type 0

@@ -1,5 +1,5 @@
 -- What is written of results.
-use Rattle.std.specs.Prelude.{◌≡◌, ℕ, Bool, true, false, List, [], ◌∷◌, ◌++◌, map, flat_map, Option, None, Some, if◌then◌else◌}
+use Rattle.std.specs.Prelude.{◌≡◌, ℕ, Bool, true, false, List, [], ◌∷◌, ◌++◌, map, filter, flat_map, Option, None, Some, if◌then◌else◌}
 use Rattle.std.specs.Io.KnownBytes.{Appends}
 use Rattle.program_parts.specs.declared.paths.Style.{Style}
 use Rattle.serde_json.specs.Data.{array}
@@ -16,9 +16,10 @@ use Rattle.tally_words.specs.declared.form.Form.{Form}
 use Rattle.tally_words.specs.declared.form.Form.TheVariants as form
 use Rattle.tally_words.specs.declared.unit.Unit.{Unit}
 use Rattle.tally_words.specs.declared.unit.Unit.TheVariants as unit
-use Rattle.tally_run.specs.Results.{ArePushed, Row, gathered_of, lines_text, scale_of, style_of}
+use Rattle.tally_run.specs.Results.{ArePushed, Row, TakesInto, gathered_of, is_row_large, lines_text, scale_of, style_of, sum_rows, total_of}
 use Rattle.tally_run.specs.declared.results.Results.{Results}
-use Rattle.tally_run.specs.declared.results.Results.TheVariants as results
+use Rattle.tally_run.specs.declared.results.Shape.{Shape}
+use Rattle.tally_run.specs.declared.results.Shape.TheVariants as shapes
 use Rattle.tally_run.specs.declared.screen.Screen.{Screen}
 
 -- whether results are lines
@@ -74,21 +75,36 @@ abbrev pub trees_text : Asked → Screen → List Node → List ℕ
 trees_text asked screen trees = trees_as asked.form asked screen trees
 
 -- There are no results yet.
-abbrev pub AreNone : Asked → Screen → Results → Type 0
-AreNone asked screen (results.Lines lines) =
+abbrev pub AreNoneIn : Asked → Screen → Shape → Type 0
+AreNoneIn asked screen (shapes.Lines lines) =
     (are_lines asked.form ≡ true) × (gathered_of lines ≡ []) × (scale_of lines ≡ scale_asked asked) × (style_of lines ≡ style_asked asked screen)
-AreNone asked screen (results.Trees nodes) = (are_lines asked.form ≡ false) × (trees_of nodes ≡ []) × (largest_of nodes ≡ asked.largest)
+AreNoneIn asked screen (shapes.Trees nodes) = (are_lines asked.form ≡ false) × (trees_of nodes ≡ []) × (largest_of nodes ≡ asked.largest)
+
+-- The same, where nothing is added up yet.
+pub record AreNone (asked : Asked) (screen : Screen) (results : Results) : Type 0 where
+  pub shape : AreNoneIn asked screen results.shape
+  pub sizes : results.threshold ≡ asked.threshold
+  pub sum : results.total ≡ 0
 
 -- What is left of results is written.
-abbrev pub Finishes : Asked → Screen → Results → Option (List ℕ) → Option (List ℕ) → Type 0
-Finishes asked screen (results.Lines lines) before after = Appends before after (gathered_of lines)
-Finishes asked screen (results.Trees nodes) before after = Appends before after (trees_text asked screen (trees_of nodes))
+abbrev pub FinishesAs : Asked → Screen → Shape → Option (List ℕ) → Option (List ℕ) → Type 0
+FinishesAs asked screen (shapes.Lines lines) before after = Appends before after (gathered_of lines)
+FinishesAs asked screen (shapes.Trees nodes) before after = Appends before after (trees_text asked screen (trees_of nodes))
 
--- The lines of results are written, or the trees that they make.
-abbrev pub WritesAs : Bool → Asked → Screen → List Row → Option (List ℕ) → Option (List ℕ) → Type 0
-WritesAs true asked screen rows before after = Appends before after (lines_text (scale_asked asked) (style_asked asked screen) rows)
-WritesAs false asked screen rows before after = (trees : List Node) × ArePushed asked.largest rows [] trees × Appends before after (trees_text asked screen trees)
+-- The sum of all roots is taken, if it is asked for, and then what is left is written.
+pub record Finishes (asked : Asked) (screen : Screen) (results : Results) (before after : Option (List ℕ)) : Type 0 where
+  pub last : Shape
+  pub mid : Option (List ℕ)
+  pub takes : TakesInto None (sum_rows asked.total results.total) results.shape before last mid
+  pub rest : FinishesAs asked screen last mid after
 
--- Results are written as is asked for.
+-- The lines of results are written, or the trees that they make, but for those whose size isn't, and then the others.
+abbrev pub WritesAs : Bool → Asked → Screen → List Row → List Row → Option (List ℕ) → Option (List ℕ) → Type 0
+WritesAs true asked screen rows others before after =
+    Appends before after (lines_text (scale_asked asked) (style_asked asked screen) (filter (is_row_large asked.threshold) rows ++ others))
+WritesAs false asked screen rows others before after =
+    (trees : List Node) × (all : List Node) × ArePushed asked.threshold asked.largest rows [] trees × ArePushed None asked.largest others trees all × Appends before after (trees_text asked screen all)
+
+-- Results are written as is asked for, and the sum of all roots behind them, if it is asked for.
 abbrev pub Writes : Asked → Screen → List Row → Option (List ℕ) → Option (List ℕ) → Type 0
-Writes asked screen rows before after = WritesAs (are_lines asked.form) asked screen rows before after
+Writes asked screen rows before after = WritesAs (are_lines asked.form) asked screen rows (sum_rows asked.total (total_of rows)) before after

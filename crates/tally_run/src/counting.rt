@@ -55,7 +55,11 @@ fn take_error<A: Allocator + Copy, E: Write>(
     match error {
         SubtotalError::Walk(error) => {
             report_error(alloc, screen.shows_errors, &error, err)?;
-            if is_last { Err(Failure::Walk) } else { Ok(()) }
+            if is_last {
+                Err(Failure::Reported)
+            } else {
+                Ok(())
+            }
         }
         SubtotalError::TooMany => Err(Failure::TooMany),
         SubtotalError::Memory => Err(Failure::Halt(Halt::Memory)),

@@ -10,8 +10,8 @@ use std::io::Write;
 pub(crate) enum Failure {
     /// A number passes the greatest `u128`.
     TooMany,
-    /// A walk ended with an error, which was reported.
-    Walk,
+    /// An error, which was reported.
+    Reported,
     /// Memory ran out, or standard output can't be written.
     Halt(Halt),
 }
@@ -23,7 +23,7 @@ impl Failure {
             Failure::TooMany => {
                 let _ = writeln!(err, "tally: a total passes the greatest number");
             }
-            Failure::Walk => {}
+            Failure::Reported => {}
             Failure::Halt(halt) => halt.report("tally", err),
         }
     }

@@ -2,6 +2,7 @@
 #![tactic(auto)]
 
 mod counting;
+mod exclude_files;
 mod failure;
 mod followed_root;
 mod one_device;

@@ -5,6 +5,7 @@ ghost use Rattle.jwalk.specs.jwalk_job.Entry.{entry};
 use jwalk::{ClientState, DirEntry, Error};
 use program_parts::masked::masked;
 use std::alloc::{AllocError, Allocator, Global};
+use std::fmt::Display;
 use std::io::Write;
 
 /// Writes a line to standard error. If that is a terminal, control characters in it are question marks. If it can't be
@@ -88,5 +89,17 @@ pub(crate) fn report_root<E: Write>(
     err: &mut E,
 ) -> Result<(), AllocError> {
     let line = format!(in alloc; "tally: {root}: left out, below an earlier root")?;
+    write_line(alloc, to_terminal, line.as_str(), err)
+}
+
+/// Reports why a file of excludes can't be used.
+pub(crate) fn report_file<D: Display, E: Write>(
+    alloc: Global,
+    to_terminal: bool,
+    path: &str,
+    why: &D,
+    err: &mut E,
+) -> Result<(), AllocError> {
+    let line = format!(in alloc; "tally: {path}: {why}")?;
     write_line(alloc, to_terminal, line.as_str(), err)
 }

@@ -2,13 +2,14 @@
 ghost use Rattle.std.specs.Prelude.{◌≡◌, ◌<◌, ◌≤◌, ◌⊎◌, true, flat_map, map, string_bytes, Ok, IfOk, OnOk};
 ghost use Rattle.std.specs.Io.KnownBytes.{Appends};
 ghost use Rattle.tally_text.specs.Nodes.{trees_of};
-ghost use Rattle.tally_run.specs.Run.{Ends, IsDone, WritesAsked};
+ghost use Rattle.tally_run.specs.Run.{Ends, IsDone, WritesAsked, WritesIncluding};
 ghost use Rattle.tally_run.specs.Written.{are_lines, scale_asked, separator_of, style_asked, table_of, width_of};
-ghost use Rattle.tally_run.specs.Written.{document_text, trees_text, AreNone, Finishes};
+ghost use Rattle.tally_run.specs.Written.{document_text, trees_text, AreNone, AreNoneIn, Finishes, FinishesAs};
 
+use crate::exclude_files::{texts_at, with_texts};
 use crate::failure::Failure;
 use crate::progress::{Progress, Report};
-use crate::results::{Lines, Results};
+use crate::results::{Lines, Results, Shape};
 use crate::screen::Screen;
 use crate::walks::{HonouringWalk, PlainWalk, Walks};
 use jwalk::Host;
@@ -17,7 +18,7 @@ use jwalk_ignore::texts::Texts;
 use program_parts::gathered::Gathered;
 use program_parts::halt::Halt;
 use program_parts::paths::Style;
-use program_parts::refusal::{RefusalBy, refuse};
+use program_parts::refusal::refuse;
 use std::alloc::{AllocError, Global};
 use std::io::Write;
 use tally_text::document::document;
@@ -74,14 +75,24 @@ fn style_of(asked: &Asked<'_>, screen: Screen) -> Style
     }
 }
 
-fn results_of(alloc: Global, asked: &Asked<'_>, screen: Screen) -> Result<Results, AllocError>
-    ensures { IfOk result (AreNone asked.now screen) }
+fn shape_of(alloc: Global, asked: &Asked<'_>, screen: Screen) -> Result<Shape, AllocError>
+    ensures { IfOk result (AreNoneIn asked.now screen) }
 {
     if are_lines(asked.form) {
         let lines = Lines::new(alloc, scale_of(asked), style_of(asked, screen))?;
-        return Ok(Results::Lines(lines));
+        return Ok(Shape::Lines(lines));
     }
-    Ok(Results::Trees(Nodes::new(alloc, asked.largest)))
+    Ok(Shape::Trees(Nodes::new(alloc, asked.largest)))
+}
+
+fn results_of(alloc: Global, asked: &Asked<'_>, screen: Screen) -> Result<Results, AllocError>
+    ensures { IfOk result (AreNone asked.now screen) }
+{
+    Ok(Results {
+        shape: shape_of(alloc, asked, screen)?,
+        threshold: asked.threshold,
+        total: 0,
+    })
 }
 
 /// Returns how wide the bars of a table may be, if it has some: those for a terminal do.
@@ -151,19 +162,33 @@ fn write_trees<W: Write>(
     Gathered { bytes }.finish(out)
 }
 
+fn finish_shape<W: Write>(
+    alloc: Global,
+    asked: &Asked<'_>,
+    screen: Screen,
+    shape: Shape,
+    out: &mut W,
+) -> Result<(), Halt>
+    ensures { OnOk result (FinishesAs asked.now screen shape (W.contents out.old) (W.contents out.new)) }
+{
+    match shape {
+        Shape::Lines(mut lines) => lines.finish(out),
+        Shape::Trees(nodes) => write_trees(alloc, asked, screen, nodes, out),
+    }
+}
+
 fn finish<W: Write>(
     alloc: Global,
     asked: &Asked<'_>,
     screen: Screen,
     results: Results,
     out: &mut W,
-) -> Result<(), Halt>
+) -> Result<(), Failure>
     ensures { OnOk result (Finishes asked.now screen results (W.contents out.old) (W.contents out.new)) }
 {
-    match results {
-        Results::Lines(mut lines) => lines.finish(out),
-        Results::Trees(nodes) => write_trees(alloc, asked, screen, nodes, out),
-    }
+    let shape = results.with_total(alloc, asked.total, out)?;
+    finish_shape(alloc, asked, screen, shape, out)?;
+    Ok(())
 }
 
 /// Returns whether a line tells how far the call is: on a terminal, unless lines of results are written to one meanwhile.
@@ -172,7 +197,7 @@ fn tells(asked: &Asked<'_>, screen: Screen) -> bool {
 }
 
 /// Returns whether there was no error.
-fn tally<
+fn tally_all<
     T: Host,
     S: FileSystem + Send + Sync + 'static,
     X: Texts + Send + Sync + 'static,
@@ -198,6 +223,33 @@ fn tally<
     err.wipe();
     finish(alloc, asked, screen, results, out)?;
     Ok(clean)
+}
+
+/// Counts as is asked for, where lines of files that are named come before those of the call. Returns whether there was no
+/// error.
+fn tally<
+    T: Host,
+    S: FileSystem + Send + Sync + 'static,
+    X: Texts + Send + Sync + 'static,
+    W: Write,
+    E: Report,
+>(
+    rt: &T,
+    alloc: Global,
+    cores: usize,
+    disk: S,
+    texts: X,
+    asked: Asked<'_>,
+    screen: Screen,
+    out: &mut W,
+    err: &mut E,
+) -> Result<bool, Failure>
+    ensures { IfOk result (WritesIncluding S.FileSystem X.Texts ⟦<PlainWalk<T, S> as Iterator>⟧.next_gives
+        ⟦<HonouringWalk<T, S, X> as Iterator>⟧.next_gives disk texts cores screen asked (W.contents out.old) (W.contents out.new)) }
+{
+    let read = texts_at(alloc, &texts, screen, asked.exclude_files.as_slice(), err)?;
+    let asked = with_texts(alloc, asked, read.as_slice())?;
+    tally_all(rt, alloc, cores, disk, texts, &asked, screen, out, err)
 }
 
 /// What ended the call before its end is reported.
@@ -247,19 +299,21 @@ pub fn run<
     match read_words(alloc, words) {
         Ok(asked) => {
             let mut told = Progress::new(rt, err, tells(&asked, screen));
-            let ended = tally(
-                rt, alloc, cores, disk, texts, &asked, screen, out, &mut told,
-            );
+            let ended = tally(rt, alloc, cores, disk, texts, asked, screen, out, &mut told);
             told.wipe();
             status_of(ended, err)
         }
         Err(refusal) => {
-            let named = RefusalBy {
-                program: "tally",
-                refusal: &refusal,
-            };
             let status = refusal.status();
-            refuse(alloc, Some(screen.width), "tally", &named, status, out, err)
+            refuse(
+                alloc,
+                Some(screen.width),
+                "tally",
+                &refusal,
+                status,
+                out,
+                err,
+            )
         }
     }
 }

@@ -61,3 +61,9 @@ pub record IsPushed (largest : Option ℕ) (depth : ℕ) (name : List ℕ) (numb
   pub name_is : string_bytes (out-Node node).name ≡ name
   pub numbers_are : (out-Node node).numbers ≡ numbers
   pub has : HasChildren largest (drop first old) node
+
+-- An entry is left out, and the deeper trees at the end with it.
+pub record IsLeftOut (depth : ℕ) (old all : List Node) : Type 0 where
+  pub first : ℕ
+  pub is_first : IsFirstDeeper old depth first
+  pub trees : all ≡ take first old

@@ -1,6 +1,6 @@
 //! Trees of results, made of lines in which children come before their parents.
 ghost use Rattle.std.specs.Prelude.{◌≡◌, [], string_bytes, take, drop, OnOk};
-ghost use Rattle.tally_text.specs.Nodes.{trees_of, largest_of, kept_of, rest_of, AreBySize, IsFirstDeeper, IsPushed};
+ghost use Rattle.tally_text.specs.Nodes.{trees_of, largest_of, kept_of, rest_of, AreBySize, IsFirstDeeper, IsLeftOut, IsPushed};
 
 use crate::node::Node;
 use crate::numbers::Numbers;
@@ -97,6 +97,15 @@ impl Nodes {
             rest,
         })?;
         Ok(())
+    }
+
+    /// Leaves out an entry of this depth, and what is in it: the deeper trees at the end.
+    pub fn leave_out(&mut self, depth: usize)
+        ensures left_out { IsLeftOut depth (trees_of self.old) (trees_of self.new) }
+        ensures largest { largest_of self.new ≡ largest_of self.old }
+    {
+        let first = first_deeper(self.trees.as_slice(), depth);
+        self.trees.truncate(first);
     }
 
     /// Returns the trees.

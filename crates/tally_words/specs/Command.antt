@@ -3,16 +3,21 @@ use Rattle.std.specs.Prelude.{ℕ, true, List, [], ◌∷◌, codes, Some}
 use Rattle.clap.specs.Simple.{new_shape}
 use Rattle.clap.specs.Words.{App, Rule, Text, new_app, new_rule}
 use Rattle.clap.specs.declared.builder.action.ArgAction.TheVariants.{Help}
-use Rattle.program_parts.specs.Rules.{with_rules, flag_rule, long_flag_rule, listed_rule, number_rule, threads_rule, root_rule}
+use Rattle.program_parts.specs.Rules.{with_rules, flag_rule, long_flag_rule, listed_rule, valued_rule, number_rule, threads_rule, root_rule}
 
 -- an option with a number, and with a letter
 abbrev pub limit_rule : Text → ℕ → Rule
 limit_rule id letter = record (number_rule id) { short = Some letter }
 
+-- the size that results have at least, or at most
+abbrev pub threshold_rule : Rule
+threshold_rule = record (valued_rule (codes "threshold")) { short = Some 116 }
+
 -- which results are written
 abbrev pub shown_rules : List Rule
 shown_rules =
-    limit_rule (codes "max-depth") 100 ∷ flag_rule (codes "all") 97 ∷ limit_rule (codes "largest") 110 ∷ flag_rule (codes "summarize") 115 ∷ []
+    limit_rule (codes "max-depth") 100 ∷ flag_rule (codes "all") 97 ∷ limit_rule (codes "largest") 110 ∷ flag_rule (codes "summarize") 115
+    ∷ flag_rule (codes "total") 99 ∷ threshold_rule ∷ []
 
 -- how they are written
 abbrev pub form_rules : List Rule
@@ -27,7 +32,8 @@ unit_rules =
 -- what counts
 abbrev pub counted_rules : List Rule
 counted_rules =
-    long_flag_rule (codes "apparent") ∷ flag_rule (codes "count-links") 108 ∷ long_flag_rule (codes "exclude-hidden") ∷ listed_rule (codes "exclude") 69 ∷ long_flag_rule (codes "ignore") ∷ []
+    long_flag_rule (codes "apparent") ∷ flag_rule (codes "count-links") 108 ∷ long_flag_rule (codes "exclude-hidden") ∷ listed_rule (codes "exclude") 69
+    ∷ listed_rule (codes "exclude-from") 88 ∷ long_flag_rule (codes "ignore") ∷ []
 
 -- the word for help, which has no letter
 abbrev pub help_rule : Rule

@@ -33,6 +33,10 @@ has_unit_conflict rows =
     if is_named rows (codes "human-readable") then is_named rows (codes "si") || asks_fixed_unit rows
     else if is_named rows (codes "si") then asks_fixed_unit rows else has_fixed_conflict rows
 
+-- whether JSON is asked for, and the sum of all roots
+abbrev pub has_sum_conflict : List Row → Bool
+has_sum_conflict rows = is_named rows (codes "json") && is_named rows (codes "total")
+
 -- whether two options exclude each other
 abbrev pub has_conflict : List Row → Bool
-has_conflict rows = has_form_conflict rows || (has_total_conflict rows || has_unit_conflict rows)
+has_conflict rows = has_form_conflict rows || (has_sum_conflict rows || (has_total_conflict rows || has_unit_conflict rows))

@@ -1,4 +1,5 @@
 pub mod Command
+pub mod Threshold
 pub mod Asks
 pub mod Conflict
 pub mod AsksFor

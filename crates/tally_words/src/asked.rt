@@ -1,5 +1,6 @@
 //! What a call asks for.
 use crate::form::Form;
+use crate::threshold::Threshold;
 use crate::unit::Unit;
 use std::alloc::Global;
 
@@ -16,6 +17,10 @@ pub struct Asked<'w> {
     pub all: bool,
     /// How many entries of each directory are written, the largest ones, if a number was named.
     pub largest: Option<usize>,
+    /// The sum of all roots is written, too.
+    pub total: bool,
+    /// Which sizes are written, if not all.
+    pub threshold: Option<Threshold>,
     /// The unit of sizes, if one was named.
     pub unit: Option<Unit>,
     /// The length of an entry counts, and not what is allocated for it.
@@ -34,6 +39,8 @@ pub struct Asked<'w> {
     pub exclude_hidden: bool,
     /// Lines of an ignore file. What they leave out doesn't count.
     pub excludes: Vec<&'w str, Global>,
+    /// Files of such lines, which come before those.
+    pub exclude_files: Vec<&'w str, Global>,
     /// What ignore files leave out doesn't count.
     pub ignore: bool,
 }

@@ -5,7 +5,9 @@ ghost use Rattle.program_parts.specs.Rules.{root_rule, with_rules, HaveRules};
 ghost use Rattle.tally_words.specs.Command.{named_app, shown_rules, form_rules, unit_rules, counted_rules, walked_rules, help_rule, tally_app};
 
 use clap::{Arg, ArgAction, Command};
-use program_parts::options::{flag, listed, long_flag, number, root_option, threads_option};
+use program_parts::options::{
+    flag, listed, long_flag, number, root_option, threads_option, valued,
+};
 use program_parts::version::VERSION;
 use std::alloc::{AllocError, Global};
 
@@ -37,6 +39,14 @@ fn shown_options<'a>(alloc: Global) -> Result<Vec<Arg<'a>>, AllocError>
             's',
             "Write the total of each root alone"
         ),
+        flag(alloc, "total", 'c', "Write the sum of all roots last"),
+        valued(
+            alloc,
+            "threshold",
+            "SIZE",
+            "Leave out what is smaller than SIZE, or with a - in front of it what is larger"
+        )
+        .short('t'),
     ]?)
 }
 
@@ -111,6 +121,13 @@ fn counted_options<'a>(alloc: Global) -> Result<Vec<Arg<'a>>, AllocError>
             'E',
             "LINE",
             "Leave out what this line of an ignore file names"
+        ),
+        listed(
+            alloc,
+            "exclude-from",
+            'X',
+            "FILE",
+            "Leave out what the lines of this file name"
         ),
         long_flag(alloc, "ignore", "Leave out what ignore files name"),
     ]?)

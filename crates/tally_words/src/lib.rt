@@ -4,5 +4,7 @@
 pub mod asked;
 mod command;
 pub mod form;
+pub mod refusal;
+pub mod threshold;
 pub mod unit;
 pub mod words;

@@ -1,14 +1,16 @@
 //! What words ask for.
-ghost use Rattle.std.specs.Prelude.{◌≡◌, is_some, map, IfOk, IfErr};
-ghost use Rattle.clap.specs.Words.{found_of, rows_of};
-ghost use Rattle.tally_words.specs.Asks.{form_in, unit_in, IsDepthIn, Asks};
+ghost use Rattle.std.specs.Prelude.{◌≡◌, codes, is_some, map, option_map, IfOk, IfErr};
+ghost use Rattle.clap.specs.Words.{found_of, rows_of, first_of};
+ghost use Rattle.tally_words.specs.Asks.{form_in, unit_in, IsDepthIn, IsThresholdIn, Asks};
 ghost use Rattle.tally_words.specs.AsksFor.{AskFor};
-ghost use Rattle.tally_words.specs.Conflict.{asks_fixed_unit, asks_lines, has_fixed_conflict, has_form_conflict, has_total_conflict, has_unit_conflict, has_conflict};
-ghost use Rattle.tally_words.specs.Refusal.{IsRefusedFor};
+ghost use Rattle.tally_words.specs.Conflict.{asks_fixed_unit, asks_lines, has_fixed_conflict, has_form_conflict, has_sum_conflict, has_total_conflict, has_unit_conflict, has_conflict};
+ghost use Rattle.tally_words.specs.Refusal.{IsRefusedFor, IsRefusedSize};
 
 use crate::asked::Asked;
 use crate::command::command;
 use crate::form::Form;
+use crate::refusal::Refusal;
+use crate::threshold::Threshold;
 use crate::unit::Unit;
 use clap::ArgMatches;
 use program_parts::refusal::CommonRefusal;
@@ -60,17 +62,44 @@ fn unit_of(found: &ArgMatches<'_>) -> Option<Unit>
     }
 }
 
-fn asked_of<'w>(alloc: Global, found: &ArgMatches<'w>) -> Result<Asked<'w>, AllocError>
+fn value_of<'w>(found: &ArgMatches<'w>, id: &str) -> Option<&'w str>
+    ensures { option_map (λ it. it.now) result ≡ first_of id.now (rows_of (found_of found.now)) }
+{
+    found.get_str(id)
+}
+
+fn threshold_named<'w>(found: &ArgMatches<'w>) -> Result<Option<Threshold>, Refusal<'w>>
+    ensures threshold { IfOk result (IsThresholdIn (first_of (codes "threshold") (rows_of (found_of found.now)))) }
+    ensures refused { IfErr result (IsRefusedSize (first_of (codes "threshold") (rows_of (found_of found.now)))) }
+{
+    let Some(text) = value_of(found, "threshold") else {
+        return Ok(None);
+    };
+    match Threshold::read(text) {
+        Some(threshold) => Ok(Some(threshold)),
+        None => Err(Refusal::NoSize(text)),
+    }
+}
+
+fn asked_of<'w>(
+    alloc: Global,
+    found: &ArgMatches<'w>,
+    threshold: Option<Threshold>,
+) -> Result<Asked<'w>, AllocError>
+    requires { IsThresholdIn (first_of (codes "threshold") (rows_of (found_of found.now))) threshold }
     ensures { IfOk result (Asks (rows_of (found_of found.now))) }
 {
     let roots = values_of(alloc, found, "root")?;
     let excludes = values_of(alloc, found, "exclude")?;
+    let exclude_files = values_of(alloc, found, "exclude-from")?;
     Ok(Asked {
         roots,
         form: form_of(found),
         depth: depth_of(found),
         all: is_named(found, "all"),
         largest: number_of(found, "largest"),
+        total: is_named(found, "total"),
+        threshold,
         unit: unit_of(found),
         apparent: is_named(found, "apparent"),
         each_name: is_named(found, "count-links"),
@@ -80,6 +109,7 @@ fn asked_of<'w>(alloc: Global, found: &ArgMatches<'w>) -> Result<Asked<'w>, Allo
         threads: number_of(found, "threads"),
         exclude_hidden: is_named(found, "exclude-hidden"),
         excludes,
+        exclude_files,
         ignore: is_named(found, "ignore"),
     })
 }
@@ -108,6 +138,17 @@ fn form_conflict(found: &ArgMatches<'_>) -> Option<(&'static str, &'static str)>
         Some(lines) if largest => Some(("largest", lines)),
         None if json && largest => Some(("json", "largest")),
         _ => None,
+    }
+}
+
+/// Returns two options of which one is for JSON, and one for the sum of all roots.
+fn sum_conflict(found: &ArgMatches<'_>) -> Option<(&'static str, &'static str)>
+    ensures { is_some result ≡ has_sum_conflict (rows_of (found_of found.now)) }
+{
+    if is_named(found, "json") && is_named(found, "total") {
+        Some(("json", "total"))
+    } else {
+        None
     }
 }
 
@@ -184,6 +225,9 @@ fn conflict_of(found: &ArgMatches<'_>) -> Option<(&'static str, &'static str)>
     if let Some(both) = form_conflict(found) {
         return Some(both);
     }
+    if let Some(both) = sum_conflict(found) {
+        return Some(both);
+    }
     match total_conflict(found) {
         Some(both) => Some(both),
         None => unit_conflict(found),
@@ -194,14 +238,16 @@ fn conflict_of(found: &ArgMatches<'_>) -> Option<(&'static str, &'static str)>
 ///
 /// # Errors
 ///
-/// If the words are bad or ask for help or the version; if two options exclude each other; or if memory runs out.
-pub fn read_words<'w, S: AsStr>(alloc: Global, words: &'w [S]) -> Result<Asked<'w>, CommonRefusal>
+/// If the words are bad or ask for help or the version; if two options exclude each other; if a size is bad; or if memory
+/// runs out.
+pub fn read_words<'w, S: AsStr>(alloc: Global, words: &'w [S]) -> Result<Asked<'w>, Refusal<'w>>
     ensures asked { IfOk result (AskFor (map S.text words.entry.now)) }
     ensures refused { IfErr result (IsRefusedFor (map S.text words.entry.now)) }
 {
     let found = matches_of(command(alloc)?, words)?;
-    match conflict_of(&found) {
-        Some((one, other)) => Err(CommonRefusal::Conflict(one, other)),
-        None => Ok(asked_of(alloc, &found)?),
+    if let Some((one, other)) = conflict_of(&found) {
+        return Err(Refusal::Common(CommonRefusal::Conflict(one, other)));
     }
+    let threshold = threshold_named(&found)?;
+    Ok(asked_of(alloc, &found, threshold)?)
 }

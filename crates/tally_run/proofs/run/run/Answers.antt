@@ -1,7 +1,5 @@
 use Rattle.std.proofs.Common.{true, inl, inr, map, string_bytes}
-use Rattle.program_parts.proofs.RefusalFacts.{text_asked}
-use Rattle.tally_words.specs.Command.{tally_app}
-use Rattle.tally_words.specs.Conflict.{has_conflict}
+use Rattle.tally_words.proofs.RefusalFacts.{text_asked}
 use Rattle.tally_run.proofs.RootFacts.{ok_known}
 use Rattle.tally_run.proofs.run.run.Goals as goal
 
@@ -20,4 +18,4 @@ returns-in-Err-clause-ends g c = inr (record {
 })
 
 pub returns-in-Err-clause-done : goal.returns-in-Err-clause-done
-returns-in-Err-clause-done g c = λ none. inl (text_asked tally_app has_conflict (map string_bytes c.args.words.now) _ _ c.in-Err.ensures.refused (rw c.status-status.ensures at c.refuse.ensures.refused) none)
+returns-in-Err-clause-done g c = λ none. inl (text_asked (map string_bytes c.args.words.now) _ _ c.in-Err.ensures.refused (rw c.status-status.ensures at c.refuse.ensures.refused) none)

@@ -1,5 +1,5 @@
 use Rattle.tally_run.proofs.WrittenFacts.{asked_written}
-use Rattle.tally_run.proofs.run.tally.Goals as goal
+use Rattle.tally_run.proofs.run.tally_all.Goals as goal
 
 pub returns : goal.returns
 returns g c =

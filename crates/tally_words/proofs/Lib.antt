@@ -1,0 +1,2 @@
+pub mod ThresholdFacts
+pub mod RefusalFacts
