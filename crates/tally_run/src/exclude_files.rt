@@ -76,7 +76,7 @@ pub(crate) fn with_texts<'w>(
     asked: Asked<'w>,
     read: &'w [String],
 ) -> Result<Asked<'w>, AllocError>
-    ensures { IfOk result (Includes asked (map string_bytes read.entry.now)) }
+    ensures { IfOk result (Includes asked.entry (map string_bytes read.entry.now)) }
 {
     let mut excludes = Vec::new(alloc);
     for text in read {

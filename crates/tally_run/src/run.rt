@@ -245,7 +245,7 @@ fn tally<
     err: &mut E,
 ) -> Result<bool, Failure>
     ensures { IfOk result (WritesIncluding S.FileSystem X.Texts ⟦<PlainWalk<T, S> as Iterator>⟧.next_gives
-        ⟦<HonouringWalk<T, S, X> as Iterator>⟧.next_gives disk texts cores screen asked (W.contents out.old) (W.contents out.new)) }
+        ⟦<HonouringWalk<T, S, X> as Iterator>⟧.next_gives disk texts cores screen asked.entry (W.contents out.old) (W.contents out.new)) }
 {
     let read = texts_at(alloc, &texts, screen, asked.exclude_files.as_slice(), err)?;
     let asked = with_texts(alloc, asked, read.as_slice())?;
