@@ -1,5 +1,5 @@
 -- Results that are taken one after another.
-use Rattle.std.proofs.Common.{◌≡◌, ◌∙◌, ◌+◌, ℕ, Bool, true, false, List, [], ◌∷◌, ◌++◌, append-nil, add-zero, Option, None, Some, ap, refl, sym, subst, arith}
+use Rattle.std.proofs.Common.{◌≡◌, ◌∙◌, ◌+◌, ℕ, Bool, true, false, List, [], ◌∷◌, ◌++◌, append-nil, add-zero, Option, None, ap, refl, sym, subst, arith}
 use Rattle.std.specs.Prelude.{cond, filter}
 use Rattle.std.specs.Io.KnownBytes.{Appends, append_known}
 use Rattle.std.proofs.KnownBytes.{Appends-nil, Appends-trans}
@@ -11,7 +11,7 @@ use Rattle.tally_words.specs.declared.threshold.Threshold.{Threshold}
 use Rattle.tally_text.specs.Nodes.{IsLeftOut, IsPushed, largest_of, trees_of}
 use Rattle.tally_text.specs.declared.node.Node.{Node}
 use Rattle.tally_text.specs.declared.scale.Scale.{Scale}
-use Rattle.tally_run.specs.Results.{ArePushed, IsPut, LeavesOut, Row, Takes, TakesInto, gathered_of, is_row_large, lines_text, numbers_of, root_bytes, row_line, scale_of, style_of, total_of}
+use Rattle.tally_run.specs.Results.{ArePushed, IsPut, LeavesOut, Row, Takes, TakesInto, gathered_of, is_row_large, lines_text, numbers_of, root_bytes, row_line, scale_of, style_of}
 use Rattle.tally_run.specs.declared.results.Results.{Results}
 use Rattle.tally_run.specs.declared.results.Shape.{Shape}
 use Rattle.tally_run.specs.declared.results.Shape.TheVariants as shapes

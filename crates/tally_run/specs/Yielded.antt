@@ -1,5 +1,5 @@
 -- The answers of the walks that a call counts, whatever the disk and the texts return.
-use Rattle.std.specs.Prelude.{◌≡◌, ℕ, ◌==◌, Bool, ◌&&◌, ◌||◌, not, true, false, List, Option, None, Some, Result, Ok, Err, is_some, MatchBool, if◌then◌else◌}
+use Rattle.std.specs.Prelude.{◌≡◌, ℕ, ◌==◌, Bool, ◌&&◌, ◌||◌, not, false, List, Option, None, Some, Result, Ok, Err, is_some, MatchBool, if◌then◌else◌}
 use Rattle.std.specs.Arc.{arc_value}
 use Rattle.std.specs.Iterator.{Drains}
 use Rattle.std.specs.declared.io.ErrorKind.{ErrorKind}

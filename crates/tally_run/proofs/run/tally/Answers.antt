@@ -11,9 +11,9 @@ returns g c =
         read = map string_bytes c.as_slice-2.result.now;
         included = c.in_ok-asked.ensures;
         whole = λ fixed.
-          ap (λ l. map ((g.X.Texts.functions c.args.texts).bytes_of) (texts_of l)) (sym c.as_slice.ensures.value)
-          ∙ c.in_ok-read.ensures fixed
-          ∙ ap (λ l. map Ok (map string_bytes l)) (sym c.as_slice-2.ensures.value);
+            ap (λ l. map ((g.X.Texts.functions c.args.texts).bytes_of) (texts_of l)) (sym c.as_slice.ensures.value)
+            ∙ c.in_ok-read.ensures fixed
+            ∙ ap (λ l. map Ok (map string_bytes l)) (sym c.as_slice-2.ensures.value);
       };
       writes = writes;
     }) c.tally_all.ensures
