@@ -1,0 +1,36 @@
+-- What the words of a call ask for.
+use Rattle.std.specs.Prelude.{◌≡◌, ℕ, List, [], codes, option_map, unwrap_or}
+use Rattle.std.specs.Borrow.{Bor}
+use Rattle.clap.specs.Words.{Row, Text, first_of, one_of}
+use Rattle.program_parts.specs.Matches.{GiveValues}
+use Rattle.program_parts.specs.Refusal as refusal
+use Rattle.program_parts.specs.Values.{is_named, IsNumberOf}
+use Rattle.since_words.specs.Command.{since_app}
+use Rattle.since_words.specs.declared.asked.Asked.{Asked}
+
+abbrev pub text_in : Bor (List ℕ) → List ℕ
+text_in t = t.now
+
+-- the word for the file
+abbrev pub file_in : List Row → List ℕ
+file_in rows = unwrap_or (first_of (codes "file") rows) []
+
+-- What is asked for by the values that options were given.
+pub record Asks (rows : List Row) (asked : Asked) : Type 0 where
+  pub file : asked.file.now ≡ file_in rows
+  pub root : option_map text_in asked.root ≡ first_of (codes "root") rows
+  pub save : asked.save ≡ is_named rows (codes "save")
+  pub long : asked.long ≡ is_named rows (codes "long")
+  pub print0 : asked.print0 ≡ is_named rows (codes "print0")
+  pub quiet : asked.quiet ≡ is_named rows (codes "quiet")
+  pub threads : IsNumberOf (one_of (codes "threads") rows) asked.threads
+
+-- The words ask for this: they are those of the command line, and what is asked for is what the values say.
+pub record AskFor (words : List Text) (asked : Asked) : Type 0 where
+  pub rows : List Row
+  pub values : GiveValues since_app words rows
+  pub asks : Asks rows asked
+
+-- The words ask for help or for the version.
+abbrev pub AskForText : List Text → Type 0
+AskForText = refusal.AskForText since_app

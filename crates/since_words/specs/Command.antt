@@ -1,0 +1,30 @@
+-- The command line.
+use Rattle.std.specs.Prelude.{true, List, [], ◌∷◌, codes}
+use Rattle.clap.specs.Simple.{new_shape}
+use Rattle.clap.specs.Words.{App, Rule, new_app, new_rule}
+use Rattle.program_parts.specs.Rules.{with_rules, flag_rule, long_flag_rule, threads_rule}
+
+-- the file, which has to be named
+abbrev pub file_rule : Rule
+file_rule = record (new_rule (codes "file")) { value_names = 1; required = true }
+
+-- the root
+abbrev pub tree_rule : Rule
+tree_rule = record (new_rule (codes "root")) { value_names = 1 }
+
+-- the words that are no options
+abbrev pub place_rules : List Rule
+place_rules = file_rule ∷ tree_rule ∷ []
+
+-- the options
+abbrev pub option_rules : List Rule
+option_rules =
+    long_flag_rule (codes "save") ∷ flag_rule (codes "long") 108 ∷ flag_rule (codes "print0") 48 ∷ flag_rule (codes "quiet") 113 ∷ threads_rule ∷ []
+
+-- the command with its name and its version
+abbrev pub named_app : App
+named_app = record (new_app (codes "since")) { top = record (new_shape (codes "since")) { has_version = true } }
+
+-- the command line of the program
+abbrev pub since_app : App
+since_app = with_rules (with_rules named_app place_rules) option_rules
