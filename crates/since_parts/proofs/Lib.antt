@@ -1,0 +1,3 @@
+mod FoundFacts
+mod SavedFacts
+mod TreeFacts

@@ -1,0 +1,36 @@
+-- The snapshot of what a walk finds.
+use Rattle.std.specs.Prelude.{◌≡◌, ℕ, Bool, true, false, not, ◌&&◌, ◌||◌, List, [], ◌∷◌, is_some, string_bytes}
+use Rattle.std.specs.declared.alloc.Global.{Global}
+use Rattle.jwalk_changes.specs.declared.entry.Kept.{Kept}
+use Rattle.jwalk_changes.specs.declared.facts.Facts.{Facts}
+use Rattle.jwalk_changes.specs.Facts.{is_any, which}
+use Rattle.jwalk_snapshot.specs.Text.{Content, IsSnapshot, text_of}
+use Rattle.since_parts.specs.Held.{HoldsAll}
+
+-- whether what is known of an entry that was found is known of one that is kept
+abbrev pub keeps : Facts → Facts → Bool
+keeps kept found =
+    (is_some kept.len || not (is_some found.len)) && ((is_some kept.modified || not (is_some found.modified)) && (is_some kept.inode || not (is_some found.inode)))
+
+-- An entry that is kept has the path of one that was found, and no fact that counts differs.
+pub record IsSame (kept found : Kept Global) : Type 0 where
+  pub path : string_bytes kept.path ≡ string_bytes found.path
+  pub equal : is_any (which kept.facts found.facts) ≡ false
+  pub known : keeps kept.facts found.facts ≡ true
+
+-- All that was found is kept, one after another, and nothing else.
+abbrev pub AreSame : List (Kept Global) → List (Kept Global) → Type 0
+AreSame [] [] = Unit {0}
+AreSame [] (b ∷ found) = ⊥
+AreSame (a ∷ kept) [] = ⊥
+AreSame (a ∷ kept) (b ∷ found) = IsSame a b × AreSame kept found
+
+-- This is the text of a snapshot below an absolute root, which keeps these entries.
+pub record IsTextOf (absolute : List ℕ) (entries : List (Kept Global)) (text : List ℕ) : Type 0 where
+  pub content : Content
+  pub is_one : IsSnapshot content
+  pub below : content.call.absolute ≡ absolute
+  pub has : text ≡ text_of content
+  pub kept : List (Kept Global)
+  pub holds : HoldsAll true content kept
+  pub same : AreSame kept entries
