@@ -1,0 +1,2 @@
+mod FindFacts
+mod RunFacts

@@ -1,0 +1,4 @@
+pub mod Crew
+pub mod Walks
+pub mod Run
+pub mod Done

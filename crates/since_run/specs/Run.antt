@@ -1,0 +1,58 @@
+-- The steps of a call.
+use Rattle.std.specs.Prelude.{◌≡◌, ℕ, Bool, true, false, ◌==◌, List, [], length, Option, None, Some, option_map, unwrap_or, Ok, Err, string_bytes, if◌then◌else◌}
+use Rattle.std.specs.IoError.{error_kind}
+use Rattle.std.specs.declared.alloc.Global.{Global}
+use Rattle.std.specs.declared.io.Error.{Error}
+use Rattle.std.specs.declared.io.ErrorKind.TheVariants.{NotFound}
+use Rattle.std.specs.declared.string.String.{String}
+use Rattle.std.specs.declared.vec.Vec.{Vec}
+use Rattle.jwalk_changes.specs.declared.change.Change.{Change}
+use Rattle.jwalk_changes.specs.declared.entry.Kept.{Kept}
+use Rattle.jwalk_ignore_rules.specs.declared.rules.texts.Texts as Texts
+use Rattle.program_parts.specs.declared.paths.Style.{Style}
+use Rattle.since_parts.specs.Line.{lines_of}
+use Rattle.since_words.specs.declared.asked.Asked.{Asked}
+use Rattle.since_parts.specs.Saved.{IsTextOf}
+use Rattle.since_run.specs.declared.screen.Screen.{Screen}
+use Rattle.since_parts.specs.declared.tree.Tree.{Tree}
+
+-- what ends a line
+abbrev pub separator_of : Bool → ℕ
+separator_of print0 = if print0 then 0 else 10
+
+-- how paths are written
+abbrev pub style_asked : Asked → Screen → Style
+style_asked asked screen = record { here = false; to_terminal = screen.is_terminal; separator = separator_of asked.print0 }
+
+-- the text of differences: none if no lines are asked for
+abbrev pub text_asked : Asked → Screen → List (Change (Kept Global) (Kept Global)) → List ℕ
+text_asked asked screen changes = if asked.quiet then [] else lines_of (style_asked asked screen) asked.long changes
+
+-- the status by differences
+abbrev pub status_for : List (Change (Kept Global) (Kept Global)) → ℕ
+status_for changes = if length changes == 0 then 0 else 1
+
+-- the root that is asked for, or else another
+abbrev pub root_asked : Asked → List ℕ → List ℕ
+root_asked asked other = unwrap_or (option_map (λ it. it.now) asked.root) other
+
+-- There is no file, for this reason, and it is to be made.
+pub record IsMissing (asked : Asked) (error : Error) (found : Option (Vec ℕ Global)) : Type 0 where
+  pub none : found ≡ None
+  pub made : asked.save ≡ true
+  pub kind : error_kind error ≡ NotFound
+
+-- These are the bytes of the file, or there is none and it is to be made. It is so by value if files always are the same.
+abbrev pub IsLoaded : {X : Type 0} → Texts.Ghosts X → X → Asked → Option (Vec ℕ Global) → Type 0
+IsLoaded texts reads asked None = (asked.save ≡ true) × (texts.IsFixed reads → (texts.functions reads).bytes_of asked.file.now ≡ Err NotFound)
+IsLoaded texts reads asked (Some bytes) = texts.IsFixed reads → (texts.functions reads).bytes_of asked.file.now ≡ Ok bytes.items
+
+-- A text is to be saved if that is asked for, and it is that of a snapshot of these entries.
+abbrev pub HasTextAsked : Asked → Tree → List (Kept Global) → Option (String Global) → Type 0
+HasTextAsked asked tree entries None = asked.save ≡ false
+HasTextAsked asked tree entries (Some text) = (asked.save ≡ true) × IsTextOf (string_bytes tree.absolute) entries (string_bytes text)
+
+-- A file has this text now, if there is one, and else nothing changed.
+abbrev pub ReplacesBy : {K : Type 0} → (K → List ℕ → List ℕ → K → Type 0) → List ℕ → K → Option (String Global) → K → Type 0
+ReplacesBy replaces file old None new = new ≡ old
+ReplacesBy replaces file old (Some text) new = replaces old file (string_bytes text) new

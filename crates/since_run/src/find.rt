@@ -1,0 +1,47 @@
+//! The walk below a root, and what it finds.
+ghost use Rattle.std.specs.Prelude.{◌≡◌, IfOk};
+ghost use Rattle.std.specs.Arc.{arc_value};
+ghost use Rattle.jwalk.specs.jwalk_job.Options.{options_value};
+ghost use Rattle.since_run.specs.Walks.{all_options, Finds};
+
+use crate::crew::{CrewWalk, walk_below};
+use jwalk::file_system::FileSystem;
+use jwalk::read_dir::NoProcess;
+use jwalk::{Crew, Host, Options};
+use since_parts::failure::Failure;
+use since_parts::found::Found;
+use since_parts::tree::Tree;
+use std::alloc::Global;
+use std::io::Write;
+use std::sync::Arc;
+
+/// The walk below a root.
+pub(crate) type WholeWalk<T, S> = CrewWalk<T, ((), ()), Arc<S>, NoProcess>;
+
+/// Hidden names are read too, in the order of names, and entries keep their metadata.
+fn all_options() -> Options
+    ensures { options_value result ≡ all_options }
+{
+    Options::new()
+        .with_sort(true)
+        .with_skip_hidden(false)
+        .with_keep_metadata(true)
+}
+
+/// Returns what a walk finds below the root of a tree. If there is a crew, it reads the directories.
+pub(crate) fn find<T: Host, S: FileSystem + Send + Sync + 'static, E: Write>(
+    alloc: Global,
+    disk: Arc<S>,
+    crew: &Option<Arc<Crew<T>>>,
+    tree: &Tree,
+    err: &mut E,
+) -> Result<Found, Failure>
+    ensures { IfOk result (Finds S.FileSystem ⟦<WholeWalk<T, S> as Iterator>⟧.next_gives (arc_value disk) crew.now tree.now) }
+{
+    let root = String::from_str(alloc, tree.root.as_str())?;
+    let walk = walk_below::<((), ()), _, _, _>(disk, root, all_options(), crew)?;
+    let mut answers = walk.into_iter();
+    let mut found = Found::new(alloc);
+    found.take_all(alloc, tree, &mut answers, err)?;
+    Ok(found)
+}

@@ -1,0 +1,342 @@
+//! A call of the program.
+ghost use Rattle.std.specs.Prelude.{◌≡◌, ◌≤◌, true, map, string_bytes, Ok, IfOk, OnOk};
+ghost use Rattle.std.specs.Arc.{arc_value};
+ghost use Rattle.std.specs.Io.KnownBytes.{Appends};
+ghost use Rattle.jwalk_model.specs.Paths.{dot};
+ghost use Rattle.jwalk_snapshot.specs.Text.{content_of, text_of, IsSnapshot};
+ghost use Rattle.since_run.specs.Run.{root_asked, separator_of, status_for, style_asked, text_asked, HasTextAsked, IsLoaded, IsMissing, ReplacesBy};
+ghost use Rattle.since_run.specs.Done.{Begins, Compares, IsDone, LooksAt, Tells};
+
+use crate::crew::{crew_with, threads_in};
+use crate::find::{WholeWalk, find};
+use crate::lines::write_lines;
+use crate::screen::Screen;
+use crate::store::Store;
+use jwalk::file_system::{Fault, FileSystem};
+use jwalk::{Crew, Host};
+use jwalk_changes::{Change, Kept};
+use jwalk_ignore_rules::texts::Texts;
+use jwalk_snapshot::{Snapshot, SnapshotError};
+use program_parts::halt::Halt;
+use program_parts::paths::Style;
+use program_parts::refusal::{RefusalBy, refuse};
+use since_parts::differences::differences;
+use since_parts::failure::Failure;
+use since_parts::found::Found;
+use since_parts::held::held;
+use since_parts::saved::saved_text;
+use since_parts::tree::Tree;
+use since_words::asked::Asked;
+use since_words::words::read_words;
+use std::alloc::Global;
+use std::io::{self, ErrorKind, Write};
+use std::sync::Arc;
+
+fn separator_of(print0: bool) -> u8
+    ensures { result ≡ separator_of print0 }
+{
+    if print0 { 0 } else { b'\n' }
+}
+
+fn style_of(asked: &Asked<'_>, screen: Screen) -> Style
+    ensures { result ≡ style_asked asked.now screen }
+{
+    Style {
+        here: false,
+        to_terminal: screen.is_terminal,
+        separator: separator_of(asked.print0),
+    }
+}
+
+/// Returns that there is no file, if it is to be made.
+fn missing<E: Write>(
+    asked: &Asked<'_>,
+    error: io::Error,
+    err: &mut E,
+) -> Result<Option<Vec<u8>>, Failure>
+    ensures { IfOk result (λ none. IsMissing asked.now error none) }
+{
+    match error.kind() {
+        ErrorKind::NotFound if asked.save => Ok(None),
+        _ => {
+            let _ = writeln!(err, "since: {}: {error}", asked.file);
+            Err(Failure::Told)
+        }
+    }
+}
+
+/// Returns the bytes of the file with the snapshot. It may only be missing if it is to be made.
+fn load<X: Texts, E: Write>(
+    alloc: Global,
+    texts: &X,
+    asked: &Asked<'_>,
+    err: &mut E,
+) -> Result<Option<Vec<u8>>, Failure>
+    ensures { IfOk result (IsLoaded X.Texts texts.now asked.now) }
+{
+    match texts.read(alloc, asked.file) {
+        Ok(bytes) => Ok(Some(bytes)),
+        Err(Fault::Io(error)) => missing(asked, error, err),
+        Err(Fault::Memory) => Err(Failure::Halt(Halt::Memory)),
+    }
+}
+
+fn read_snapshot<'a, E: Write>(
+    alloc: Global,
+    file: &str,
+    bytes: &'a [u8],
+    err: &mut E,
+) -> Result<Snapshot<'a>, Failure>
+    ensures is_one { IfOk result (λ s. IsSnapshot (content_of s)) }
+    ensures has { IfOk result (λ s. bytes.now ≡ text_of (content_of s)) }
+{
+    match Snapshot::read(alloc, bytes) {
+        Ok(snapshot) => Ok(snapshot),
+        Err(SnapshotError::Memory) => Err(Failure::Halt(Halt::Memory)),
+        Err(error) => {
+            let _ = writeln!(err, "since: {file}: {error}");
+            Err(Failure::Told)
+        }
+    }
+}
+
+/// Returns the tree that is compared, and what is found in it.
+fn look<T: Host, S: FileSystem + Send + Sync + 'static, X: Texts, E: Write>(
+    alloc: Global,
+    disk: Arc<S>,
+    crew: &Option<Arc<Crew<T>>>,
+    texts: &X,
+    file: &str,
+    root: &str,
+    err: &mut E,
+) -> Result<(Tree, Found), Failure>
+    ensures { IfOk result (λ it. it.1.clean ≡ true → LooksAt S.FileSystem X.Texts ⟦<WholeWalk<T, S> as Iterator>⟧.next_gives
+        (arc_value disk) texts.now crew.now file.now root.now it.0 it.1.entries.items) }
+{
+    let tree = Tree::new(alloc, texts, file, root, err)?;
+    let found = find(alloc, disk, crew, &tree, err)?;
+    Ok((tree, found))
+}
+
+/// Returns the text to be saved, if one is asked for. None is if not all could be read.
+fn text_to_save<E: Write>(
+    alloc: Global,
+    asked: &Asked<'_>,
+    tree: &Tree,
+    found: &Found,
+    err: &mut E,
+) -> Result<Option<String>, Failure>
+    ensures { IfOk result (λ text. found.now.clean ≡ true → HasTextAsked asked.now tree.now found.now.entries.items text) }
+{
+    if !asked.save {
+        return Ok(None);
+    }
+    if !found.clean {
+        let _ = writeln!(
+            err,
+            "since: {}: left as it is, since not all could be read",
+            asked.file
+        );
+        return Ok(None);
+    }
+    let text = saved_text(alloc, asked.file, tree, &found.entries, err)?;
+    Ok(Some(text))
+}
+
+fn replace<K: Store, E: Write>(
+    store: &mut K,
+    file: &str,
+    text: &Option<String>,
+    err: &mut E,
+) -> Result<(), Failure>
+    ensures { OnOk result (ReplacesBy K.Replaces file.now store.old text.now store.new) }
+{
+    let Some(text) = text else {
+        return Ok(());
+    };
+    match store.replace(file, text.as_str()) {
+        Ok(()) => Ok(()),
+        Err(error) => {
+            let _ = writeln!(err, "since: {file}: {error}");
+            Err(Failure::Told)
+        }
+    }
+}
+
+fn write_changes<W: Write>(
+    alloc: Global,
+    asked: &Asked<'_>,
+    screen: Screen,
+    changes: &[Change<Kept, Kept>],
+    out: &mut W,
+) -> Result<(), Halt>
+    ensures { OnOk result (Appends (W.contents out.old) (W.contents out.new) (text_asked asked.now screen changes.now)) }
+{
+    if asked.quiet {
+        return Ok(());
+    }
+    write_lines(alloc, style_of(asked, screen), asked.long, changes, out)
+}
+
+fn status_for(changes: &[Change<Kept, Kept>]) -> u8
+    ensures { result ≡ status_for changes.now }
+{
+    if changes.is_empty() { 0 } else { 1 }
+}
+
+/// Returns the root that is asked for, or else this one.
+fn root_asked<'a>(asked: &Asked<'a>, other: &'a str) -> &'a str
+    ensures { result.now ≡ root_asked asked.now other.now }
+{
+    match asked.root {
+        Some(root) => root,
+        None => other,
+    }
+}
+
+/// Returns the root that is asked for, or else the folder that the program runs in.
+fn root_or_here<'a>(asked: &Asked<'a>) -> &'a str
+    ensures { result.now ≡ root_asked asked.now dot }
+{
+    match asked.root {
+        Some(root) => root,
+        None => ".",
+    }
+}
+
+/// Saves a first snapshot. Returns the status.
+fn begin<T: Host, S: FileSystem + Send + Sync + 'static, X: Texts, K: Store, E: Write>(
+    alloc: Global,
+    disk: Arc<S>,
+    crew: &Option<Arc<Crew<T>>>,
+    texts: &X,
+    store: &mut K,
+    asked: &Asked<'_>,
+    err: &mut E,
+) -> Result<u8, Failure>
+    ensures status { IfOk result (λ status. status ≤ 2) }
+    ensures begins { IfOk result (λ status. status ≤ 1 → Begins S.FileSystem X.Texts K.Store ⟦<WholeWalk<T, S> as Iterator>⟧.next_gives
+        (arc_value disk) texts.now crew.now asked.now store.old store.new status) }
+{
+    let root = root_or_here(asked);
+    let (tree, found) = look(alloc, disk, crew, texts, asked.file, root, err)?;
+    let text = text_to_save(alloc, asked, &tree, &found, err)?;
+    let clean = found.clean;
+    if !clean {
+        return Ok(2);
+    }
+    replace(store, asked.file, &text, err)?;
+    Ok(0)
+}
+
+/// Writes what differs from a snapshot. Returns the status.
+fn compare<T: Host, S: FileSystem + Send + Sync + 'static, X: Texts, K: Store, W: Write, E: Write>(
+    alloc: Global,
+    disk: Arc<S>,
+    crew: &Option<Arc<Crew<T>>>,
+    texts: &X,
+    store: &mut K,
+    asked: &Asked<'_>,
+    screen: Screen,
+    snapshot: &Snapshot<'_>,
+    out: &mut W,
+    err: &mut E,
+) -> Result<u8, Failure>
+    ensures status { IfOk result (λ status. status ≤ 2) }
+    ensures compares { IfOk result (λ status. status ≤ 1 → Compares S.FileSystem X.Texts K.Store ⟦<WholeWalk<T, S> as Iterator>⟧.next_gives
+        (arc_value disk) texts.now crew.now asked.now screen (content_of snapshot.now) (W.contents out.old) (W.contents out.new) store.old store.new status) }
+{
+    let root = root_asked(asked, snapshot.head.absolute);
+    let (tree, found) = look(alloc, disk, crew, texts, asked.file, root, err)?;
+    let text = text_to_save(alloc, asked, &tree, &found, err)?;
+    let clean = found.clean;
+    let numbers = snapshot.head.absolute == tree.absolute.as_str();
+    let old = held(alloc, snapshot, numbers)?;
+    let changes = differences(alloc, old, found, err)?;
+    write_changes(alloc, asked, screen, &changes, out)?;
+    if !clean {
+        return Ok(2);
+    }
+    replace(store, asked.file, &text, err)?;
+    Ok(status_for(&changes))
+}
+
+/// Returns the status.
+fn since<T: Host, S: FileSystem + Send + Sync + 'static, X: Texts, K: Store, W: Write, E: Write>(
+    rt: &T,
+    alloc: Global,
+    cores: usize,
+    disk: S,
+    texts: &X,
+    store: &mut K,
+    asked: &Asked<'_>,
+    screen: Screen,
+    out: &mut W,
+    err: &mut E,
+) -> Result<u8, Failure>
+    ensures status { IfOk result (λ status. status ≤ 2) }
+    ensures tells { IfOk result (λ status. status ≤ 1 → Tells S.FileSystem X.Texts K.Store ⟦<WholeWalk<T, S> as Iterator>⟧.next_gives
+        disk texts.now cores asked.now screen (W.contents out.old) (W.contents out.new) store.old store.new status) }
+{
+    let disk = Arc::new(alloc, disk)?;
+    let crew = crew_with(rt, alloc, threads_in(cores, asked.threads))?;
+    let Some(bytes) = load(alloc, texts, asked, err)? else {
+        return begin(alloc, disk, &crew, texts, store, asked, err);
+    };
+    let snapshot = read_snapshot(alloc, asked.file, &bytes, err)?;
+    compare(
+        alloc, disk, &crew, texts, store, asked, screen, &snapshot, out, err,
+    )
+}
+
+/// What ended the call before its end is reported.
+fn status_of<E: Write>(ended: Result<u8, Failure>, err: &mut E) -> u8
+    ensures { result ≤ 1 → ended ≡ Ok result }
+{
+    match ended {
+        Ok(status) => status,
+        Err(failure) => {
+            failure.report(err);
+            2
+        }
+    }
+}
+
+/// Compares what is below a root with a snapshot, as the words ask, of which the first is the program's name. Writes a
+/// line for each difference, and reports errors on `err`. Returns the status.
+///
+/// The status is 0 if nothing differs, or if a text was asked for and printed. It is 1 if something differs. It is 2 for
+/// bad words, if not all could be read, if memory ran out, and if the lines or the snapshot can't be written.
+pub fn run<T: Host, S: FileSystem + Send + Sync + 'static, X: Texts, K: Store, W: Write, E: Write>(
+    rt: &T,
+    alloc: Global,
+    cores: usize,
+    disk: S,
+    texts: &X,
+    store: &mut K,
+    words: &[String],
+    screen: Screen,
+    out: &mut W,
+    err: &mut E,
+) -> u8
+    ensures done { result ≤ 1 → IsDone S.FileSystem X.Texts K.Store ⟦<WholeWalk<T, S> as Iterator>⟧.next_gives
+        disk texts.now cores (map string_bytes words.now) screen (W.contents out.old) (W.contents out.new) store.old store.new result }
+{
+    match read_words(alloc, words) {
+        Ok(asked) => {
+            let ended = since(
+                rt, alloc, cores, disk, texts, store, &asked, screen, out, err,
+            );
+            status_of(ended, err)
+        }
+        Err(refusal) => {
+            let named = RefusalBy {
+                program: "since",
+                refusal: &refusal,
+            };
+            let status = refusal.status();
+            let refused = refuse(alloc, Some(screen.width), "since", &named, status, out, err);
+            if refused == 0 { 0 } else { 2 }
+        }
+    }
+}
