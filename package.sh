@@ -75,9 +75,10 @@ Section: utils
 Priority: optional
 Description: find files, add up their sizes, list trees
  seek finds files by their names, as fd and find do; tally prints how much is
- below each directory, as du does; walk prints a line for each entry, in a
- fixed form for scripts. All read directories with several threads, and their
- output has the same order whatever the number of threads.
+ below each directory, as du does; since prints what changed below a root;
+ walk prints a line for each entry, in a fixed form for scripts. All read
+ directories with several threads, and their output has the same order
+ whatever the number of threads.
 TEXT
 }
 

@@ -234,6 +234,7 @@ class Option:
         self.choices = choices if isinstance(choices, list) else []
         self.repeats = arg.get("action") in ("ArgAction::Append", "ArgAction::Count")
         self.is_hidden = bool(arg.get("hide"))
+        self.is_required = arg.get("required") == "true"
 
     def is_option(self):
         return bool(self.short or self.long)

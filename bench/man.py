@@ -37,6 +37,7 @@ VARIABLES = {
         ("XDG_CONFIG_HOME", "the folder with `git/config` and `git/ignore`, in place of `~/.config`"),
     ],
     "tally": [("COLUMNS", "the width of tables on a terminal, and of lines of `-h`, if it is a number, in place of 80")],
+    "since": [("COLUMNS", "the greatest width of lines of `-h`, if it is a number, in place of 80")],
     "walk": [],
 }
 
@@ -170,12 +171,19 @@ def without_links(text):
     return re.sub(r"\[([^]]*)\]\([^)]*\)", r"\1", text)
 
 
+def shown_word(word):
+    """A word that is no option, as the synopsis has it."""
+    if word.is_required:
+        return word.value
+    return f"[{word.value}{'..' if word.repeats else ''}]"
+
+
 def by_clap(path):
     """A program whose words are read by the crate `clap`."""
     command, args = command_line(read(path) + read(SHARED))
     name, page = command.name, f"docs/{command.name.upper()}.md"
     words = [it for it in args if not it.is_option()]
-    shown = ["[OPTIONS]"] + [f"[{it.value}{'..' if it.repeats else ''}]" for it in words]
+    shown = ["[OPTIONS]"] + [shown_word(it) for it in words]
     options = [it for it in args if it.is_option() and not it.is_hidden]
     options += [VERSION] if any(it.id == "help" for it in options) else [HELP, VERSION]
     made = Program(name, command.get("about"), " ".join(shown), options, words)

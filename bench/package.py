@@ -27,6 +27,7 @@ VERSION = read(f"{TOP}/VERSION").strip()
 CALLS = {
     "seek": [("--version", f"seek {VERSION} ("), ("one some", "some/one\n")],
     "tally": [("--version", f"tally {VERSION} ("), ("--plain -ab --apparent some", "3\tsome/one\n")],
+    "since": [("--version", f"since {VERSION} ("), ("-j1 --save kept some", "")],
     "walk": [("--tree /", "0 d /\n"), ("--sort some", "0 d some\n1 f some/one\n")],
 }
 

@@ -59,6 +59,7 @@ class Runner:
     def result(self, row, scene, folder):
         """Runs a row in all of its ways, up to the first that is wrong."""
         groups, changed = {}, False
+        folder.change(row.changes)
         for way in ways_of(row, scene):
             real = outcome(self.programs[row.program], row, scene, folder, way)
             came = self.stand_in(real) if self.stand_in else real

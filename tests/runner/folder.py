@@ -3,6 +3,7 @@ import contextlib
 import os
 import pathlib
 import re
+import shutil
 import socket
 import stat
 import tempfile
@@ -102,6 +103,14 @@ MEASURES = {
 }
 
 
+def remove(path):
+    """Removes what is at a path, with all that is below it."""
+    if os.path.isdir(path) and not os.path.islink(path):
+        shutil.rmtree(path)
+    else:
+        os.remove(path)
+
+
 class Folder:
     """A new folder with the tree of a scene, which is removed at the end of a `with` block."""
 
@@ -145,6 +154,14 @@ class Folder:
             if kind not in MAY_FAIL:
                 raise
             raise CannotMake(f"the disk takes no line `{kind.decode()}`: {error.strerror or error}") from error
+
+    def change(self, lines):
+        """Changes the tree before a row is called."""
+        for kind, said, path in lines:
+            if kind == b"-":
+                remove(self.at(path))
+            else:
+                self.make(kind, said, path)
 
     def placed(self, word):
         """Puts the folder's path in front of a path of the tree in a word."""

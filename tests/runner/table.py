@@ -7,6 +7,8 @@ from runner.texts import decoded, spread, unescaped, words_of
 SCENES = (b"tree", b"disk", b"input")
 # A line of a tree: its letter, what it says, which may be nothing, and its path.
 TREE_LINE = re.compile(rb"([dpsx]) ()(.+)|([lh]) ([^\t]*)\t(.+)|([fbctom]) (\S+) (.+)", re.S)
+# A line of a change may take something away, too.
+CHANGE_LINE = re.compile(rb"(-) ()(.+)|%s" % TREE_LINE.pattern, re.S)
 # Where a row's outputs go: an output that is a terminal, or what takes nothing.
 GOALS = {b"$": "", b"tty$": "out", b"ttyerr$": "err", b"full$": "full", b"closed$": "closed"}
 PARTS = {b"~": "out", b"!~": "err"}
@@ -43,6 +45,8 @@ class Row:
     any_order: bool = False
     # The directory of the tree in which the program is called.
     place: bytes = b"/"
+    # What changes in the tree before the call.
+    changes: list = dataclasses.field(default_factory=list)
 
 
 @dataclasses.dataclass
@@ -57,8 +61,12 @@ class Scene:
 
     def tree(self):
         """Returns the letter, the saying and the path of each line of the tree."""
-        lines = [] if self.kind == "input" else self.lines
-        return [[it for it in TREE_LINE.fullmatch(line).groups() if it is not None] for line in lines]
+        return parts_of(TREE_LINE, [] if self.kind == "input" else self.lines)
+
+
+def parts_of(form, lines):
+    """Returns the letter, the saying and the path of each line."""
+    return [[it for it in form.fullmatch(line).groups() if it is not None] for line in lines]
 
 
 class Reader:
@@ -66,7 +74,7 @@ class Reader:
 
     def __init__(self, file):
         self.file, self.number, self.name = file, 0, ""
-        self.scenes, self.lines = [], None
+        self.scenes, self.lines, self.changes = [], None, []
 
     def refuse(self, why):
         raise NoTable(f"{self.file}:{self.number}: {why}")
@@ -93,6 +101,7 @@ class Reader:
             variables[name.decode()] = value
         program = words[0].decode() if words else self.refuse("no program")
         row = Row(self.file, self.number, self.name, call, goal, variables, program, words[1:])
+        row.changes, self.changes = parts_of(CHANGE_LINE, self.changes), []
         self.scene().rows.append(row)
         self.lines = row.out.lines
 
@@ -103,6 +112,8 @@ class Reader:
         scene = self.scene()
         if self.lines is scene.lines and scene.kind != "input" and not all(map(TREE_LINE.fullmatch, lines)):
             self.refuse("no line of a tree")
+        if self.lines is self.changes and not all(map(CHANGE_LINE.fullmatch, lines)):
+            self.refuse("no line of a change")
         self.lines += lines
 
     def take(self, line):
@@ -115,6 +126,8 @@ class Reader:
             self.begin_scene(line)
         elif head == b"rules":
             self.begin_rules(rest)
+        elif line == b"then":
+            self.lines = self.changes
         elif line == b"nobody":
             self.scene().nobody = True
         elif head in GOALS:

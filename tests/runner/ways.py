@@ -6,6 +6,7 @@ THREADS = [[b"-j1"], [b"-j3"]]
 FRONTS = {
     "seek": THREADS,
     "tally": THREADS,
+    "since": THREADS,
     "walk": [[], [b"--batch", b"1"], [b"--batch", b"2"], [b"--batch", b"8"], [b"--crew", b"3"]],
     "example": [[]],
 }
@@ -31,7 +32,7 @@ def is_free(row):
     """Whether the disk decides in which order the lines of the row come."""
     if row.program == "tally" and not {b"--plain", b"-0", b"--print0"} & set(row.words):
         return False
-    return row.program != "example" and SORT not in row.words
+    return row.program not in ("example", "since") and SORT not in row.words
 
 
 def sorted_ways(row, front, **how):
