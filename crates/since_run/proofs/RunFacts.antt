@@ -1,6 +1,7 @@
 -- The steps of a call.
-use Rattle.std.proofs.Common.{◌≡◌, ◌∙◌, ℕ, true, List, Option, None, Some, Err, ap, inl, inr, string_bytes, subst, sym}
-use Rattle.std.specs.Prelude.{Result}
+use Rattle.std.proofs.Common.{◌≡◌, ◌∙◌, ◌≤◌, ℕ, true, List, Option, None, Some, Ok, Err, ap, inl, inr, string_bytes, subst, sym}
+use Rattle.std.specs.Prelude.{IfOk, Result}
+use Rattle.std.proofs.lemmas.Result.{IfOk-weaker}
 use Rattle.std.specs.IoError.{error_kind}
 use Rattle.std.specs.declared.alloc.Global.{Global}
 use Rattle.std.specs.declared.io.Error.{Error}
@@ -18,8 +19,10 @@ use Rattle.since_parts.specs.declared.tree.Tree.{Tree}
 use Rattle.std.specs.Io.KnownBytes.{Appends}
 use Rattle.jwalk_changes.specs.declared.change.Change.{Change}
 use Rattle.since_run.specs.declared.screen.Screen.{Screen}
-use Rattle.since_run.specs.Done.{LooksAt, SavesAsked}
-use Rattle.since_run.specs.Crew.{CrewCallsOf}
+use Rattle.jwalk_snapshot.specs.Text.{Content, IsSnapshot, text_of}
+use Rattle.since_run.specs.declared.store.Store as Store
+use Rattle.since_run.specs.Done.{Begins, Compares, LooksAt, SavesAsked, Tells}
+use Rattle.program_walks.specs.Crew.{CrewCallsOf, IsCrewOf, threads_in}
 use Rattle.since_run.specs.Walks.{WalkYields}
 use Rattle.since_run.specs.Run.{HasTextAsked, IsLoaded, IsMissing, ReplacesBy, text_asked}
 
@@ -49,3 +52,44 @@ looks_at files texts calls disk reads crew file root other tree new same looks =
 pub written_at : (asked : Asked) (screen : Screen) (before after : Option (List ℕ)) (these others : List (Change (Kept Global) (Kept Global))) → these ≡ others
     → Appends before after (text_asked asked screen these) → Appends before after (text_asked asked screen others)
 written_at asked screen before after these others same written = subst (λ l. Appends before after (text_asked asked screen l)) same written
+
+-- what is known of a value that is there
+pub ok_known : {X Y : Type 0} (r : Result X Y) (v : X) (P : X → Type 0) → r ≡ Ok v → IfOk r P → P v
+ok_known {X} {Y} r v P is said = subst (λ (o : Result X Y). IfOk o P) is said
+
+module _ {T Z X K C N R E Y : Type 0} (files : FileSystem.Ghosts Z) (texts : Texts.Ghosts X) (store : Store.Ghosts K) (calls : CrewCallsOf T C (Arc Z Global) N Global R E)
+    (disk shared : Z) (reads : X) (cores threads : ℕ) (crew : Option (Arc (Crew T) Global)) (asked : Asked) (screen : Screen) (before after : Option (List ℕ)) (old new : K) (found : Option (Vec ℕ Global)) (ended : Result ℕ Y) where
+  -- a first snapshot that is saved where there is no file
+  pub tells_made : shared ≡ disk → threads ≡ threads_in cores asked.threads → IsCrewOf threads crew → IsLoaded texts reads asked found → found ≡ None → after ≡ before
+      → IfOk ended (λ status. status ≤ 1 → Begins files texts store calls shared reads crew asked old new status)
+      → IfOk ended (λ status. status ≤ 1 → Tells files texts store calls disk reads cores asked screen before after old new status)
+  tells_made same many is_crew loaded none silent =
+      let missing = subst (IsLoaded texts reads asked) none loaded in
+      IfOk-weaker ended _ _ (λ status begun. λ low. record {
+        crew = crew;
+        is_crew = subst (λ (n : ℕ). IsCrewOf n crew) many is_crew;
+        either = inl (record {
+          missing = missing.1;
+          made = missing.0;
+          begins = subst (λ (d : Z). Begins files texts store calls d reads crew asked old new status) same (begun low);
+          silent = silent;
+        });
+      })
+
+  -- a snapshot in a file that is compared
+  pub tells_compared : (bytes : Vec ℕ Global) (snapshot : Content) → shared ≡ disk → threads ≡ threads_in cores asked.threads → IsCrewOf threads crew → IsLoaded texts reads asked found → found ≡ Some bytes
+      → IsSnapshot snapshot → bytes.items ≡ text_of snapshot
+      → IfOk ended (λ status. status ≤ 1 → Compares files texts store calls shared reads crew asked screen snapshot before after old new status)
+      → IfOk ended (λ status. status ≤ 1 → Tells files texts store calls disk reads cores asked screen before after old new status)
+  tells_compared bytes snapshot same many is_crew loaded some is_one has =
+      let read = subst (IsLoaded texts reads asked) some loaded in
+      IfOk-weaker ended _ _ (λ status done. λ low. record {
+        crew = crew;
+        is_crew = subst (λ (n : ℕ). IsCrewOf n crew) many is_crew;
+        either = inr (record {
+          snapshot = snapshot;
+          is_one = is_one;
+          read = λ fixed. read fixed ∙ ap Ok has;
+          compares = subst (λ (d : Z). Compares files texts store calls d reads crew asked screen snapshot before after old new status) same (done low);
+        });
+      })

@@ -15,7 +15,7 @@ use Rattle.jwalk_changes.specs.declared.change.Change.{Change}
 use Rattle.jwalk_changes.specs.declared.entry.Kept.{Kept}
 use Rattle.jwalk_ignore_rules.specs.declared.rules.texts.Texts as Texts
 use Rattle.jwalk_snapshot.specs.Text.{Content, IsSnapshot, text_of}
-use Rattle.since_run.specs.Crew.{CrewCallsOf, IsCrewOf, threads_in}
+use Rattle.program_walks.specs.Crew.{CrewCallsOf, IsCrewOf, threads_in}
 use Rattle.since_words.specs.Asks.{AskFor, AskForText}
 use Rattle.since_words.specs.declared.asked.Asked.{Asked}
 use Rattle.since_parts.specs.Differences.{AreDifferences}

@@ -1,4 +1,3 @@
-pub mod Crew
 pub mod Walks
 pub mod Run
 pub mod Done

@@ -18,7 +18,7 @@ use Rattle.jwalk.specs.WalkDir.{Starts, described, file_system_of, options_of, r
 use Rattle.jwalk.specs.declared.crew.Crew.{Crew}
 use Rattle.jwalk.specs.declared.crew.Session.{Session}
 use Rattle.jwalk.specs.declared.walk_dir.WalkDirGeneric.{WalkDirGeneric}
-use Rattle.since_run.specs.Crew.{CrewCallsOf, ReadsBy, with_crew}
+use Rattle.program_walks.specs.Crew.{CrewCallsOf, ReadsBy, with_crew}
 use Rattle.since_parts.specs.Found.{HasAll, is_clean}
 use Rattle.since_parts.specs.Tree.{front_in, own_in}
 use Rattle.since_parts.specs.declared.found.Found.{Found}

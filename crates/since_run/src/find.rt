@@ -4,7 +4,7 @@ ghost use Rattle.std.specs.Arc.{arc_value};
 ghost use Rattle.jwalk.specs.jwalk_job.Options.{options_value};
 ghost use Rattle.since_run.specs.Walks.{all_options, Finds};
 
-use crate::crew::{CrewWalk, walk_below};
+use program_walks::crew::{CrewWalk, walk_below};
 use jwalk::file_system::FileSystem;
 use jwalk::read_dir::NoProcess;
 use jwalk::{Crew, Host, Options};

@@ -7,7 +7,7 @@ ghost use Rattle.jwalk_snapshot.specs.Text.{content_of, text_of, IsSnapshot};
 ghost use Rattle.since_run.specs.Run.{root_asked, separator_of, status_for, style_asked, text_asked, HasTextAsked, IsLoaded, IsMissing, ReplacesBy};
 ghost use Rattle.since_run.specs.Done.{Begins, Compares, IsDone, LooksAt, Tells};
 
-use crate::crew::{crew_with, threads_in};
+use program_walks::crew::{crew_with, threads_in};
 use crate::find::{WholeWalk, find};
 use crate::lines::write_lines;
 use crate::screen::Screen;

@@ -6,7 +6,7 @@ use Rattle.jwalk.specs.WalkDir.{file_system_of, options_of, root_of, stateless}
 use Rattle.jwalk.proofs.AlikeFacts.{stateless_however_read}
 use Rattle.jwalk.proofs.CleanFacts.{clean_whole}
 use Rattle.jwalk.proofs.WholeFacts.{stateless_of, steady_begun}
-use Rattle.since_run.specs.Crew.{with_crew}
+use Rattle.program_walks.specs.Crew.{with_crew}
 use Rattle.since_run.specs.Walks.{all_options}
 use Rattle.since_run.proofs.FindFacts.{clean_ok}
 use Rattle.since_run.proofs.find.find.Goals as goal

@@ -18,7 +18,7 @@ returns-clause-compares g c = λ low.
       holds = subst (λ (b : Bool). HoldsAll b (content_of c.args.snapshot.now) c.in_ok-old.old.items) numbers c.in_ok-old.ensures;
       changes = c.in_ok-changes.changes.items;
       differ = c.in_ok-changes.ensures clean;
-      written = written_at _ _ _ _ _ _ c.deref.ensures.value c.in_ok-write_changes.ensures;
+      written = written_at c.args.asked.now c.args.screen _ _ _ _ c.deref.ensures.value c.in_ok-write_changes.ensures;
       saves = saves_asked g.K.Store.Replaces c.args.asked.now c.in_ok-tree.tree found.entries.items c.in_ok-text.text c.args.store.now c.replace.new.store (c.in_ok-text.ensures clean) c.in_ok-replace.ensures;
       tells = c.status_for.ensures ∙ ap status_for c.deref-2.ensures.value;
     }
