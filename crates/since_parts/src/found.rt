@@ -93,13 +93,7 @@ impl Found {
     }
 
     /// Keeps the path of an entry behind the root, if it counts.
-    fn keep(
-        &mut self,
-        alloc: Global,
-        tree: &Tree,
-        path: &str,
-        facts: Facts,
-    ) -> Result<(), Failure>
+    fn keep(&mut self, alloc: Global, tree: &Tree, path: &str, facts: Facts) -> Result<(), Failure>
         ensures kept { OnOk result (map seen_of self.new.entries.items
             ≡ map seen_of self.old.entries.items ++ kept_one (own_in tree.now) path.now facts) }
         ensures clean { self.new.clean ≡ self.old.clean }
@@ -202,13 +196,7 @@ impl Found {
         A: Allocator + Copy,
         I: Iterator<Item = Answer<DirEntry<C, A>, A>>,
         E: Write,
-    >(
-        &mut self,
-        alloc: Global,
-        tree: &Tree,
-        answers: &mut I,
-        err: &mut E,
-    ) -> Result<(), Failure>
+    >(&mut self, alloc: Global, tree: &Tree, answers: &mut I, err: &mut E) -> Result<(), Failure>
         requires can { I.can_next answers.old }
         requires ends { IsFinite (I.remaining answers.old) }
         requires none { HasNone self.old }

@@ -49,11 +49,7 @@ fn all_names(alloc: Global, blocks: &[Block<'_>], numbers: bool) -> Result<Vec<K
 }
 
 /// Returns all names in a snapshot in ascending order of paths, with their numbers if these count.
-pub fn held(
-    alloc: Global,
-    snapshot: &Snapshot<'_>,
-    numbers: bool,
-) -> Result<Vec<Kept>, AllocError>
+pub fn held(alloc: Global, snapshot: &Snapshot<'_>, numbers: bool) -> Result<Vec<Kept>, AllocError>
     ensures { IfOk result (λ all. HoldsAll numbers (content_of snapshot.now) all.items) }
 {
     let mut all = all_names(alloc, &snapshot.blocks, numbers)?;

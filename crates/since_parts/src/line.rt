@@ -67,11 +67,7 @@ fn push_which(which: Which, out: &mut Vec<u8>) -> Result<(), AllocError>
 }
 
 /// Adds what differs of a change, if that is asked for.
-fn push_told(
-    long: bool,
-    change: &Change<Kept, Kept>,
-    out: &mut Vec<u8>,
-) -> Result<(), AllocError>
+fn push_told(long: bool, change: &Change<Kept, Kept>, out: &mut Vec<u8>) -> Result<(), AllocError>
     ensures { OnOk result (out.new.items ≡ out.old.items ++ told_of long change.now) }
 {
     match change {

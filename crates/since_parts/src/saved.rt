@@ -47,7 +47,11 @@ impl<'a> Blocks<'a> {
     fn last_at(&mut self, path: &str) -> Option<&mut Block<'a>> {
         let last = *self.open.last()?;
         let block = self.all.get_mut(last)?;
-        if block.path == path { Some(block) } else { None }
+        if block.path == path {
+            Some(block)
+        } else {
+            None
+        }
     }
 
     /// Closes directories until the last has this path.

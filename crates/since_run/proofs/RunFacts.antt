@@ -1,5 +1,5 @@
 -- The steps of a call.
-use Rattle.std.proofs.Common.{◌≡◌, ◌∙◌, ◌≤◌, ℕ, true, List, Option, None, Some, Ok, Err, ap, inl, inr, string_bytes, subst, sym}
+use Rattle.std.proofs.Common.{◌≡◌, ◌∙◌, ◌≤◌, ℕ, List, Option, None, Some, Ok, Err, ap, inl, inr, string_bytes, subst, sym}
 use Rattle.std.specs.Prelude.{IfOk, Result}
 use Rattle.std.proofs.lemmas.Result.{IfOk-weaker}
 use Rattle.std.specs.IoError.{error_kind}

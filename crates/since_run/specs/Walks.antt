@@ -1,11 +1,9 @@
 -- The walk below a root.
-use Rattle.std.specs.Prelude.{◌≡◌, ℕ, Bool, true, false, List, map, Option, Result, is_some, string_bytes}
+use Rattle.std.specs.Prelude.{◌≡◌, ℕ, true, false, List, map, Option, Result, is_some, string_bytes}
 use Rattle.std.specs.Arc.{arc_value}
 use Rattle.std.specs.Iterator.{Drains}
 use Rattle.std.specs.List.{list_all}
-use Rattle.std.specs.declared.alloc.Global.{Global}
 use Rattle.std.specs.declared.sync.Arc.{Arc}
-use Rattle.jwalk.specs.jwalk_model.Entry.{Item}
 use Rattle.jwalk.specs.jwalk_model.Options.{Options, defaults}
 use Rattle.jwalk.specs.jwalk_model.Walk.{stateless_walk}
 use Rattle.jwalk.specs.jwalk_fs.declared.file_system.FileSystem as FileSystem

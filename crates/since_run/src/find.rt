@@ -4,10 +4,10 @@ ghost use Rattle.std.specs.Arc.{arc_value};
 ghost use Rattle.jwalk.specs.jwalk_job.Options.{options_value};
 ghost use Rattle.since_run.specs.Walks.{all_options, Finds};
 
-use program_walks::crew::{CrewWalk, walk_below};
 use jwalk::file_system::FileSystem;
 use jwalk::read_dir::NoProcess;
 use jwalk::{Crew, Host, Options};
+use program_walks::crew::{CrewWalk, walk_below};
 use since_parts::failure::Failure;
 use since_parts::found::Found;
 use since_parts::tree::Tree;

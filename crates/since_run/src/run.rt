@@ -7,7 +7,6 @@ ghost use Rattle.jwalk_snapshot.specs.Text.{content_of, text_of, IsSnapshot};
 ghost use Rattle.since_run.specs.Run.{root_asked, separator_of, status_for, style_asked, text_asked, HasTextAsked, IsLoaded, IsMissing, ReplacesBy};
 ghost use Rattle.since_run.specs.Done.{Begins, Compares, IsDone, LooksAt, Tells};
 
-use program_walks::crew::{crew_with, threads_in};
 use crate::find::{WholeWalk, find};
 use crate::lines::write_lines;
 use crate::screen::Screen;
@@ -20,6 +19,7 @@ use jwalk_snapshot::{Snapshot, SnapshotError};
 use program_parts::halt::Halt;
 use program_parts::paths::Style;
 use program_parts::refusal::{RefusalBy, refuse};
+use program_walks::crew::{crew_with, threads_in};
 use since_parts::differences::differences;
 use since_parts::failure::Failure;
 use since_parts::found::Found;

@@ -64,9 +64,9 @@ fn options<'a>(alloc: Global) -> Result<Vec<Arg<'a>>, AllocError>
 fn named<'a>(alloc: Global) -> Command<'a>
     ensures { app_of result ≡ named_app }
 {
-    Command::new(alloc, "since")
-        .version(VERSION)
-        .about("Prints what was added, removed or changed since a snapshot")
+    Command::new(alloc, "since").version(VERSION).about(
+        "Prints what was added, removed or changed since a snapshot",
+    )
 }
 
 pub(crate) fn command<'a>(alloc: Global) -> Result<Command<'a>, AllocError>

@@ -1,4 +1,4 @@
-use Rattle.std.proofs.Common.{◌≡◌, ◌∙◌, ap, rules, Bool, subst, sym, true, bytes_eq, string_bytes}
+use Rattle.std.proofs.Common.{◌≡◌, ◌∙◌, ap, rules, Bool, subst, true, bytes_eq, string_bytes}
 use Rattle.jwalk_snapshot.specs.Text.{content_of}
 use Rattle.since_parts.specs.Held.{HoldsAll}
 use Rattle.since_run.specs.Run.{status_for}
