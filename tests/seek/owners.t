@@ -68,6 +68,24 @@ $ seek -o 0 --owner=1001 . /o
 $ seek -o 0 -o : ^7 /o
   /o/7-1000
 
+# owners by name
+$ seek -o root ^0-7$ /o
+  /o/0-7
+$ seek -o root: ^0-7$ /o
+  /o/0-7
+$ seek -o root ^7-1000$ /o
+$ seek -o :root . /o
+  /o/1000-0
+$ seek -o 1000:root . /o
+  /o/1000-0
+$ seek -o root:7 -tf . /o
+  /o/0-7
+$ seek -o !root:!root . /o
+  /o/1000-7
+  /o/1000-8
+  /o/1001-7
+  /o/7-1000
+
 # other texts are no owner
 tree
 $ seek --owner=!
@@ -82,11 +100,15 @@ $ seek --owner=::
 $ seek --owner=1:2:3
 !~ '1:2:3' is no owner
 = 2
-$ seek --owner=root
-!~ 'root' is no owner
+$ seek --owner=none-of-that-name
+!~ 'none-of-that-name' is no owner
 = 2
-$ seek --owner=0:root
-!~ '0:root' is no owner
+$ seek --owner=root:none-of-that-name
+!~ 'root:none-of-that-name' is no owner
+= 2
+-- Nothing is searched: the root that isn't there is no error.
+$ seek -o none-of-that-name . /none
+! seek: 'none-of-that-name' is no owner: write numbers, or names in /etc/passwd and /etc/group, as in 1000, root:adm or :100, with a ! in front for any but that
 = 2
 $ seek --owner=+
 !~ '+' is no owner

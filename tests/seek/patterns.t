@@ -190,6 +190,18 @@ $ seek -g .h* /t
 $ seek -H ^\.h /t
   /t/.hidden
 $ seek -p ^\.h /t
+$ seek .hid /t
+! seek: names with a dot in front are left out: add -H to have these
+$ seek -F .hid /t
+! seek: names with a dot in front are left out: add -H to have these
+$ seek -H .hid /t
+  /t/.hidden
+$ seek .rs /t
+  /t/sub/c.rs
+  /t/sub/deep/a.rs
+$ seek .*none /t
+$ seek none /t
+$ seek -p .hid /t
 
 # glob
 $ seek -g *.txt /t

@@ -1,16 +1,21 @@
 -- The statuses of words and patterns that are rejected.
-use Rattle.std.proofs.Common.{◌≡◌, ◌<◌, ◌≤◌, ◌⊎◌, ℕ, zero, suc, List, inl, inr, refl, ◌∙◌, arith}
+use Rattle.std.proofs.Common.{◌≡◌, ◌<◌, ◌≤◌, ◌⊎◌, ℕ, zero, suc, List, inl, inr, refl, sym, ◌∙◌, arith}
 use Rattle.program_parts.proofs.StatusFacts.{told_zero}
 use Rattle.seek_words.proofs.EndFacts.{asked_for_text, refusal_most}
 use Rattle.seek_words.specs.AsksFor.{AskFor, AskForText}
 use Rattle.seek_words.specs.Refusal.{IsRefusedFor, status_of as status_for}
 use Rattle.seek_words.specs.declared.asked.Asked.{Asked}
 use Rattle.seek_words.specs.declared.refusal.Refusal.{Refusal}
+use Rattle.jwalk_ignore_rules.specs.Rules.Texts.{Texts}
 use Rattle.seek_found.specs.BadPattern.{status_of, IsBadFor}
 use Rattle.seek_found.specs.Call.{AskForSearch, Ends}
+use Rattle.seek_found.specs.Owner.{NamesNoOwner}
 use Rattle.seek_found.specs.Sought.{IsFor}
+use Rattle.seek_found.specs.Unowned.{status_of as status_of_owner}
 use Rattle.seek_found.specs.declared.bad_pattern.BadPattern.{BadPattern}
 use Rattle.seek_found.specs.declared.bad_pattern.BadPattern.TheVariants as bad
+use Rattle.seek_found.specs.declared.owner.Unowned.{Unowned}
+use Rattle.seek_found.specs.declared.owner.Unowned.TheVariants.{Text, File, Memory}
 use Rattle.seek_found.specs.declared.sought.Sought.{Sought}
 
 -- no bad pattern ends with 0
@@ -42,10 +47,17 @@ text_asked words refusal status refused told is = asked_for_text words refusal r
 
 -- a rejected pattern ends with its status
 pub rejected_ends : (words : List (List ℕ)) (asked : Asked) → AskFor words asked → (why : BadPattern) → IsBadFor asked why → (status : ℕ) → status ≡ status_of why → Ends words status
-rejected_ends words asked ask (bad.Expression pattern error) is status told = inl (inr (asked, ask, bad.Expression pattern error, is, refl), told)
-rejected_ends words asked ask (bad.Glob pattern) is status told = inl (inr (asked, ask, bad.Glob pattern, is, refl), told)
-rejected_ends words asked ask (bad.Braces pattern) is status told = inl (inr (asked, ask, bad.Braces pattern, is, refl), told)
+rejected_ends words asked ask (bad.Expression pattern error) is status told = inl (inr (inl (asked, ask, bad.Expression pattern error, is, refl)), told)
+rejected_ends words asked ask (bad.Glob pattern) is status told = inl (inr (inl (asked, ask, bad.Glob pattern, is, refl)), told)
+rejected_ends words asked ask (bad.Braces pattern) is status told = inl (inr (inl (asked, ask, bad.Braces pattern, is, refl)), told)
 rejected_ends words asked ask bad.Memory is status told = inr (inr told)
+
+-- a call that names what isn't an owner ends with its status
+pub unowned_ends : (words : List (List ℕ)) (asked : Asked) → AskFor words asked → (told : Type 0) (texts : Texts) (why : Unowned) → (status_of_owner why ≡ 2 → NamesNoOwner told texts asked) → (status : ℕ) → status ≡ status_of_owner why → Ends words status
+unowned_ends words asked ask told texts (Text text) no status is =
+    let names = no refl in inl (inr (inr (asked, ask, names.0, names.1, names.2.accounts, names.2.is.accounts, sym names.2.is.is)), is)
+unowned_ends words asked ask told texts (File file error) no status is = inr (inr is)
+unowned_ends words asked ask told texts Memory no status is = inr (inr is)
 
 -- a search ends with 0 or 1
 pub searched_ends : (words : List (List ℕ)) (asked : Asked) → AskFor words asked → (sought : Sought) → IsFor asked sought → (status : ℕ) → status ≤ 1 → Ends words status

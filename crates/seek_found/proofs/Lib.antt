@@ -1,3 +1,5 @@
+mod AccountFacts
+mod OwnerFacts
 mod GlobFacts
 pub mod EndFacts
 pub mod LimitFacts

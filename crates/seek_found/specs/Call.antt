@@ -1,9 +1,10 @@
 -- The end of a call of the program.
-use Rattle.std.specs.Prelude.{◌≡◌, ◌≤◌, ◌⊎◌, ℕ, Bool, List, if◌then◌else◌}
+use Rattle.std.specs.Prelude.{◌≡◌, ◌≤◌, ◌⊎◌, ℕ, Bool, List, option_map, None, Some, if◌then◌else◌}
 use Rattle.seek_words.specs.AsksFor.{AskFor, AskForText}
 use Rattle.seek_words.specs.Refusal.{AreBad}
 use Rattle.seek_words.specs.declared.asked.Asked.{Asked}
 use Rattle.seek_found.specs.BadPattern.{status_of, IsBadFor}
+use Rattle.seek_found.specs.Owner.{owner_in}
 use Rattle.seek_found.specs.Sought.{IsFor}
 use Rattle.seek_found.specs.declared.bad_pattern.BadPattern.{BadPattern}
 use Rattle.seek_found.specs.declared.call.Ended.{Ended}
@@ -17,11 +18,16 @@ AskForSearch words = (asked : Asked) × AskFor words asked × (sought : Sought) 
 abbrev pub HaveBadPattern : List (List ℕ) → Type 0
 HaveBadPattern words = (asked : Asked) × AskFor words asked × (bad : BadPattern) × IsBadFor asked bad × (status_of bad ≡ 2)
 
--- A call ends with 2 for bad words or a bad pattern, and with 0 or 1 if a text or a search is asked for. If memory runs
+-- The words ask for an owner that isn't one, by what the files of users and groups had.
+abbrev pub NameNoOwner : List (List ℕ) → Type 0
+NameNoOwner words = (asked : Asked) × AskFor words asked × (text : List ℕ) × (option_map (λ it. it.now) asked.owner_text ≡ Some text)
+    × (users : List ℕ) × (groups : List ℕ) × (owner_in users groups text ≡ None)
+
+-- A call ends with 2 for bad words, a bad pattern or what isn't an owner, and with 0 or 1 if a text or a search is asked for. If memory runs
 -- out, it ends with 1.
 abbrev pub Ends : List (List ℕ) → ℕ → Type 0
 Ends words status =
-    ((AreBad words ⊎ HaveBadPattern words) × (status ≡ 2)) ⊎ ((AskForText words ⊎ AskForSearch words) × (status ≤ 1)) ⊎ (status ≡ 1)
+    ((AreBad words ⊎ HaveBadPattern words ⊎ NameNoOwner words) × (status ≡ 2)) ⊎ ((AskForText words ⊎ AskForSearch words) × (status ≤ 1)) ⊎ (status ≡ 1)
 
 -- The words ask for this search, and the names that are looked for are those of the patterns.
 abbrev pub AskToSearch : List (List ℕ) → Asked × Sought → Type 0

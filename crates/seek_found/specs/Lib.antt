@@ -1,6 +1,10 @@
+pub mod Accounts
 pub mod BadPattern
 pub mod Glob
 pub mod NamePattern
+pub mod Owner
+pub mod OwnerRows
+pub mod Unowned
 pub mod PatternTest
 pub mod Sought
 pub mod SoughtTest

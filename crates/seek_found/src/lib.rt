@@ -2,11 +2,13 @@
 //! and the status.
 #![tactic(auto)]
 
+mod accounts;
 pub mod bad_pattern;
 pub mod call;
 pub mod found;
 pub mod glob;
 pub mod name_pattern;
+pub mod owner;
 pub mod pattern_test;
 pub mod printer;
 pub mod report;

@@ -7,6 +7,8 @@ use jwalk_fs::path_text::join_parts;
 use jwalk_job::client_state::ClientState;
 use jwalk_job::dir_entry::DirEntry;
 use jwalk_job::error::Error;
+use seek_words::asked::Asked;
+use seek_words::hidden::{finds_none_shown, may_mean_hidden};
 use std::alloc::Allocator;
 use std::io::Write;
 
@@ -76,10 +78,18 @@ pub fn report_entry<C: ClientState, A: Allocator + Copy, E: Write>(
     }
 }
 
-/// Reports that a pattern can find hidden names alone, and that these don't come.
-pub fn report_hidden<E: Write>(pattern: &str, err: &mut E) {
-    let _ = writeln!(
-        err,
-        "seek: the pattern '{pattern}' finds hidden names alone: add -H to have these"
-    );
+/// Reports that hidden names don't come, where nothing was found and the pattern finds these alone, or begins as they do.
+pub fn report_none<E: Write>(asked: &Asked<'_>, err: &mut E) {
+    let pattern = asked.pattern;
+    if finds_none_shown(asked) {
+        let _ = writeln!(
+            err,
+            "seek: the pattern '{pattern}' finds hidden names alone: add -H to have these"
+        );
+    } else if may_mean_hidden(asked) {
+        let _ = writeln!(
+            err,
+            "seek: names with a dot in front are left out: add -H to have these"
+        );
+    }
 }

@@ -8,6 +8,7 @@ use Rattle.seek_words.specs.Screen.{is_colored}
 use Rattle.seek_words.specs.declared.asked.Asked.{Asked}
 use Rattle.seek_words.specs.declared.screen.Screen.{Screen}
 use Rattle.seek_found.specs.Found.{PrintsClean}
+use Rattle.seek_found.specs.Owner.{IsOwnerOf}
 use Rattle.seek_found.specs.Sought.{IsFor, takes_by}
 use Rattle.seek_found.specs.declared.sought.Sought.{Sought}
 use Rattle.seek_found.specs.Times.{AreTimes}
@@ -52,8 +53,9 @@ module _ {T C Z B X A E G H F : Type 0} (plain : CrewCallsOf T G (Arc (KeptLinks
     pub prints : still → told → limit_asked asked ≡ None → PrintsAsked fs texts home screen asked sought old new
 
 module _ {T C Z B X A E G H F : Type 0} (plain : CrewCallsOf T G (Arc (KeptLinks (Based Z)) B) LeavesOut A H F) (honouring : CrewCallsOf T C (Arc (KeptLinks (Based Z)) B) (Honours (UserTexts (Based X)) B) A RulesState E) where
-  -- The words ask for a search, and the names that are looked for are those of the patterns. This is searched, over the
-  -- disk and the texts as they are seen from the folder that is asked for, which is one.
+  -- The words ask for a search, the names that are looked for are those of the patterns, and the owner is the one that is
+  -- asked for. This is searched, over the disk and the texts as they are seen from the folder that is asked for, which is
+  -- one.
   pub record Searches (disk : Z) (reads : X) (still told : Type 0) (fs : Functions) (texts : Texts) (home : Home) (cores : ℕ) (screen : Screen) (words : List (List ℕ)) (old new : Option (List ℕ)) : Type 0 where
     pub asked : Asked
     pub ask : AskFor words asked
@@ -63,5 +65,6 @@ module _ {T C Z B X A E G H F : Type 0} (plain : CrewCallsOf T G (Arc (KeptLinks
     pub is_over : IsBased disk asked over
     pub from : Based X
     pub is_from : IsBased reads asked from
+    pub owner : IsOwnerOf told texts asked asked.owner
     pub folder : still → has_folder (functions_based (base_asked asked) fs) asked ≡ true
     pub searches : SearchesFor plain honouring over from still told (functions_based (base_asked asked) fs) (texts_based (base_asked asked) texts) home cores screen asked sought old new

@@ -21,6 +21,7 @@ use jwalk_ignore::texts::Texts;
 use program_parts::halt::Halt;
 use program_walks::crew::{crew_with, threads_in};
 use seek_found::call::{Ended, read_call, status_of};
+use seek_found::owner::owner_of;
 use seek_found::sought::Sought;
 use seek_found::times::times_of;
 use seek_words::asked::Asked;
@@ -244,10 +245,14 @@ impl<
             home,
             screen,
         } = self;
-        let (asked, sought) = match read_call(alloc, screen.columns, words, out, err) {
+        let (mut asked, sought) = match read_call(alloc, screen.columns, words, out, err) {
             Ok(read) => read,
             Err(status) => return status,
         };
+        match owner_of(alloc, &texts, &asked) {
+            Ok(owner) => asked.owner = owner,
+            Err(unowned) => return unowned.report(err),
+        }
         let (Ok(disk), Ok(texts)) = (
             Based::new(alloc, disk, &asked),
             Based::new(alloc, texts, &asked),

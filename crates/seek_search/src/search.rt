@@ -31,10 +31,9 @@ use program_walks::crew::{CrewWalk, Plain, walk_below};
 use seek_found::call::Ended;
 use seek_found::found::print_found;
 use seek_found::printer::Printer;
-use seek_found::report::report_hidden;
+use seek_found::report::report_none;
 use seek_found::sought_test::SoughtTest;
 use seek_words::asked::Asked;
-use seek_words::hidden::finds_none_shown;
 use std::alloc::{AllocError, Global};
 use std::io::Write;
 use std::sync::{Arc, Wait};
@@ -346,8 +345,8 @@ impl<
     {
         let clean = self.below_roots(alloc, printer, out, err)?;
         printer.lines.finish(out)?;
-        if clean && !printer.lines.has_printed() && finds_none_shown(self.asked) {
-            report_hidden(self.asked.pattern, err);
+        if clean && !printer.lines.has_printed() {
+            report_none(self.asked, err);
         }
         Ok(Ended {
             clean,

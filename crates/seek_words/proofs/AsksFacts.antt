@@ -8,6 +8,7 @@ use Rattle.program_parts.specs.Values.{texts_of}
 use Rattle.seek_words.specs.Asks.{Asks}
 use Rattle.seek_words.specs.AsksFor.{AskFor}
 use Rattle.seek_words.specs.declared.asked.Asked.{Asked}
+use Rattle.seek_words.specs.declared.owner.Owner.{Owner}
 use Rattle.seek_words.specs.declared.times.Times.{Times}
 
 -- the text of a value, if there is one
@@ -22,9 +23,9 @@ value_none r first is found = ap (λ o. unwrap_or o []) (ap (option_map (λ s. s
 pub named_at : (texts : List (Bor (List ℕ))) (i : ℕ) (d : Bor (List ℕ)) → i < length texts → Contains (texts_of texts) (get_or texts i d).now
 named_at texts i d below = (i, subst (λ n. i < n) (sym (length-map texts (λ it. it.now))) below, get_or-map (λ it. it.now) texts i d _ below)
 
--- words leave open what the clock, the disk and the screen say
-shown_asks : (rows : List Row) (asked : Asked) (times : Times) (colored : Bool) → Asks rows asked → Asks rows (record asked { times = times; colored = colored })
-shown_asks rows asked times colored asks = record {
+-- words leave open what the clock, the disk, the screen and the files of users and groups say
+shown_asks : (rows : List Row) (asked : Asked) (times : Times) (colored : Bool) (owner : Option Owner) → Asks rows asked → Asks rows (record asked { times = times; colored = colored; owner = owner })
+shown_asks rows asked times colored owner asks = record {
   pattern = asks.pattern;
   roots = asks.roots;
   base = asks.base;
@@ -43,7 +44,7 @@ shown_asks rows asked times colored asks = record {
   kinds = asks.kinds;
   extensions = asks.extensions;
   sizes = asks.sizes;
-  owner = asks.owner;
+  owner_text = asks.owner_text;
   changed_within = asks.changed_within;
   changed_before = asks.changed_before;
   newer_than = asks.newer_than;
@@ -62,11 +63,11 @@ shown_asks rows asked times colored asks = record {
   strip_cwd_prefix = asks.strip_cwd_prefix;
 }
 
-pub shown_ask_for : (words : List Text) (asked : Asked) (times : Times) (colored : Bool) → AskFor words asked → AskFor words (record asked { times = times; colored = colored })
-shown_ask_for words asked times colored ask = record {
+pub shown_ask_for : (words : List Text) (asked : Asked) (times : Times) (colored : Bool) (owner : Option Owner) → AskFor words asked → AskFor words (record asked { times = times; colored = colored; owner = owner })
+shown_ask_for words asked times colored owner ask = record {
   rows = ask.rows;
   values = ask.values;
   free = ask.free;
-  asks = shown_asks ask.rows asked times colored ask.asks;
+  asks = shown_asks ask.rows asked times colored owner ask.asks;
   slash = ask.slash;
 }

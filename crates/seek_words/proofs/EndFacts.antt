@@ -13,14 +13,13 @@ use Rattle.seek_words.specs.Command.{IsSeek}
 use Rattle.seek_words.specs.Conflict.{has_conflict}
 use Rattle.seek_words.specs.Refusal.{IsRefusedFor, IsRefusedValue, status_of}
 use Rattle.seek_words.specs.declared.refusal.Refusal.{Refusal}
-use Rattle.seek_words.specs.declared.refusal.Refusal.TheVariants.{Common, NoSize, NoOwner, NoTime, NoColor, Slash}
+use Rattle.seek_words.specs.declared.refusal.Refusal.TheVariants.{Common, NoSize, NoTime, NoColor, Slash}
 
 -- words that are refused with 0 ask for help or for the version
 pub asked_for_text : (words : List Text) (refusal : Refusal) → IsRefusedFor words refusal → status_of refusal ≡ 0 → AskForText words
 asked_for_text words (Common refusal) (inl memory) zero = let one : 1 ≡ 0 = ap status_of_common (sym memory) ∙ zero in absurd (cc)
 asked_for_text words (Common refusal) (inr (app, seek, refused)) zero = (app, seek, common.asked_for_text app has_conflict words refusal refused zero)
 asked_for_text words (NoSize text) refused zero = absurd (cc)
-asked_for_text words (NoOwner text) refused zero = absurd (cc)
 asked_for_text words (NoTime text) refused zero = absurd (cc)
 asked_for_text words (NoColor text) refused zero = absurd (cc)
 asked_for_text words (Slash pattern) refused zero = absurd (cc)
@@ -28,7 +27,6 @@ asked_for_text words (Slash pattern) refused zero = absurd (cc)
 pub refusal_most : (refusal : Refusal) → status_of refusal ≤ 2
 refusal_most (Common refusal) = common.refusal_most refusal
 refusal_most (NoSize text) = omega arith
-refusal_most (NoOwner text) = omega arith
 refusal_most (NoTime text) = omega arith
 refusal_most (NoColor text) = omega arith
 refusal_most (Slash pattern) = omega arith
@@ -42,20 +40,17 @@ no_memory : (rows : List Row) (refusal : CommonRefusal) → IsRefusedValue rows 
 no_memory rows refusal (inl why) = why
 no_memory rows refusal (inr (inl why)) = absurd why
 no_memory rows refusal (inr (inr (inl why))) = absurd why
-no_memory rows refusal (inr (inr (inr (inl why)))) = absurd why
-no_memory rows refusal (inr (inr (inr (inr why)))) = absurd why
+no_memory rows refusal (inr (inr (inr why))) = absurd why
 
 no_slash : (rows : List Row) (pattern : Bor Text) → IsRefusedValue rows (Slash pattern) → ⊥
 no_slash rows pattern (inl why) = why
 no_slash rows pattern (inr (inl why)) = why
 no_slash rows pattern (inr (inr (inl why))) = why
-no_slash rows pattern (inr (inr (inr (inl why)))) = why
-no_slash rows pattern (inr (inr (inr (inr why)))) = why
+no_slash rows pattern (inr (inr (inr why))) = why
 
 pub value_refused : (words : List Text) (rows : List Row) → GiveValues words rows → (refusal : Refusal) → IsRefusedValue rows refusal → IsRefusedFor words refusal
 value_refused words rows read (Common refusal) why = inl (no_memory rows refusal why)
 value_refused words rows read (NoSize text) why = (read.app, read.is_seek, subst (λ (it : List Row). IsRefusedValue it (NoSize text)) read.gives.values why)
-value_refused words rows read (NoOwner text) why = (read.app, read.is_seek, subst (λ (it : List Row). IsRefusedValue it (NoOwner text)) read.gives.values why)
 value_refused words rows read (NoTime text) why = (read.app, read.is_seek, subst (λ (it : List Row). IsRefusedValue it (NoTime text)) read.gives.values why)
 value_refused words rows read (NoColor text) why = (read.app, read.is_seek, subst (λ (it : List Row). IsRefusedValue it (NoColor text)) read.gives.values why)
 value_refused words rows read (Slash pattern) why = absurd (no_slash rows pattern why)

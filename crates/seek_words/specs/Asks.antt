@@ -5,7 +5,6 @@ use Rattle.clap.specs.Words.{Row, Text, first_of, one_of}
 use Rattle.program_parts.specs.Values.{has_value, is_named, values_in, texts_of, IsNumberOf}
 use Rattle.seek_words.specs.Case.{smart_case}
 use Rattle.seek_words.specs.Color.{color_in}
-use Rattle.seek_words.specs.Owner.{owner_in}
 use Rattle.seek_words.specs.Size.{size_in}
 use Rattle.seek_words.specs.Time.{time_in}
 use Rattle.seek_words.specs.declared.case.Case.{Case}
@@ -15,7 +14,6 @@ use Rattle.seek_words.specs.declared.color.Color.TheVariants.{Auto}
 use Rattle.seek_words.specs.declared.depths.Depths.{Depths}
 use Rattle.seek_words.specs.declared.kinds.Kinds.{Kinds}
 use Rattle.seek_words.specs.declared.asked.Asked.{Asked}
-use Rattle.seek_words.specs.declared.owner.Owner.{Owner}
 
 -- An option that another undoes is asked for only if it is named, and always if the other isn't.
 pub record IsOn (named undone asked : Bool) : Type 0 where
@@ -94,10 +92,6 @@ kinds_in names = record {
 abbrev pub IsColorIn : Option Text → Color → Type 0
 IsColorIn named color = Some color ≡ unwrap_or (option_map color_in named) (Some Auto)
 
--- The owner that is looked for, if one is.
-abbrev pub IsOwnerIn : Option Text → Option Owner → Type 0
-IsOwnerIn named owner = Some owner ≡ unwrap_or (option_map owner_in named) (Some None)
-
 -- whether a byte is a slash
 abbrev pub is_slash : ℕ → Bool
 is_slash byte = byte == 47
@@ -122,7 +116,7 @@ pub record Asks (rows : List Row) (asked : Asked) : Type 0 where
   pub kinds : asked.kinds ≡ kinds_in (values_in rows (codes "type"))
   pub extensions : texts_of asked.extensions.items ≡ values_in rows (codes "extension")
   pub sizes : map Some asked.sizes.items ≡ map size_in (values_in rows (codes "size"))
-  pub owner : IsOwnerIn (first_of (codes "owner") rows) asked.owner
+  pub owner_text : option_map (λ it. it.now) asked.owner_text ≡ first_of (codes "owner") rows
   pub changed_within : option_map Some asked.changed_within ≡ option_map time_in (first_of (codes "changed-within") rows)
   pub changed_before : option_map Some asked.changed_before ≡ option_map time_in (first_of (codes "changed-before") rows)
   pub newer_than : option_map (λ it. it.now) asked.newer_than ≡ first_of (codes "newer-than-file") rows

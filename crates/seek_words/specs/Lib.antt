@@ -24,7 +24,6 @@ pub mod Paint
 pub mod Layout
 pub mod Lines
 pub mod Owner
-pub mod OwnerRows
 pub mod Times
 pub mod Metadata
 pub mod Empty

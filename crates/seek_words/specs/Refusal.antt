@@ -9,18 +9,16 @@ use Rattle.seek_words.specs.Asks.{Asks, is_slash}
 use Rattle.seek_words.specs.Command.{IsSeek}
 use Rattle.seek_words.specs.Color.{color_in}
 use Rattle.seek_words.specs.Conflict.{has_conflict}
-use Rattle.seek_words.specs.Owner.{owner_in}
 use Rattle.seek_words.specs.Size.{size_in}
 use Rattle.seek_words.specs.Time.{time_in}
 use Rattle.seek_words.specs.declared.asked.Asked.{Asked}
 use Rattle.seek_words.specs.declared.refusal.Refusal.{Refusal}
-use Rattle.seek_words.specs.declared.refusal.Refusal.TheVariants.{Common, NoSize, NoOwner, NoTime, NoColor, Slash}
+use Rattle.seek_words.specs.declared.refusal.Refusal.TheVariants.{Common, NoSize, NoTime, NoColor, Slash}
 
 -- the status of the program
 abbrev pub status_of : Refusal → ℕ
 status_of (Common refusal) = status_of_common refusal
 status_of (NoSize text) = 2
-status_of (NoOwner text) = 2
 status_of (NoTime text) = 2
 status_of (NoColor text) = 2
 status_of (Slash pattern) = 2
@@ -41,30 +39,23 @@ abbrev pub IsRefusedTime : Option Text → Refusal → Type 0
 IsRefusedTime named (NoTime text) = (named ≡ Some text.now) × (time_in text.now ≡ None)
 IsRefusedTime named _ = ⊥
 
--- The refusal of an owner: the text that is named isn't one.
-abbrev pub IsRefusedOwner : Option Text → Refusal → Type 0
-IsRefusedOwner named (NoOwner text) = (named ≡ Some text.now) × (owner_in text.now ≡ None)
-IsRefusedOwner named _ = ⊥
-
 -- The refusal of when to print colors: the text that is named doesn't say it.
 abbrev pub IsRefusedColor : Option Text → Refusal → Type 0
 IsRefusedColor named (NoColor text) = (named ≡ Some text.now) × (color_in text.now ≡ None)
 IsRefusedColor named _ = ⊥
 
--- The refusal of a value: of a size, of an owner, of a time, or of when to print colors.
+-- The refusal of a value: of a size, of a time, or of when to print colors.
 abbrev pub IsRefusedValue : List Row → Refusal → Type 0
 IsRefusedValue rows refusal =
     IsRefusedSize (values_in rows (codes "size")) refusal
-    ⊎ (IsRefusedOwner (first_of (codes "owner") rows) refusal
     ⊎ (IsRefusedTime (first_of (codes "changed-within") rows) refusal
-    ⊎ (IsRefusedTime (first_of (codes "changed-before") rows) refusal ⊎ IsRefusedColor (first_of (codes "color") rows) refusal)))
+    ⊎ (IsRefusedTime (first_of (codes "changed-before") rows) refusal ⊎ IsRefusedColor (first_of (codes "color") rows) refusal))
 
 -- The refusal of words: they aren't those of the command line, or ask for help or the version; options exclude each
 -- other; a value is bad; the pattern has a slash and is compared with names; or memory ran out.
 abbrev pub IsRefusedFor : List Text → Refusal → Type 0
 IsRefusedFor words (Common refusal) = (refusal ≡ Memory) ⊎ ((app : App) × IsSeek app × IsRefusedBy app has_conflict words refusal)
 IsRefusedFor words (NoSize text) = (app : App) × IsSeek app × IsRefusedValue (matches_of app words) (NoSize text)
-IsRefusedFor words (NoOwner text) = (app : App) × IsSeek app × IsRefusedValue (matches_of app words) (NoOwner text)
 IsRefusedFor words (NoTime text) = (app : App) × IsSeek app × IsRefusedValue (matches_of app words) (NoTime text)
 IsRefusedFor words (NoColor text) = (app : App) × IsSeek app × IsRefusedValue (matches_of app words) (NoColor text)
 IsRefusedFor words (Slash pattern) = (app : App) × IsSeek app × (asked : Asked) × Asks (matches_of app words) asked × NamesSlash asked

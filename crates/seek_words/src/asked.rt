@@ -56,7 +56,9 @@ pub struct Asked<'w> {
     pub extensions: Vec<&'w str, Global>,
     /// The sizes of the files that are looked for, or none for any entry.
     pub sizes: Vec<Size, Global>,
-    /// The owner of what is looked for, if one is named.
+    /// The text of the owner of what is looked for, if one is named.
+    pub owner_text: Option<&'w str>,
+    /// That owner, by the files of users and groups. The words alone leave it open.
     pub owner: Option<Owner>,
     /// Entries were modified later than this, if it is named.
     pub changed_within: Option<Time>,

@@ -245,7 +245,7 @@ fn owner_option<'a>(alloc: Global) -> Arg<'a>
         alloc,
         "owner",
         "USER:GROUP",
-        "The numbers of the owner and the group; !N for any but N",
+        "The owner and the group, by number or name, with a ! in front for any but that",
     )
     .short('o')
 }

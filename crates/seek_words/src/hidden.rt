@@ -1,7 +1,7 @@
 //! Patterns for hidden names.
 ghost use Rattle.std.specs.Prelude.{◌≡◌};
 ghost use Rattle.jwalk_model.specs.Entry.{is_hidden};
-ghost use Rattle.seek_words.specs.Hidden.{begins_escaped_dot, finds_none_shown};
+ghost use Rattle.seek_words.specs.Hidden.{begins_as_name, begins_escaped_dot, finds_none_shown, is_repeat, may_mean_hidden};
 
 use crate::asked::Asked;
 
@@ -31,4 +31,30 @@ pub fn finds_none_shown(asked: &Asked<'_>) -> bool
     } else {
         begins_escaped_dot(pattern)
     }
+}
+
+fn is_repeat(byte: u8) -> bool
+    ensures { result ≡ is_repeat byte }
+{
+    matches!(byte, b'*' | b'+' | b'?' | b'{')
+}
+
+fn begins_as_name(text: &[u8]) -> bool
+    ensures { result ≡ begins_as_name text.now }
+{
+    match text {
+        [b'.', next, ..] => !is_repeat(*next),
+        _ => false,
+    }
+}
+
+/// Returns whether hidden names don't come, and a pattern for names that isn't a glob begins as they do: with a dot, and
+/// then more. In a regular expression that dot is any character.
+pub fn may_mean_hidden(asked: &Asked<'_>) -> bool
+    ensures { result ≡ may_mean_hidden asked.now }
+{
+    if asked.hidden || asked.full_path || asked.glob {
+        return false;
+    }
+    begins_as_name(asked.pattern.as_bytes())
 }

@@ -13,8 +13,6 @@ pub enum Refusal<'w> {
     Common(CommonRefusal),
     /// This isn't a size.
     NoSize(&'w str),
-    /// This isn't an owner.
-    NoOwner(&'w str),
     /// This isn't a time.
     NoTime(&'w str),
     /// This doesn't say when to print colors.
@@ -75,10 +73,6 @@ impl<'w> fmt::Display for Refusal<'w> {
             Refusal::NoTime(text) => writeln!(
                 f,
                 "seek: '{text}' is no time: write how long ago it is, as in 2h or 3days, or a date, as in 2024-05-01 or '2024-05-01 10:00:00'"
-            ),
-            Refusal::NoOwner(text) => writeln!(
-                f,
-                "seek: '{text}' is no owner: write numbers, as in 1000, 1000:100 or :100, with a ! in front for any but that"
             ),
             Refusal::NoColor(text) => writeln!(
                 f,

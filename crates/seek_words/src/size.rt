@@ -110,8 +110,9 @@ fn bytes_in(text: &[u8]) -> Option<u64>
     number_of(digits)?.checked_mul(bytes_of(unit)?)
 }
 
-/// Returns `None` if the text isn't of digits alone, or if the number has more than 64 bits.
-pub(crate) fn digits_number(text: &[u8]) -> Option<u64>
+/// Returns the number of a text of digits, or `None` if the text isn't of digits alone, or if the number has more than 64
+/// bits.
+pub fn digits_number(text: &[u8]) -> Option<u64>
     ensures { result ≡ digits_number text.now }
 {
     if text.is_empty() || digit_count(text) < text.len() {

@@ -3,10 +3,10 @@ ghost use Rattle.std.specs.Prelude.{◌≡◌, [], codes, is_some, map, option_m
 ghost use Rattle.std.specs.List.{list_any};
 ghost use Rattle.clap.specs.Words.{found_of, rows_of, first_of};
 ghost use Rattle.program_parts.specs.Values.{has_value, is_named, values_in, texts_of};
-ghost use Rattle.seek_words.specs.Asks.{is_either_named, ChoosesOne, IsOn, chosen_case, IsCaseIn, IsColorIn, IsOwnerIn, AreReadingsIn, roots_in, depths_by, AreDepthsIn, names_one, kinds_in, is_slash, AreResultsIn, Asks};
+ghost use Rattle.seek_words.specs.Asks.{is_either_named, ChoosesOne, IsOn, chosen_case, IsCaseIn, IsColorIn, AreReadingsIn, roots_in, depths_by, AreDepthsIn, names_one, kinds_in, is_slash, AreResultsIn, Asks};
 ghost use Rattle.seek_words.specs.AsksFor.{AskFor};
 ghost use Rattle.seek_words.specs.Conflict.{has_conflict};
-ghost use Rattle.seek_words.specs.Refusal.{IsRefusedFor, IsRefusedColor, IsRefusedOwner, IsRefusedSize, IsRefusedTime, IsRefusedValue};
+ghost use Rattle.seek_words.specs.Refusal.{IsRefusedFor, IsRefusedColor, IsRefusedSize, IsRefusedTime, IsRefusedValue};
 ghost use Rattle.seek_words.specs.Size.{size_in};
 ghost use Rattle.seek_words.specs.Time.{time_in};
 
@@ -16,7 +16,6 @@ use crate::color::Color;
 use crate::command::command;
 use crate::depths::Depths;
 use crate::kinds::Kinds;
-use crate::owner::Owner;
 use crate::refusal::Refusal;
 use crate::size::Size;
 use crate::time::Time;
@@ -232,19 +231,6 @@ fn sizes_named<'w>(alloc: Global, found: &ArgMatches<'w>) -> Result<Vec<Size>, R
     sizes_of(alloc, texts.as_slice())
 }
 
-fn owner_named<'w>(found: &ArgMatches<'w>) -> Result<Option<Owner>, Refusal<'w>>
-    ensures owner { IfOk result (IsOwnerIn (first_of (codes "owner") (rows_of (found_of found.now)))) }
-    ensures refused { IfErr result (IsRefusedOwner (first_of (codes "owner") (rows_of (found_of found.now)))) }
-{
-    let Some(text) = value_of(found, "owner") else {
-        return Ok(None);
-    };
-    match Owner::read(text) {
-        Some(owner) => Ok(owner),
-        None => Err(Refusal::NoOwner(text)),
-    }
-}
-
 fn time_named<'w>(found: &ArgMatches<'w>, id: &str) -> Result<Option<Time>, Refusal<'w>>
     ensures time { IfOk result (λ time. option_map Some time ≡ option_map time_in (first_of id.now (rows_of (found_of found.now)))) }
     ensures refused { IfErr result (IsRefusedTime (first_of id.now (rows_of (found_of found.now)))) }
@@ -265,13 +251,12 @@ fn kinds_named(alloc: Global, found: &ArgMatches<'_>) -> Result<Kinds, AllocErro
     Ok(kinds_of(names.as_slice()))
 }
 
-/// The times are left open, as the words alone don't set them.
+/// The owner and the times are left open, as the words alone don't set them.
 fn asked_of<'w>(alloc: Global, found: &ArgMatches<'w>) -> Result<Asked<'w>, Refusal<'w>>
     ensures asked { IfOk result (Asks (rows_of (found_of found.now))) }
     ensures refused { IfErr result (IsRefusedValue (rows_of (found_of found.now))) }
 {
     let sizes = sizes_named(alloc, found)?;
-    let owner = owner_named(found)?;
     let changed_within = time_named(found, "changed-within")?;
     let changed_before = time_named(found, "changed-before")?;
     let color = color_of(found)?;
@@ -300,7 +285,8 @@ fn asked_of<'w>(alloc: Global, found: &ArgMatches<'w>) -> Result<Asked<'w>, Refu
         kinds,
         extensions: values_of(alloc, found, "extension")?,
         sizes,
-        owner,
+        owner_text: value_of(found, "owner"),
+        owner: None,
         changed_within,
         changed_before,
         newer_than: value_of(found, "newer-than-file"),
@@ -347,8 +333,8 @@ fn conflict_of(found: &ArgMatches<'_>) -> Option<(&'static str, &'static str)>
 ///
 /// # Errors
 ///
-/// If the words are bad or ask for help or the version; if two options exclude each other; if a size, an owner, a time
-/// or a word of `--color` is bad; if the pattern has a slash and isn't compared with paths; or if memory runs out.
+/// If the words are bad or ask for help or the version; if two options exclude each other; if a size, a time or
+/// a word of `--color` is bad; if the pattern has a slash and isn't compared with paths; or if memory runs out.
 pub fn read_words<'w, S: AsStr>(alloc: Global, words: &'w [S]) -> Result<Asked<'w>, Refusal<'w>>
     ensures asked { IfOk result (AskFor (map S.text words.entry.now)) }
     ensures refused { IfErr result (IsRefusedFor (map S.text words.entry.now)) }
