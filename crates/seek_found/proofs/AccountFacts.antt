@@ -6,7 +6,7 @@ use Rattle.jwalk_ignore_rules.proofs.PiecesFacts.{first_line}
 use Rattle.jwalk_ignore_rules.specs.Pattern.Pieces.{is_byte, pieces}
 use Rattle.seek_found.specs.Accounts.{first_id, id_in_line, id_named}
 
-no_id : (b : Bool) → (if b then None else None) ≡ None {ℕ}
+no_id : (b : Bool) → ◌≡◌ {A = Option ℕ} (if b then None else None) None
 no_id true = refl
 no_id false = refl
 

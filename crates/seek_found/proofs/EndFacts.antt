@@ -54,10 +54,10 @@ rejected_ends words asked ask bad.Memory is status told = inr (inr told)
 
 -- a call that names what isn't an owner ends with its status
 pub unowned_ends : (words : List (List ℕ)) (asked : Asked) → AskFor words asked → (told : Type 0) (texts : Texts) (why : Unowned) → (status_of_owner why ≡ 2 → NamesNoOwner told texts asked) → (status : ℕ) → status ≡ status_of_owner why → Ends words status
-unowned_ends words asked ask told texts (Text text) no status is =
-    let names = no refl in inl (inr (inr (asked, ask, names.0, names.1, names.2.accounts, names.2.is.accounts, sym names.2.is.is)), is)
-unowned_ends words asked ask told texts (File file error) no status is = inr (inr is)
-unowned_ends words asked ask told texts Memory no status is = inr (inr is)
+unowned_ends words asked ask told texts (Text text) refused status is =
+    let names = refused refl in inl (inr (inr (asked, ask, names.0, names.1, names.2.accounts, names.2.is.accounts, sym names.2.is.is)), is)
+unowned_ends words asked ask told texts (File file error) refused status is = inr (inr is)
+unowned_ends words asked ask told texts Memory refused status is = inr (inr is)
 
 -- a search ends with 0 or 1
 pub searched_ends : (words : List (List ℕ)) (asked : Asked) → AskFor words asked → (sought : Sought) → IsFor asked sought → (status : ℕ) → status ≤ 1 → Ends words status
