@@ -1,44 +1,111 @@
 #!/usr/bin/env python3
-"""Compares `since` with a comparison by `os.lstat`, over random trees on the disk that are changed at random.
+"""Compares `since` with a comparison by `os.lstat`, over random trees that are saved, changed and compared.
 
     python3 bench/since.py [COUNT [SEED [PROGRAM]]]
+    python3 bench/since.py damage [COUNT [SEED [PROGRAM]]]
+    python3 bench/since.py killed [COUNT [SEED [PROGRAM]]]
+    python3 bench/since.py speed [FOLDER [PROGRAM]]
 
-Build the program first: (cd crates/since && rt run). Of each of COUNT trees (200 if no number is given) a snapshot is
-saved, and nothing may differ then. The tree is changed: entries are added, removed, renamed and written again, a file
-becomes a directory or a link, and back. `since -l` with 1 and 4 threads must print what two lists of `os.lstat` say,
-before the change and after it: length, time of modification and file number, and of a directory the number alone. So
-must `since -l` that saves, and nothing differs behind it. Then a copy of the file is damaged: bytes are changed, cut or
-added. It must be refused, and be left as it is.
+Build the program first: (cd crates/since && rt run). All of COUNT trees (200 if no number is given) are made; after three
+seconds a snapshot of each is saved. Each is changed: names are added, removed and renamed, files rewritten, cut, made
+directories, links led elsewhere, hard links made. Then `since -l` must print just the lines of the comparison, with one
+thread and with four, and end with 1, or with 0 if nothing differs; and a tree that didn't change has no line. So must
+`since -l --save`, and then nothing differs, and no other file lies beside the snapshot.
+
+With `damage` a snapshot is changed in COUNT ways (2,000): a byte of it, its end, or its version. None may be taken, with
+`--save` neither: the status is 2, nothing is printed, the error names the file, and the file is left as it is.
+
+With `killed` a `since --save` is killed COUNT times (200) at a random moment. The file must be the old snapshot or a new
+one, whole.
+
+With `speed` a folder (/usr) is saved and compared beside `find`: the least processor time of nine warm turns.
 """
 import os
+import pathlib
 import random
 import shutil
+import signal
 import stat
 import subprocess
 import sys
 import tempfile
+import time
 
 TOP = os.path.dirname(os.path.dirname(os.path.abspath(__file__)))
-COUNT = int(sys.argv[1]) if len(sys.argv) > 1 else 200
-SEED = int(sys.argv[2]) if len(sys.argv) > 2 else 1
-PROGRAM = sys.argv[3] if len(sys.argv) > 3 else f"{TOP}/crates/since/out/since"
-NAMES = ["a", "a.b", "a-", "b", "c d", "é", ".h", "z", "B", "-x", "tab\there"]
-WORDS = ["type", "length", "time", "number"]
+PROGRAM = f"{TOP}/crates/since/out/since"
+NAMES = ["a", "b", "c d", "é", ".h", "z", "B", "-x", "a.b", "a-b", "tab\there", "\U0001f600", "日本"]
+TURNS = 9
 
 
-def make(rng, path, depth):
-    """Makes something at a path."""
-    kind = rng.random()
-    if kind < 0.4 and depth < 4:
-        os.mkdir(path)
-        for name in rng.sample(NAMES, rng.randint(0, 4)):
-            make(rng, os.path.join(path, name), depth + 1)
-    elif kind < 0.5:
-        os.symlink(rng.choice(NAMES), path)
-    else:
-        with open(path, "wb") as file:
-            file.write(b"x" * rng.choice([0, 1, 511, 5000]))
-        os.utime(path, (rng.randint(0, 9), rng.randint(0, 9)))
+def plant(rng, folder, files, depth=0):
+    """Fills a folder, and adds the files that were made to a list."""
+    for name in rng.sample(NAMES, rng.randint(0, 6)):
+        path = os.path.join(folder, name)
+        kind = rng.random()
+        if kind < 0.35 and depth < 4:
+            os.mkdir(path)
+            plant(rng, path, files, depth + 1)
+        elif kind < 0.45 and files:
+            os.link(rng.choice(files), path)
+        elif kind < 0.55:
+            os.symlink(rng.choice(NAMES), path)
+        elif kind < 0.6:
+            os.mkfifo(path)
+        else:
+            pathlib.Path(path).write_bytes(b"x" * rng.choice([0, 1, 511, 5000]))
+            files.append(path)
+
+
+def entries(top):
+    """All paths below a folder, behind it."""
+    found = []
+    for folder, dirs, files in os.walk(top):
+        found += [os.path.relpath(os.path.join(folder, name), top) for name in dirs + files]
+    return found
+
+
+def type_of(found):
+    """The type that a snapshot has of an entry."""
+    kinds = {stat.S_IFREG: "f", stat.S_IFDIR: "d", stat.S_IFLNK: "l"}
+    return kinds.get(stat.S_IFMT(found.st_mode), "o")
+
+
+def facts(top):
+    """What counts of each entry below a folder, by its path behind it."""
+    found = {path: os.lstat(os.path.join(top, path)) for path in entries(top)}
+    return {path: (type_of(it), it.st_size, it.st_mtime_ns, it.st_ino) for path, it in found.items()}
+
+
+def names_of(path):
+    """What orders paths: their names, one after another, by their bytes."""
+    return [os.fsencode(name) for name in path.split("/")]
+
+
+def words_of(old, new):
+    """The words for what differs of an entry."""
+    of_dir = "d" in (old[0], new[0])
+    counts = [True, not of_dir, not of_dir, True]
+    words = ["type", "length", "time", "number"]
+    return [word for word, has, was, now in zip(words, counts, old, new) if has and was != now]
+
+
+def lines_of(old, new):
+    """The lines of all differences."""
+    lines = []
+    for path in sorted({*old, *new}, key=names_of):
+        if path not in old:
+            lines.append(f"+ {path}\n")
+        elif path not in new:
+            lines.append(f"- {path}\n")
+        elif words_of(old[path], new[path]):
+            lines.append("\t".join([f"~ {path}", *words_of(old[path], new[path])]) + "\n")
+    return lines
+
+
+def free_name(rng, folder):
+    """A name that a folder hasn't."""
+    taken = set(os.listdir(folder))
+    return next((it for it in rng.sample(NAMES, len(NAMES)) if it not in taken), f"n{len(taken)}")
 
 
 def remove(path):
@@ -48,118 +115,176 @@ def remove(path):
         os.remove(path)
 
 
-def change(rng, root):
-    """Changes one thing in a tree."""
-    folders = [folder for folder, _, _ in os.walk(root)]
-    path = os.path.join(rng.choice(folders), rng.choice(NAMES))
-    if not os.path.lexists(path):
-        return make(rng, path, path[len(root) :].count("/"))
-    kind = rng.random()
-    if kind < 0.3:
+def change_one(rng, top):
+    """Makes one change below a folder."""
+    paths = entries(top)
+    folders = [top, *(it for it in (os.path.join(top, path) for path in paths) if os.path.isdir(it) and not os.path.islink(it))]
+    folder = rng.choice(folders)
+    new = os.path.join(folder, free_name(rng, folder))
+    path = os.path.join(top, rng.choice(paths)) if paths else None
+    kind = rng.randrange(8)
+    if kind == 0 or path is None:
+        pathlib.Path(new).write_bytes(b"new")
+    elif kind == 1:
+        os.mkdir(new)
+        pathlib.Path(new, "in it").write_bytes(b"")
+    elif kind == 2:
         remove(path)
-    elif kind < 0.5:
-        to = os.path.join(rng.choice(folders), rng.choice(NAMES))
-        if not os.path.lexists(to) and not (to + "/").startswith(path + "/"):
-            os.rename(path, to)
-    elif kind < 0.8 and os.path.isfile(path) and not os.path.islink(path):
-        with open(path, "r+b") as file:
-            file.truncate(rng.choice([0, 1, 511, 5000]))
-        os.utime(path, (0, rng.randint(0, 9)))
-    else:
-        remove(path)
-        make(rng, path, path[len(root) :].count("/"))
+    elif kind == 3 and not os.path.abspath(new).startswith(f"{path}/"):
+        os.rename(path, new)
+    elif kind == 4 and os.path.isfile(path) and not os.path.islink(path):
+        pathlib.Path(path).write_bytes(b"y" * rng.choice([0, 1, 511, 7000]))
+    elif kind == 5 and not os.path.isdir(path):
+        os.remove(path)
+        os.mkdir(path)
+    elif kind == 6 and os.path.islink(path):
+        os.remove(path)
+        os.symlink("elsewhere", path)
+    elif kind == 7 and os.path.isfile(path) and not os.path.islink(path):
+        os.link(path, new)
 
 
-def listed(root):
-    """What counts of each path below a root, by its names."""
-    found = {}
-    for folder, directories, files in os.walk(root):
-        for name in directories + files:
-            path = os.path.join(folder, name)
-            seen = os.lstat(path)
-            behind = os.path.relpath(path, root)
-            names = tuple(os.fsencode(it) for it in behind.split("/"))
-            found[names] = (behind, stat.S_IFMT(seen.st_mode), seen.st_size, seen.st_mtime_ns, seen.st_ino)
-    return found
+def called(program, *words, **how):
+    return subprocess.run([program, *words], capture_output=True, **how)
 
 
-def differs(old, new):
-    """The words for what differs of two entries at a path."""
-    is_dir = stat.S_IFDIR in (old[1], new[1])
-    marks = [a != b for a, b in zip(old[1:], new[1:])]
-    return [word for word, mark in zip(WORDS, marks) if mark and not (is_dir and word in ("length", "time"))]
+def differs(program, file, top, old, *save):
+    """The first call that doesn't print the differences, if there is one."""
+    wanted = "".join(lines_of(old, facts(top))).encode()
+    for words in [*(["-l", "-j", threads, file, top] for threads in ("1", "4")), *save]:
+        ran = called(program, *words)
+        if ran.stdout != wanted or ran.stderr or ran.returncode != (1 if wanted else 0):
+            return f"{' '.join(words)}: status {ran.returncode}, {ran.stderr.decode(errors='replace')}"
+    return None
 
 
-def lines(old, new):
-    """The lines of all differences."""
-    made = []
-    for names in sorted(old.keys() | new.keys()):
-        if names not in new:
-            made.append(f"- {old[names][0]}\n")
-        elif names not in old:
-            made.append(f"+ {new[names][0]}\n")
-        elif words := differs(old[names], new[names]):
-            made.append("\t".join([f"~ {new[names][0]}", *words]) + "\n")
-    return "".join(made)
-
-
-def call(*words):
-    ran = subprocess.run([PROGRAM, *words], capture_output=True, text=True)
-    return ran.stdout, ran.stderr, ran.returncode
-
-
-def expect(what, came, wanted):
-    if came != wanted:
-        sys.exit(f"seed {SEED}: {what}: {came!r}, and not {wanted!r}")
+def try_trees(program, count, seed):
+    rng, room = random.Random(seed), tempfile.mkdtemp(prefix="since_")
+    tops = []
+    for number in range(count):
+        tops.append(os.path.join(room, str(number)))
+        os.mkdir(tops[-1])
+        plant(rng, tops[-1], [])
+    time.sleep(3)
+    olds = [facts(top) for top in tops]
+    for top in tops:
+        ran = called(program, "--save", f"{top}.since", top)
+        if ran.returncode or ran.stdout or ran.stderr:
+            return f"--save {top}.since {top}: {ran}"
+    for top, old in zip(tops, olds):
+        why = differs(program, f"{top}.since", top, old)
+        for _ in range(rng.randrange(6)):
+            change_one(rng, top)
+        why = why or differs(program, f"{top}.since", top, old, ["-l", "--save", f"{top}.since"])
+        why = why or differs(program, f"{top}.since", top, facts(top))
+        if why:
+            return f"tree of seed {seed}: {why}"
+    if len(os.listdir(room)) != 2 * count:
+        return f"{room} has other files"
+    shutil.rmtree(room)
+    print(f"{count} trees: since prints what os.lstat says")
+    return None
 
 
 def damaged(rng, text):
-    """A text with a byte changed, or with its end cut off, or with more."""
-    kind = rng.random()
+    """A text that is changed in one way."""
+    kind = rng.randrange(4)
     at = rng.randrange(len(text))
-    if kind < 0.6:
-        return text[:at] + bytes([text[at] ^ rng.randint(1, 255)]) + text[at + 1 :]
-    return text[:at] if kind < 0.9 else text + b"\0"
+    if kind == 0:
+        return text[:at]
+    if kind == 1:
+        return text[:at] + bytes([text[at] ^ (1 << rng.randrange(8))]) + text[at + 1 :]
+    if kind == 2:
+        return text[:at] + text[at + rng.randint(1, 20) :]
+    return text[:at] + bytes(rng.randrange(256) for _ in range(rng.randint(1, 9))) + text[at:]
 
 
-def damage(rng, at, top):
-    with open(at, "rb") as file:
-        text = damaged(rng, file.read())
-    copy = os.path.join(top, "copy")
-    with open(copy, "wb") as file:
-        file.write(text)
-    for words in ([copy], ["--save", copy]):
-        out, err, status = call(*words)
-        expect("a damaged file", (out, bool(err), status), ("", True, 2))
-    with open(copy, "rb") as file:
-        expect("a damaged file that is left", file.read(), text)
+def try_damage(program, count, seed):
+    rng, room = random.Random(seed), tempfile.mkdtemp(prefix="since_")
+    top, file, other = os.path.join(room, "t"), os.path.join(room, "t.since"), os.path.join(room, "damaged")
+    os.mkdir(top)
+    while len(entries(top)) < 20:
+        plant(rng, tempfile.mkdtemp(dir=top), [])
+    called(program, "--save", file, top, check=True)
+    text = pathlib.Path(file).read_bytes()
+    texts = [text.replace(b"jwalk-snapshot 1 ", b"jwalk-snapshot 2 ", 1)]
+    texts += [damaged(rng, text) for _ in range(count - 1)]
+    for changed in texts:
+        pathlib.Path(other).write_bytes(changed)
+        for words in ([other, top], ["--save", other]):
+            ran = called(program, *words)
+            if changed != text and (ran.returncode != 2 or ran.stdout or os.fsencode(other) not in ran.stderr):
+                return f"{other} was taken: {ran}"
+        if pathlib.Path(other).read_bytes() != changed:
+            return f"{other} was replaced"
+    shutil.rmtree(room)
+    print(f"{count} damaged snapshots: none was taken")
+    return None
 
 
-def try_tree(rng, top):
-    root, at = os.path.join(top, "root"), os.path.join(top, "kept")
-    os.mkdir(root)
-    for name in rng.sample(NAMES, rng.randint(0, 6)):
-        make(rng, os.path.join(root, name), 1)
-    old = listed(root)
-    expect("a first snapshot", call("--save", at, root), ("", "", 0))
-    expect("no change", call("-l", at), ("", "", 0))
-    for _ in range(rng.randint(0, 6)):
-        change(rng, root)
-    wanted = lines(old, listed(root))
-    outcome = (wanted, "", 1 if wanted else 0)
-    for words in (["-j1"], ["-j4"], ["-j4", "--save"]):
-        expect(" ".join(words), call(*words, "-l", at), outcome)
-    expect("after --save", call("-l", at), ("", "", 0))
-    expect("names beside the file", os.listdir(top).count("kept") == 1 and len(os.listdir(top)), 2)
-    damage(rng, at, top)
+def try_killed(program, count, seed):
+    rng, room = random.Random(seed), tempfile.mkdtemp(prefix="since_")
+    top, file = os.path.join(room, "t"), os.path.join(room, "t.since")
+    os.mkdir(top)
+    for _ in range(300):
+        plant(rng, tempfile.mkdtemp(dir=top), [])
+    called(program, "--save", file, top, check=True)
+    started = time.monotonic()
+    called(program, "--save", file, top)
+    length = time.monotonic() - started
+    for _ in range(count):
+        pathlib.Path(top, "changed").write_bytes(b"x" * rng.randrange(9))
+        child = subprocess.Popen([program, "--save", file, top], stdout=subprocess.DEVNULL, stderr=subprocess.DEVNULL)
+        time.sleep(rng.random() * length)
+        child.send_signal(signal.SIGKILL)
+        child.wait()
+        ran = called(program, "-q", file, top)
+        if ran.returncode not in (0, 1) or ran.stderr:
+            return f"{file} is neither the old snapshot nor a new one: {ran}"
+    shutil.rmtree(room)
+    print(f"{count} writers were killed: each left a whole snapshot")
+    return None
+
+
+def processor_time(words, output):
+    """The least processor time of some turns, and the greatest peak of memory, in KiB."""
+    times, peak = [], 0
+    for _ in range(TURNS):
+        with open(output, "wb") as out:
+            child = subprocess.Popen(words, stdout=out, stderr=subprocess.DEVNULL)
+            _, _, used = os.wait4(child.pid, 0)
+        times.append(used.ru_utime + used.ru_stime)
+        peak = max(peak, used.ru_maxrss)
+    return min(times), peak
+
+
+def try_speed(program, folder):
+    room = tempfile.mkdtemp(prefix="since_")
+    file, out = os.path.join(room, "snapshot"), os.path.join(room, "out")
+    calls = {
+        "find -printf": ["find", folder, "-printf", "%p %y %s %T@\\n"],
+        "since --save": [program, "-j1", "--save", file, folder],
+        "since": [program, "-j1", file, folder],
+        "since -j4": [program, "-j4", file, folder],
+    }
+    for name, words in calls.items():
+        seconds, peak = processor_time(words, out)
+        print(f"{name}: {seconds:.2f} s, {peak // 1024} MiB")
+    print(f"{os.path.getsize(file) / max(1, len(entries(folder))):.1f} bytes an entry")
+    shutil.rmtree(room)
 
 
 def main():
-    rng = random.Random(SEED)
-    for _ in range(COUNT):
-        with tempfile.TemporaryDirectory(prefix="since_") as top:
-            try_tree(rng, top)
-    print(f"{COUNT} trees: since prints what os.lstat says, and takes no damaged file")
+    words = sys.argv[1:]
+    verb = words.pop(0) if words[:1] and words[0] in ("damage", "killed", "speed") else "trees"
+    program = words[2] if len(words) > 2 else PROGRAM
+    if verb == "speed":
+        return try_speed(words[1] if len(words) > 1 else PROGRAM, words[0] if words else "/usr")
+    tries = {"trees": (try_trees, 200), "damage": (try_damage, 2000), "killed": (try_killed, 200)}
+    call, count = tries[verb]
+    why = call(program, int(words[0]) if words else count, int(words[1]) if len(words) > 1 else 1)
+    if why:
+        sys.exit(why)
 
 
 if __name__ == "__main__":
