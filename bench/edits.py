@@ -270,7 +270,8 @@ def verdict_over(folder, texts):
         for file, text in own.items():
             with open(f"{folder}/{file}", "w", encoding="utf-8") as out:
                 out.write(text)
-    errors = [line for line in done.stdout.splitlines() if re.match(r"\S+:\d+:\d+: error", line)]
+    told = re.compile(r"(note: )?\S+:\d+:\d+: (error|it is not proved)")
+    errors = [line for line in done.stdout.splitlines() if told.match(line)]
     first = errors[0] if errors else done.stdout.strip().rpartition("\n")[2]
     if done.returncode == 0:
         return "NOT REFUSED", ""

@@ -31,8 +31,8 @@ $ seek a --exec-batch rm
 $ seek --color red
 !~ 'red' doesn't say
 = 2
-$ seek -o root
-!~ 'root' is no owner
+$ seek -o none-of-that-name
+!~ 'none-of-that-name' is no owner
 = 2
 $ seek --owner=::
 !~ '::' is no owner
