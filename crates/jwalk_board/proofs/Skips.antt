@@ -84,7 +84,7 @@ module _ {V : Type 0} where
   stays a c old new l h = omega (arith, left_and_gone a c old new l, none_gone a c l.gone l.within h)
 
   child_addresses-append : (c : List ℕ) (xs ys : List (Addressed V)) → times c (child_addresses (xs ++ ys)) ≡ times c (child_addresses xs) + times c (child_addresses ys)
-  child_addresses-append c [] ys = refl
+  child_addresses-append c [] ys = omega arith
   child_addresses-append c (x ∷ xs) ys =
       omega (
         arith,
