@@ -40,6 +40,11 @@ module _ {R E : Type 0} (answers : ℕ → Bor (List ℕ) → FileType → Bool 
   left-AtDepth None old new left h = rw left h
   left-AtDepth (Some depth) old new left h = rw left.4 (some_left (list_depth (Some depth)) left.0 old h)
 
+  -- the root's list stays as it is
+  pub left-root : (depth : Option ℕ) (old new : List (Item R E)) → depth ≡ None → IsLeft answers depth old new → new ≡ old
+  left-root None old new at left = left
+  left-root (Some depth) old new at left = absurd cc
+
   module _ (test : Test) (is : IsTest answers test) where
     by_test : (x : Item R E) (b : Bool) → IsAnswered answers x b → b ≡ stays test x
     by_test (Ok e) b k = is e.depth k.1 e.file_type b k.0 k.3 k.4 ∙ ap (λ n. test e.depth n e.file_type) k.2

@@ -48,6 +48,8 @@ impl<
 
     ghost Makes = { λ s g. MakesInTurn (P.Makes (first_of s)) (Q.Makes (second_of s)) g };
 
+    ghost KeepsRoot = { λ s. P.KeepsRoot (first_of s) × Q.KeepsRoot (second_of s) };
+
     fn process(
         &self,
         depth: Option<usize>,

@@ -81,6 +81,8 @@ impl<
 
     ghost Makes = { λ s g. FiltersAs (F.post (test_of s)) g };
 
+    ghost KeepsRoot = { λ _. Unit {0} };
+
     fn process(
         &self,
         depth: Option<usize>,

@@ -74,6 +74,8 @@ impl<C: ClientState, A: Allocator + Copy> ProcessReadDir<C, A> for SkipNames<A> 
 
     ghost Makes = { λ s g. Skips s g };
 
+    ghost KeepsRoot = { λ _. Unit {0} };
+
     fn process(
         &self,
         depth: Option<usize>,

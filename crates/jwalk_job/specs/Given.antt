@@ -1,5 +1,5 @@
 -- What a promise about values takes as given.
-use Rattle.std.specs.Prelude.{◌≡◌, ℕ, List, Option, Result, map}
+use Rattle.std.specs.Prelude.{◌≡◌, ◌≤◌, ℕ, List, [], ◌∷◌, Option, Result, Ok, Err, length, map}
 use Rattle.std.specs.declared.clone.Clone as Clone
 use Rattle.std.specs.declared.default.Default as Default
 use Rattle.jwalk_model.specs.Entry.{Entry, Item}
@@ -55,3 +55,20 @@ counted_list given l = map (counted_item given) (map item l)
 -- Lists stay as they are, and states too.
 abbrev pub KeepsLists : {R E : Type 0} → Processing R E → Type 0
 KeepsLists {R} {E} processed = (depth : Option ℕ) (path : List ℕ) (state : R) (list : List (Item R E)) → processed depth path state list ≡ record { state = state; list = list }
+
+module _ {R E : Type 0} where
+  -- the entries of a list, without its errors
+  abbrev pub entries_in : List (Item R E) → List (Entry R E)
+  entries_in [] = []
+  entries_in (Ok e ∷ l) = e ∷ entries_in l
+  entries_in (Err f ∷ l) = entries_in l
+
+  -- No item is left out of a list, and no entry added: errors may be.
+  pub record AddsErrors (old new : List (Item R E)) : Type 0 where
+    pub entries : entries_in new ≡ entries_in old
+    pub longer : length old ≤ length new
+
+  -- A list that a walk begins with has the root's entry or an error, and no other entry.
+  pub record IsOfRoot (list : List (Item R E)) : Type 0 where
+    pub some : 1 ≤ length list
+    pub alone : length (entries_in list) ≤ 1

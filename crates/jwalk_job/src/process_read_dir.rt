@@ -1,9 +1,9 @@
 //! What a walk's user does with each list.
-ghost use Rattle.std.specs.Prelude.{◌≡◌, ◌<◌, ◌^◌, OnOk, IsOk, map};
+ghost use Rattle.std.specs.Prelude.{◌≡◌, ◌<◌, ◌^◌, None, OnOk, IsOk, map};
 ghost use Rattle.jwalk_model.specs.Entry.{AtDepth};
 ghost use Rattle.jwalk_model.specs.ReadDir.{list_depth};
 ghost use Rattle.jwalk_job.specs.Entry.{item};
-ghost use Rattle.jwalk_job.specs.Given.{Given, IsProcessed, KeepsLists};
+ghost use Rattle.jwalk_job.specs.Given.{AddsErrors, Given, IsProcessed, KeepsLists};
 
 use crate::client_state::ClientState;
 use crate::item::List;
@@ -17,6 +17,9 @@ pub trait ProcessReadDir<C: ClientState, A: Allocator + Copy>: Drop {
     /// It always makes of a list what is given, as far as states count, unless memory runs out. A callback of which
     /// nothing is to be said so has `⊥` here.
     ghost Makes: { Self → Given C.ReadDirState C.DirEntryState → Type 0 };
+
+    /// It drops nothing from the root's list, whatever it rests on, and adds nothing but errors.
+    ghost KeepsRoot: { Self → Type 0 } = { λ _. ⊥ };
 
     /// Works on the list of the directory at `path`, which has this depth. For the list of the root alone, `depth` is
     /// `None` and `path` is the root's parent, or empty if the root's entry is an error. It may change `state`, which
@@ -42,7 +45,9 @@ pub trait ProcessReadDir<C: ClientState, A: Allocator + Copy>: Drop {
         ensures depths { OnOk result (AtDepth (list_depth depth) (map item list.new.items)) }
         ensures made { (g : _) → Makes self.now g
             → OnOk result (IsProcessed g depth path.now
-            state.old (map item list.old.items) state.new (map item list.new.items)) };
+            state.old (map item list.old.items) state.new (map item list.new.items)) }
+        ensures root { KeepsRoot self.now → depth ≡ None
+            → OnOk result (AddsErrors (map item list.old.items) (map item list.new.items)) };
 }
 
 /// The callback that changes nothing.
@@ -53,6 +58,8 @@ impl<C: ClientState, A: Allocator + Copy> ProcessReadDir<C, A> for NoProcess {
     ghost IsLawful = { λ _. Unit {0} };
 
     ghost Makes = { λ _ g. KeepsLists g.processed };
+
+    ghost KeepsRoot = { λ _. Unit {0} };
 
     fn process(
         &self,
@@ -69,6 +76,7 @@ impl<C: ClientState, A: Allocator + Copy> ProcessReadDir<C, A> for NoProcess {
         ensures made { (g : _) → KeepsLists (Given.processed g)
             → OnOk result (IsProcessed g _depth _path.now
             _state.old (map item _list.old.items) _state.new (map item _list.new.items)) }
+        ensures root { AddsErrors (map item _list.old.items) (map item _list.new.items) }
     {
         Ok(())
     }

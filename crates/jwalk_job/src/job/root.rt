@@ -8,7 +8,7 @@ ghost use Rattle.jwalk_job.specs.Text.{text};
 ghost use Rattle.jwalk_job.specs.Error.{failure};
 ghost use Rattle.jwalk_job.specs.Entry.{entry, item};
 ghost use Rattle.jwalk_job.specs.ReadDir.{reading};
-ghost use Rattle.jwalk_job.specs.Given.{Given, counted_item, counted_reading, counted_entry, KeepsLists};
+ghost use Rattle.jwalk_job.specs.Given.{Given, counted_item, counted_reading, counted_entry, IsOfRoot, KeepsLists};
 ghost use Rattle.jwalk_job.specs.Job.{file_system, callback, job_by, IsSteadyJob, ByValue};
 
 use super::Job;
@@ -145,6 +145,7 @@ impl<C: ClientState, S: FileSystem, P: ProcessReadDir<C, A>, A: Allocator + Copy
             ≡ counted_reading g (reading r)) }
         ensures one { (g : _) → P.Makes (callback self.now) g → KeepsLists g.processed
             → IfOk result (λ r. length (reading r).list ≡ 1) }
+        ensures root { P.KeepsRoot (callback self.now) → IfOk result (λ r. IsOfRoot (reading r).list) }
     {
         let RootItem { item, parent_path } = self.root_item(path)?;
         let mut state = state;

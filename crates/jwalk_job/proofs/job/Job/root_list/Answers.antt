@@ -5,7 +5,7 @@ use Rattle.jwalk_model.specs.Counted.{Worth}
 use Rattle.jwalk_model.specs.ReadDir.{Reading}
 use Rattle.jwalk_job.specs.Entry.{item}
 use Rattle.jwalk_job.specs.Given.{counted_item, counted_reading}
-use Rattle.jwalk_job.proofs.GivenFacts.{same_call}
+use Rattle.jwalk_job.proofs.GivenFacts.{of_root, same_call}
 use Rattle.jwalk_job.proofs.job.Job.root_list.Goals as goal
 
 -- the list that the callback is given
@@ -35,3 +35,9 @@ returns-clause-one g c = λ given makes keeps.
     let same = ap (λ (r : Reading Worth Worth). r.list) (sym made ∙ keeps None _ _ _) in
     let one = ap length (c.in_ok-push.ensures.items ∙ ap (λ l. l ++ c.in_ok-item.field-0.item ∷ []) c.new-items.ensures.items) in
     ap (λ (r : Reading g.row.C-ReadDirState.Denot g.row.C-DirEntryState.Denot). length r.list) c.new.ensures ∙ one_kept (counted_item given) item _ _ same one
+
+pub returns-clause-root : goal.returns-clause-root
+returns-clause-root g c = λ keeps.
+    let one = one_item item c.in_ok-item.field-0.item c.new-items.result.items c.push.new.self.items c.new-items.ensures.items c.in_ok-push.ensures.items in
+    rw (ap (λ (r : Reading g.row.C-ReadDirState.Denot g.row.C-DirEntryState.Denot). r.list) c.new.ensures)
+    (of_root (item c.in_ok-item.field-0.item) _ _ one (c.in_ok-process.ensures.root keeps refl))
