@@ -1,10 +1,13 @@
 -- A session as a value.
-use Rattle.std.specs.Prelude.{ℕ, List}
+use Rattle.std.specs.Prelude.{ℕ, List, box_value}
 use Rattle.std.specs.Arc.{arc_value}
-use Rattle.keyed_slot.specs.Keyed.{key_mark}
+use Rattle.keyed_slot.specs.Keyed.{key_mark, tag_of}
 use Rattle.tree_crew.specs.declared.session.Session.{Session}
 use Rattle.tree_crew.specs.BoardTag.{limit_at, origin_at}
 use Rattle.tree_crew.specs.Origin.{Origin}
+use Rattle.tree_crew.specs.ReadAhead.{IsWithin}
+use Rattle.tree_crew.specs.declared.board_tag.BoardTag.{BoardTag}
+use Rattle.tree_crew.specs.declared.work.Work.{Work}
 
 module _ {W T U J A : Type 0} where
   -- where the readings of a session come from
@@ -18,3 +21,7 @@ module _ {W T U J A : Type 0} where
   -- the addresses of the readings that it still has to give, the next one first
   abbrev pub awaited_by : Session W T U J A → List (List ℕ)
   awaited_by session = key_mark session.key
+
+  -- Whatever fits the slot that the session's board is in while nobody works on it has at most as many readings ready or in hand as that, and one.
+  abbrev pub HoldsWithin : (BoardTag T J A → Work T U J A → Type 0) → Session W T U J A → Type 0
+  HoldsWithin fits session = (work : Work T U J A) → fits (tag_of (arc_value session.shared).work) work → IsWithin (read_ahead_of session) (box_value work.board)

@@ -20,6 +20,7 @@ use crate::work::Work;
 use crate::worker::start_workers;
 use jwalk_board::board::Plan;
 use jwalk_order::ordered::Ordered;
+use keyed_slot::marked::Marked;
 use keyed_slot::slot::Key;
 use std::alloc::{AllocError, Allocator, Global};
 use std::sync::{Arc, Wait};
@@ -109,7 +110,7 @@ impl<
     J: Plan<A, Spec = T, Reading = U> + Drop,
     A: Allocator + Copy,
 > Session<R, T, U, J, A> {
-    ghost use Rattle.tree_crew.specs.Session.{origin_of, awaited_by, read_ahead_of};
+    ghost use Rattle.tree_crew.specs.Session.{origin_of, awaited_by, read_ahead_of, HoldsWithin};
 
     /// Returns the next reading in preorder, once it is there, or none if all were handed out. It may block for the
     /// reading or for a lock. The addresses of the specifications below it are awaited from then on, in place of its
@@ -131,7 +132,8 @@ impl<
     /// Returns how many readings were made and not handed out: at most as many as the workers read ahead, and one. It
     /// may block for a lock.
     pub fn ahead(&self) -> usize
-        ensures { result ≤ read_ahead_of self.now + 1 }
+        ensures most { result ≤ read_ahead_of self.now + 1 }
+        ensures within { HoldsWithin ⟦<Work<T, U, J, A> as Marked>⟧.fits self.now }
     {
         let mut sleepers = self.shared.sleepers.lock(&self.shared.crew.rt);
         let (ready, _receipt) = self.shared.ready(&mut sleepers);
