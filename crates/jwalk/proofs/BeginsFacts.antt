@@ -17,7 +17,7 @@ use Rattle.jwalk_job.specs.declared.job.Job.{Job}
 use Rattle.jwalk_job.specs.declared.read_dir.ReadDir.{ReadDir}
 use Rattle.jwalk_job.specs.ReadDir.{reading}
 use Rattle.jwalk_job.specs.Options.{width_of}
-use Rattle.jwalk_job.specs.Given.{Given, counted_reading, KeepsLists}
+use Rattle.jwalk_job.specs.Given.{Given, IsOfRoot, counted_reading, KeepsLists}
 use Rattle.jwalk_job.specs.Job as job
 use Rattle.jwalk_job.specs.Job.{file_system, callback, job_by, IsSteady}
 use Rattle.tree_crew.specs.declared.crew.NotStarted.{NotStarted}
@@ -25,7 +25,7 @@ use Rattle.tree_crew.specs.declared.crew.NotStarted.TheVariants.{Busy, Memory}
 use Rattle.jwalk_iter.specs.DirEntryIter.{DirEntryIter, by_crew, held_by}
 use Rattle.jwalk_readings.specs.CrewReads.{start_failure}
 use Rattle.jwalk.specs.CrewStart.{HoldsList, IsFromRoot}
-use Rattle.jwalk.specs.WalkDir.{file_system_of, callback_of, root_of, state_of, options_of, job_for, Starts, HoldsOne, HoldsBusy, HoldsUnless, Begins}
+use Rattle.jwalk.specs.WalkDir.{file_system_of, callback_of, root_of, state_of, options_of, job_for, Starts, HoldsOne, HoldsRoot, HoldsBusy, HoldsUnless, Begins}
 use Rattle.jwalk.specs.declared.walk_dir.WalkDirGeneric.{WalkDirGeneric}
 
 -- what is held for a view is held for the value that is viewed
@@ -99,6 +99,10 @@ module _ {C S P A W L R E : Type 0} (files : FileSystem.Ghosts S) (process : Pro
     -- it holds one item where the callback keeps lists
     pub one_from_root : (made : (given : Given R E) → process.Makes (callback begun) given → KeepsLists given.processed → IfSome read (λ r. length r.list ≡ 1)) → HoldsOne process walk it
     one_from_root made given makes keeps = is.one (made given (rw by makes) keeps)
+
+    -- and the root's item, where that drops nothing from the root's list
+    pub root_from_root : (process.KeepsRoot (callback begun) → IfSome read (λ r. IsOfRoot r.list)) → HoldsRoot process walk it
+    root_from_root made keeps = is.root (made (rw by keeps))
 
     -- and begins with its root's list
     pub begins_from_root : IsRootList read → ((options_of walk).parallelism ≡ crew → IsSome walk.crew → (why_not ≡ Some Memory) ⊎ (by_crew it ≡ true)) → Begins files process clone defaults walk why_not it

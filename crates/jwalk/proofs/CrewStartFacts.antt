@@ -16,7 +16,7 @@ use Rattle.jwalk_model.specs.Held.{pair_up, first_source, after_first}
 use Rattle.jwalk_model.proofs.HeldFacts.{directories}
 use Rattle.jwalk_fs.specs.declared.file_system.FileSystem as FileSystem
 use Rattle.jwalk_job.specs.declared.process_read_dir.ProcessReadDir as ProcessReadDir
-use Rattle.jwalk_job.specs.Given.{Given, counted_reading, ClonesCount}
+use Rattle.jwalk_job.specs.Given.{Given, counted_reading, ClonesCount, IsOfRoot, entries_in}
 use Rattle.jwalk_job.specs.declared.job.Job.{Job}
 use Rattle.jwalk_job.specs.Options as options
 use Rattle.jwalk_job.specs.Job.{options_of, greatest_depth}
@@ -50,6 +50,19 @@ module _ {R E : Type 0} where
         | None ↦ (h.0, busied_depth depth l h.1)
         | Some c ↦ busied_depth depth l h.1
       ]
+
+  busied_alone : (l : List (Item R E)) → length (entries_in (map busied l)) ≤ length (entries_in l)
+  busied_alone [] = omega arith
+  busied_alone (Err f ∷ l) = busied_alone l
+  busied_alone (Ok e ∷ l) =
+      elim e.read_children as (λ o. length (entries_in ((if is_some o then Err busy else Ok e) ∷ map busied l)) ≤ length (entries_in (Ok e ∷ l))) [
+        | None ↦ omega (arith, busied_alone l)
+        | Some c ↦ omega (arith, busied_alone l)
+      ]
+
+  -- and are no entries
+  busied_root : (l : List (Item R E)) → IsOfRoot l → IsOfRoot (map busied l)
+  busied_root l root = record { some = omega (arith, length-map l busied, root.some); alone = omega (arith, busied_alone l, root.alone) }
 
   left_depth : (why_not : Option NotStarted) (l : List (Item R E)) → AtDepth 0 l → AtDepth 0 (left_of why_not l)
   left_depth None l h = h
@@ -122,6 +135,13 @@ module _ {C S P A L R E : Type 0} where
     begun_one (Some r) (Some Busy) it begun one = ap length (holds_started it begun.0) ∙ pairs_count (items_of it) (unread_of it) ∙ ap length begun.1 ∙ length-map r.list busied ∙ one
     begun_one (Some r) (Some Memory) it begun one = ap length (holds_refusal it begun.0 begun.1)
 
+    -- the root's entry or errors alone are left of such a list
+    begun_root : (read : Option (Reading R E)) (why_not : Option NotStarted) (it : DirEntryIter C S P A L R E) → IsBegun clone read why_not it → IfSome read (λ r. IsOfRoot r.list) → IsRefused it ⊎ IsOfRoot (items_of it)
+    begun_root None why_not it begun root = inl (record { tells = holds_refusal it begun.1 begun.2; nothing_unread = begun.3 })
+    begun_root (Some r) None it begun root = inr (rw begun.1 root)
+    begun_root (Some r) (Some Busy) it begun root = inr (rw begun.1 (busied_root r.list root))
+    begun_root (Some r) (Some Memory) it begun root = inl (begun_refused (Some r) it begun)
+
     -- where the readings began, it holds the root's list
     pub begun_holds : (given : Given R E) (read : Option (Reading R E)) (it : DirEntryIter C S P A L R E) → ClonesCount clone given → IsBegun clone read None it → IsSomeAnd read (λ r. held_by given it ≡ paired (counted_reading given r))
     begun_holds given None it counts begun = absurd (let no : ◌≡◌ {A = Option NotStarted} None (Some Memory) = begun.0 in cc)
@@ -162,6 +182,7 @@ module _ {C S P A L R E : Type 0} where
           width = width;
           ahead = λ alone. ahead;
           holds = refusal;
+          root = λ root. inl refusal;
           one = λ one. ap length refusal.tells;
           busy = λ is. absurd cc;
           by = λ is. absurd (let no : false ≡ true = sym own ∙ is in cc);
@@ -177,14 +198,15 @@ module _ {C S P A L R E : Type 0} where
       width = crew_width it by ∙ sym (ap options.width_of mode);
       ahead = λ alone. absurd (let no : false ≡ true = sym alone ∙ by in cc);
       holds = begun_list clone read why_not it depth is;
+      root = begun_root clone read why_not it is;
       one = begun_one clone read why_not it is;
       busy = λ busy. mode;
       by = λ by. mode;
     }
 
     -- one that reads by itself
-    pub alone_from_root : (why_not : Option NotStarted) → by_crew it ≡ false → ¬ (why_not ≡ Some Busy) → job_of it ≡ begun → IsWithin it → IsSourced it → IsRefused it ⊎ AtDepth 0 (items_of it) → width_of it ≡ options.width_of (options_of begun).parallelism → BeginsWith (unread_of it) (frontier_of it) (read_ahead it) → HoldsList clone read why_not it → (IfSome read (λ r. length r.list ≡ 1) → length (held it) ≡ 1) → IsFromRoot clone read begun why_not it
-    alone_from_root why_not own not_busy job within sourced start width ahead holds one = record {
+    pub alone_from_root : (why_not : Option NotStarted) → by_crew it ≡ false → ¬ (why_not ≡ Some Busy) → job_of it ≡ begun → IsWithin it → IsSourced it → IsRefused it ⊎ AtDepth 0 (items_of it) → width_of it ≡ options.width_of (options_of begun).parallelism → BeginsWith (unread_of it) (frontier_of it) (read_ahead it) → HoldsList clone read why_not it → (IfSome read (λ r. IsOfRoot r.list) → IsRefused it ⊎ IsOfRoot (items_of it)) → (IfSome read (λ r. length r.list ≡ 1) → length (held it) ≡ 1) → IsFromRoot clone read begun why_not it
+    alone_from_root why_not own not_busy job within sourced start width ahead holds root one = record {
       job = job;
       within = within;
       sourced = sourced;
@@ -192,6 +214,7 @@ module _ {C S P A L R E : Type 0} where
       width = width;
       ahead = λ alone. ahead;
       holds = holds;
+      root = root;
       one = one;
       busy = λ is. absurd (not_busy is);
       by = λ is. absurd (let no : false ≡ true = sym own ∙ is in cc);
@@ -210,6 +233,11 @@ some_and_map view P (Some x) h = h
 pub held_count : {C S P A L R E : Type 0} (read : Option (Reading R E)) (it : DirEntryIter C S P A L R E) → is_refused it ≡ false → IsSomeAnd read (λ r. items_of it ≡ r.list) → IfSome read (λ r. length r.list ≡ 1) → length (held it) ≡ 1
 held_count None it started is one = absurd is
 held_count (Some r) it started is one = ap length (holds_started it started) ∙ pairs_count (items_of it) (unread_of it) ∙ ap length is ∙ one
+
+-- and the root's entry, or errors alone, if the list does
+pub root_held : {C S P A L R E : Type 0} (read : Option (Reading R E)) (it : DirEntryIter C S P A L R E) → IsSomeAnd read (λ r. items_of it ≡ r.list) → IfSome read (λ r. IsOfRoot r.list) → IsOfRoot (items_of it)
+root_held None it is root = absurd is
+root_held (Some r) it is root = rw is root
 
 pub list_of : {C S P A L R E : Type 0} (read : Option (ReadDir C A R E)) (it : DirEntryIter C S P A L R E) → IsSomeAnd read (λ r. items_of it ≡ (reading r).list) → IsSomeAnd (option_map reading read) (λ r. items_of it ≡ r.list)
 list_of read it h = some_and_map reading (λ r. items_of it ≡ r.list) read h

@@ -17,7 +17,7 @@ use Rattle.jwalk_job.specs.declared.error.Error.{Error}
 use Rattle.jwalk_job.specs.declared.dir_entry.DirEntry.{DirEntry}
 use Rattle.jwalk_job.specs.Entry.{item}
 use Rattle.jwalk_job.specs.Options.{options_value, width_of}
-use Rattle.jwalk_job.specs.Given.{Given, counted_item, KeepsLists}
+use Rattle.jwalk_job.specs.Given.{Given, IsOfRoot, counted_item, KeepsLists}
 use Rattle.jwalk_job.specs.Job as job
 use Rattle.jwalk_job.specs.Job.{file_system, callback, IsSteady}
 use Rattle.jwalk_readings.specs.ReadAhead.{BeginsWith}
@@ -161,6 +161,14 @@ KeepsBound readers walk it = IfSome walk.crew (λ own. iter.most_ahead readers i
 -- The callback leaves lists as they are, so that the walk holds one item: the root's, or the error that it began with.
 abbrev pub HoldsOne : {C S P A W L R E : Type 0} → ProcessReadDir.Ghosts P C A R E → WalkDirGeneric C S P A W R E → DirEntryIter C S P A L R E → Type 0
 HoldsOne {R = R} {E = E} process walk it = (given : Given R E) → process.Makes (callback_of walk) given → KeepsLists given.processed → length (held it) ≡ 1
+
+-- The walk begins with the root's entry or an error, and no other entry, or with the error that memory ran out.
+abbrev pub BeginsAtRoot : {C S P A L R E : Type 0} → DirEntryIter C S P A L R E → Type 0
+BeginsAtRoot it = IsRefused it ⊎ IsOfRoot (items_of it)
+
+-- So it does if the callback drops nothing from the root's list, and adds errors alone, whatever the file system returns.
+abbrev pub HoldsRoot : {C S P A W L R E : Type 0} → ProcessReadDir.Ghosts P C A R E → WalkDirGeneric C S P A W R E → DirEntryIter C S P A L R E → Type 0
+HoldsRoot process walk it = process.KeepsRoot (callback_of walk) → BeginsAtRoot it
 
 module _ {C S P A W L R E : Type 0} (files : FileSystem.Ghosts S) (process : ProcessReadDir.Ghosts P C A R E) (clone : Clone.Ghosts R) (defaults : Default.Ghosts E) where
   -- The iterator holds the root's list.

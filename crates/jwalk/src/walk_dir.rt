@@ -307,7 +307,7 @@ impl<C: ClientState, S: FileSystem, P: ProcessReadDir<C, A>, A: Allocator + Copy
     A,
     NoCrew,
 > {
-    ghost use Rattle.jwalk.specs.WalkDir.{callback_of, Starts, Holds, HoldsOne};
+    ghost use Rattle.jwalk.specs.WalkDir.{callback_of, Starts, Holds, HoldsOne, HoldsRoot};
     ghost use Rattle.jwalk_iter.specs.DirEntryIter.{by_crew, is_refused, IsRefused};
 
     fn begin(self) -> DirEntryIter<C, S, P, A>
@@ -318,6 +318,7 @@ impl<C: ClientState, S: FileSystem, P: ProcessReadDir<C, A>, A: Allocator + Copy
             → Holds S.FileSystem P.ProcessReadDir C.ReadDirState.Clone C.DirEntryState.Default self result }
         ensures refused { is_refused result ≡ true → IsRefused result }
         ensures one { HoldsOne P.ProcessReadDir self result }
+        ensures root { HoldsRoot P.ProcessReadDir self result }
     {
         let alloc = *self.root.allocator();
         let WalkDirGeneric {
@@ -345,6 +346,7 @@ impl<C: ClientState, S: FileSystem, P: ProcessReadDir<C, A>, A: Allocator + Copy
         ensures holds { IfOk result (Holds S.FileSystem P.ProcessReadDir C.ReadDirState.Clone
             C.DirEntryState.Default self) }
         ensures one { IfOk result (HoldsOne P.ProcessReadDir self) }
+        ensures root { IfOk result (HoldsRoot P.ProcessReadDir self) }
         ensures memory { IfErr result (λ error. failure error ≡ memory) }
     {
         let walk = self.begin();
@@ -364,6 +366,7 @@ impl<C: ClientState, S: FileSystem, P: ProcessReadDir<C, A>, A: Allocator + Copy
         ensures holds { IsRefused result
             ⊎ Holds S.FileSystem P.ProcessReadDir C.ReadDirState.Clone C.DirEntryState.Default self result }
         ensures one { HoldsOne P.ProcessReadDir self result }
+        ensures root { HoldsRoot P.ProcessReadDir self result }
     {
         self.begin()
     }

@@ -67,7 +67,7 @@ where
     C::ReadDirState: Send + 'static,
     C::DirEntryState: Send + 'static,
 {
-    ghost use Rattle.jwalk.specs.WalkDir.{callback_of, options_of, Starts, HoldsOne, KeepsBound, Begins};
+    ghost use Rattle.jwalk.specs.WalkDir.{callback_of, options_of, Starts, HoldsOne, HoldsRoot, KeepsBound, Begins};
     ghost use Rattle.jwalk_iter.specs.DirEntryIter.{StartsSteady};
 
     fn begin_by(self) -> Begun<CrewWalk<R, C, S, P, A>>
@@ -76,6 +76,7 @@ where
         ensures begins { Begins S.FileSystem P.ProcessReadDir C.ReadDirState.Clone C.DirEntryState.Default
             self result.why_not result.walk }
         ensures one { HoldsOne P.ProcessReadDir self result.walk }
+        ensures root { HoldsRoot P.ProcessReadDir self result.walk }
         ensures most { KeepsBound ⟦<Session<R, C, S, P, A> as Readers<C, S, P, A>>⟧ self result.walk }
         ensures steady { StartsSteady S.FileSystem P.ProcessReadDir C.ReadDirState.Clone C.DirEntryState.Default
             ⟦<Session<R, C, S, P, A> as Readers<C, S, P, A>>⟧ result.walk }
@@ -112,6 +113,7 @@ where
         ensures begins { IfOk result (Begins S.FileSystem P.ProcessReadDir C.ReadDirState.Clone
             C.DirEntryState.Default self None) }
         ensures one { IfOk result (HoldsOne P.ProcessReadDir self) }
+        ensures root { IfOk result (HoldsRoot P.ProcessReadDir self) }
         ensures most { IfOk result (KeepsBound ⟦<Session<R, C, S, P, A> as Readers<C, S, P, A>>⟧ self) }
         ensures steady { IfOk result (StartsSteady S.FileSystem P.ProcessReadDir C.ReadDirState.Clone
             C.DirEntryState.Default ⟦<Session<R, C, S, P, A> as Readers<C, S, P, A>>⟧) }
@@ -134,6 +136,7 @@ where
         ensures begins { (why_not : _) × Begins S.FileSystem P.ProcessReadDir C.ReadDirState.Clone
             C.DirEntryState.Default self why_not result }
         ensures one { HoldsOne P.ProcessReadDir self result }
+        ensures root { HoldsRoot P.ProcessReadDir self result }
         ensures most { KeepsBound ⟦<Session<R, C, S, P, A> as Readers<C, S, P, A>>⟧ self result }
         ensures steady { StartsSteady S.FileSystem P.ProcessReadDir C.ReadDirState.Clone C.DirEntryState.Default
             ⟦<Session<R, C, S, P, A> as Readers<C, S, P, A>>⟧ result }

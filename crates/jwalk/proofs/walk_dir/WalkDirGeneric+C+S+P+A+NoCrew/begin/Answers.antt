@@ -5,13 +5,13 @@ use Rattle.jwalk_model.specs.Counted.{Worth}
 use Rattle.jwalk_model.specs.Job as value
 use Rattle.jwalk_job.specs.ReadDir.{reading}
 use Rattle.jwalk_job.specs.Options.{width_of}
-use Rattle.jwalk_job.specs.Given.{counted_reading}
+use Rattle.jwalk_job.specs.Given.{IsOfRoot, counted_reading}
 use Rattle.jwalk_job.specs.Job.{file_system, callback, options_of, job_by, IsSteady}
 use Rattle.jwalk_iter.specs.DirEntryIter.{held_by}
 use Rattle.jwalk.specs.WalkDir.{job_for, file_system_of, root_of, state_of}
 use Rattle.jwalk.proofs.BeginFacts.{held_view, by_flag, either}
 use Rattle.jwalk.proofs.BeginsFacts.{if_some_view}
-use Rattle.jwalk.proofs.CrewStartFacts.{held_count, list_of}
+use Rattle.jwalk.proofs.CrewStartFacts.{held_count, list_of, root_held}
 use Rattle.jwalk.proofs.walk_dir.WalkDirGeneric+C+S+P+A+NoCrew.begin.Goals as goal
 
 pub returns-clause-starts : goal.returns-clause-starts
@@ -50,3 +50,9 @@ returns-clause-one g c = λ given makes keeps.
     either c.from_root.result.refused
     (λ refused. ap length (c.from_root.ensures.refused refused).tells)
     (λ started. held_count (option_map reading c.ok.result) c.from_root.result started (list_of c.ok.result c.from_root.result (c.from_root.ensures.list started)) one)
+
+pub returns-clause-root : goal.returns-clause-root
+returns-clause-root g c = λ keeps.
+    let made = if_some_view reading (λ r. IsOfRoot r.list) c.root_list-read.result c.ok.result c.ok.ensures.value (c.root_list-read.ensures.root (rw c.new-job.ensures.callback keeps)) in
+    by_flag c.from_root.result.refused c.from_root.ensures.refused
+    (λ started. root_held (option_map reading c.ok.result) c.from_root.result (list_of c.ok.result c.from_root.result (c.from_root.ensures.list started)) made)

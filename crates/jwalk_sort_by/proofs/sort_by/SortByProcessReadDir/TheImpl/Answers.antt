@@ -18,4 +18,5 @@ process-tells g _ _ _ _ c =
           ∙ reading_as _ _ _ _ (ap given.read_dir_state (sym c.ensures.state))
           (counted-ordered given made.0 old new (sorted (less_of given made.0) (less_of-order given made.0 made.1) made.2)))
           c.ensures.ordered;
+      root = λ keeps at. absurd keeps;
     }

@@ -2,7 +2,8 @@ use Rattle.std.proofs.Common.{◌≡◌, ◌∙◌, true, false, length, option_
 use Rattle.std.specs.Arc.{arc_value}
 use Rattle.tree_crew.specs.Crew.{limit_of}
 use Rattle.jwalk_job.specs.ReadDir.{reading}
-use Rattle.jwalk.proofs.BeginsFacts.{if_some_view, within_limit, made_root, one_from_root, starts_from_root, begins_from_root}
+use Rattle.jwalk_job.specs.Given.{IsOfRoot}
+use Rattle.jwalk.proofs.BeginsFacts.{if_some_view, within_limit, made_root, one_from_root, root_from_root, starts_from_root, begins_from_root}
 use Rattle.jwalk.proofs.walk_dir.over_crew.WalkDirGeneric+C+S+P+A+Crew+R.begin_by.Goals as goal
 
 pub returns-in-Some-clause-starts : goal.returns-in-Some-clause-starts
@@ -46,3 +47,15 @@ returns-clause-one g c =
     let jobs = c.new-job.ensures in
     one_from_root g.S.FileSystem g.P.ProcessReadDir g.C.ReadDirState.Clone g.C.DirEntryState.Default c.args.self c.from_root_alone.result.walk c.new-job.result jobs.file_system jobs.callback jobs.options (option_map reading c.ok-read.result) c.from_root_alone.result.why_not c.from_root_alone.ensures.from_root
     (λ given makes keeps. if_some_view reading (λ r. length r.list ≡ 1) c.root_list.result c.ok-read.result c.ok-read.ensures.value (c.root_list.ensures.one given makes keeps))
+
+pub returns-in-Some-clause-root : goal.returns-in-Some-clause-root
+returns-in-Some-clause-root g c =
+    let jobs = c.new-job.ensures in
+    root_from_root g.S.FileSystem g.P.ProcessReadDir g.C.ReadDirState.Clone g.C.DirEntryState.Default c.args.self c.from_root_by.result.walk c.new-job.result jobs.file_system jobs.callback jobs.options (option_map reading c.ok-read.result) c.from_root_by.result.why_not c.from_root_by.ensures.from_root
+    (λ keeps. if_some_view reading (λ r. IsOfRoot r.list) c.root_list.result c.ok-read.result c.ok-read.ensures.value (c.root_list.ensures.root keeps))
+
+pub returns-clause-root : goal.returns-clause-root
+returns-clause-root g c =
+    let jobs = c.new-job.ensures in
+    root_from_root g.S.FileSystem g.P.ProcessReadDir g.C.ReadDirState.Clone g.C.DirEntryState.Default c.args.self c.from_root_alone.result.walk c.new-job.result jobs.file_system jobs.callback jobs.options (option_map reading c.ok-read.result) c.from_root_alone.result.why_not c.from_root_alone.ensures.from_root
+    (λ keeps. if_some_view reading (λ r. IsOfRoot r.list) c.root_list.result c.ok-read.result c.ok-read.ensures.value (c.root_list.ensures.root keeps))
