@@ -1,19 +1,16 @@
 //! The crew that reads directories.
-ghost use Rattle.std.specs.Prelude.{◌≡◌, ◌<◌, ℕ, Some, is_some, min, nat_lt, string_bytes, IfOk, IfSome};
-ghost use Rattle.std.specs.Arc.{arc_value};
+ghost use Rattle.std.specs.Prelude.{◌≡◌, is_some, string_bytes, IfOk};
 ghost use Rattle.jwalk.specs.jwalk_job.Options.{options_value};
-ghost use Rattle.jwalk.specs.tree_crew.Crew.{limit_of, workers_of};
 ghost use Rattle.jwalk.specs.WalkDir.{file_system_of, root_of, state_of, options_of, described};
 ghost use Rattle.program_walks.specs.Crew.{threads_in, with_crew, IsCrewOf, ReadsBy};
 
-use jwalk::crew::{Session, threads_for};
+use jwalk::crew::Session;
 use jwalk::file_system::FileSystem;
 use jwalk::read_dir::NoProcess;
 use jwalk::{ClientState, Crew, DirEntryIter, Options, Parallelism, WalkDirGeneric};
 use jwalk_ignore::states::OnlyRules;
 use std::alloc::{AllocError, Allocator, Global};
 use std::sync::{Arc, Wait};
-use std::thread::Threads;
 use std::time::Clock;
 
 /// How many directories are read ahead at most: enough for all threads but one, while that one lists a large directory.
@@ -54,31 +51,6 @@ pub fn crew_with<T: Wait + Clock + Clone + Drop>(
     }
     let crew = Crew::new(rt.clone()?, 1, threads).with_read_ahead(READ_AHEAD);
     Ok(Some(Arc::new(alloc, crew)?))
-}
-
-/// Returns a crew of as many threads as are asked for, but at most 256. 0 and no number mean as many as can run at a time.
-/// One thread needs no crew. The threads read at most 8,192 directories ahead.
-///
-/// # Errors
-///
-/// If memory runs out.
-pub fn crew_of<T: Wait + Threads + Clock + Clone + Drop>(
-    rt: &T,
-    alloc: Global,
-    asked: Option<usize>,
-) -> Result<Option<Arc<Crew<T>>>, AllocError>
-    ensures crew { (threads : ℕ) → asked ≡ Some threads → 0 < threads
-        → IfOk result (λ crew. is_some crew ≡ nat_lt 1 threads) }
-    ensures workers { (threads : ℕ) → asked ≡ Some threads → 0 < threads
-        → IfOk result (λ crew. IfSome crew (λ it. workers_of (arc_value it) ≡ min threads 256)) }
-    ensures read_ahead { IfOk result (λ crew. IfSome crew (λ it. limit_of (arc_value it) ≡ 8192)) }
-{
-    let threads = threads_for(rt, asked.unwrap_or(0));
-    if threads < 2 {
-        return Ok(None);
-    }
-    let own = Crew::new(rt.clone()?, 1, threads).with_read_ahead(READ_AHEAD);
-    Ok(Some(Arc::new(alloc, own)?))
 }
 
 /// Returns the walk below a root with these options, without a callback. If there is a crew, it reads the directories,

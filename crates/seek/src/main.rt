@@ -1,6 +1,7 @@
 //! Looks for entries by their names: `seek [OPTIONS] [PATTERN] [ROOT..]` prints the path of each, one a line.
 #![tactic(auto)]
 
+use jwalk::crew::threads_for;
 use jwalk::file_system::{Patient, RealFs};
 use jwalk_ignore::real_texts::RealTexts;
 use program_parts::masked_lines::MaskedLines;
@@ -50,6 +51,7 @@ fn main(rt: HostRuntime) -> ExitCode {
         Ok((words, (disk, texts))) => Seek {
             rt: &rt,
             clock: &rt,
+            cores: threads_for(&rt, 0),
             alloc: rt.alloc(),
             disk,
             texts,

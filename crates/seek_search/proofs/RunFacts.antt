@@ -174,11 +174,13 @@ one_more f before after paths i path below was is =
     ∙ ap (flat_map f) (map-append (λ it. it.now) (take i paths) (last ∷ []))
     ∙ flat_map-append f first (last.now ∷ []) ∙ ap (λ (l : List ℕ). flat_map f first ++ l) (append-nil (f last.now)))
 
-module _ {T C Z B X A E G H F : Type 0} (plain : CrewCallsOf T G (Arc (KeptLinks Z) B) LeavesOut A H F) (honouring : CrewCallsOf T C (Arc (KeptLinks Z) B) (Honours (UserTexts X) B) A RulesState E) {disk : Z} {still still' told told' : Type 0} {fs : Functions} {values values' : Texts} {screen : Screen} {asked : Asked} {takes : List ℕ → Bool → Bool} {old new : Option (List ℕ)} where
+module _ {T C Z B X A E G H F : Type 0} (plain : CrewCallsOf T G (Arc (KeptLinks Z) B) LeavesOut A H F) (honouring : CrewCallsOf T C (Arc (KeptLinks Z) B) (Honours (UserTexts X) B) A RulesState E) {disk : Z} {still still' told told' : Type 0} {fs : Functions} {values values' : Texts} {cores : ℕ} {screen : Screen} {asked : Asked} {takes : List ℕ → Bool → Bool} {old new : Option (List ℕ)} where
   -- the lines are printed if the file system is fixed
-  pub printed_if : (still' → still) → ((wanted : Bool) (front : Option (List ℕ)) → IsFront told values wanted front → IsFront told' values' wanted front) → (from : UserTexts X) (lines : List ℕ) → PrintsYielded plain honouring disk still told fs values from lines screen asked takes old new true
-      → PrintsYielded plain honouring disk still' told' fs values' from lines screen asked takes old new true
+  pub printed_if : (still' → still) → ((wanted : Bool) (front : Option (List ℕ)) → IsFront told values wanted front → IsFront told' values' wanted front) → (from : UserTexts X) (lines : List ℕ) → PrintsYielded plain honouring disk still told fs values cores from lines screen asked takes old new true
+      → PrintsYielded plain honouring disk still' told' fs values' cores from lines screen asked takes old new true
   printed_if fixes fronts from lines prints = record {
+    crew = prints.crew;
+    is_crew = prints.is_crew;
     front = prints.front;
     in_front = fronts asked.full_path prints.front prints.in_front;
     shown = prints.shown;
@@ -187,18 +189,18 @@ module _ {T C Z B X A E G H F : Type 0} (plain : CrewCallsOf T G (Arc (KeptLinks
     printed = λ known. prints.printed (λ empty. fixes (known.0 empty), λ links. fixes (known.1 links));
   }
 
-module _ {T C Z B X A E G H F : Type 0} (plain : CrewCallsOf T G (Arc (KeptLinks Z) B) LeavesOut A H F) (honouring : CrewCallsOf T C (Arc (KeptLinks Z) B) (Honours (UserTexts X) B) A RulesState E) {disk : Z} {told told' : Type 0} {fs : Functions} {values values' : Texts} {asked : Asked} {takes : List ℕ → Bool → Bool} where
+module _ {T C Z B X A E G H F : Type 0} (plain : CrewCallsOf T G (Arc (KeptLinks Z) B) LeavesOut A H F) (honouring : CrewCallsOf T C (Arc (KeptLinks Z) B) (Honours (UserTexts X) B) A RulesState E) {disk : Z} {told told' : Type 0} {fs : Functions} {values values' : Texts} {cores : ℕ} {asked : Asked} {takes : List ℕ → Bool → Bool} where
   -- the same where one of the answers is found
-  pub found_if : {found : Bool} → ((wanted : Bool) (front : Option (List ℕ)) → IsFront told values wanted front → IsFront told' values' wanted front) → (from : UserTexts X) (lines : List ℕ) → Finds plain honouring disk told fs values from lines asked takes found → Finds plain honouring disk told' fs values' from lines asked takes found
-  found_if fronts from lines finds = record { front = finds.front; in_front = fronts asked.full_path finds.front finds.in_front; answers = finds.answers; yielded = finds.yielded; one = finds.one }
+  pub found_if : {found : Bool} → ((wanted : Bool) (front : Option (List ℕ)) → IsFront told values wanted front → IsFront told' values' wanted front) → (from : UserTexts X) (lines : List ℕ) → Finds plain honouring disk told fs values cores from lines asked takes found → Finds plain honouring disk told' fs values' cores from lines asked takes found
+  found_if fronts from lines finds = record { crew = finds.crew; is_crew = finds.is_crew; front = finds.front; in_front = fronts asked.full_path finds.front finds.in_front; answers = finds.answers; yielded = finds.yielded; one = finds.one }
 
-module _ {T C Z B X A E G H F : Type 0} (plain : CrewCallsOf T G (Arc (KeptLinks Z) B) LeavesOut A H F) (honouring : CrewCallsOf T C (Arc (KeptLinks Z) B) (Honours (UserTexts X) B) A RulesState E) {disk : Z} {reads : X} {still still' told told' : Type 0} {fs fs' : Functions} {texts texts' : Texts} {home : Home} {screen : Screen} {asked : Asked} {sought : Looked} {old old' new : Option (List ℕ)} where
+module _ {T C Z B X A E G H F : Type 0} (plain : CrewCallsOf T G (Arc (KeptLinks Z) B) LeavesOut A H F) (honouring : CrewCallsOf T C (Arc (KeptLinks Z) B) (Honours (UserTexts X) B) A RulesState E) {disk : Z} {reads : X} {still still' told told' : Type 0} {fs fs' : Functions} {texts texts' : Texts} {home : Home} {cores : ℕ} {screen : Screen} {asked : Asked} {sought : Looked} {old old' new : Option (List ℕ)} where
   -- the same search, by other names of the file system, the texts and what was written before
-  pub searches_as : (still' → still) → (told' → told) → fs ≡ fs' → texts ≡ texts' → old ≡ old' → SearchesFor plain honouring disk reads still told fs texts home screen asked sought old new → SearchesFor plain honouring disk reads still' told' fs' texts' home screen asked sought old' new
+  pub searches_as : (still' → still) → (told' → told) → fs ≡ fs' → texts ≡ texts' → old ≡ old' → SearchesFor plain honouring disk reads still told fs texts home cores screen asked sought old new → SearchesFor plain honouring disk reads still' told' fs' texts' home cores screen asked sought old' new
   searches_as stays tells over from before s =
-      subst (λ (o : Option (List ℕ)). SearchesFor plain honouring disk reads still' told' fs' texts' home screen asked sought o new) before
-      (subst (λ (t : Texts). SearchesFor plain honouring disk reads still' told' fs' t home screen asked sought old new) from
-      (subst (λ (f : Functions). SearchesFor plain honouring disk reads still' told' f texts home screen asked sought old new) over
+      subst (λ (o : Option (List ℕ)). SearchesFor plain honouring disk reads still' told' fs' texts' home cores screen asked sought o new) before
+      (subst (λ (t : Texts). SearchesFor plain honouring disk reads still' told' fs' t home cores screen asked sought old new) from
+      (subst (λ (f : Functions). SearchesFor plain honouring disk reads still' told' f texts home cores screen asked sought old new) over
       (record {
         colored = s.colored;
         times = record { now = s.times.now; after = s.times.after; before = s.times.before; after_file = λ still'. s.times.after_file (stays still') };
@@ -207,7 +209,7 @@ module _ {T C Z B X A E G H F : Type 0} (plain : CrewCallsOf T G (Arc (KeptLinks
         prints = λ still' told'. s.prints (stays still') (tells told');
       })))
 
-module _ {T C Z B X A E G H F : Type 0} (plain : CrewCallsOf T G (Arc (KeptLinks (Based Z)) B) LeavesOut A H F) (honouring : CrewCallsOf T C (Arc (KeptLinks (Based Z)) B) (Honours (UserTexts (Based X)) B) A RulesState E) {disk : Z} {reads : X} {still told : Type 0} {fs : Functions} {texts : Texts} {home : Home} {screen : Screen} {old new : Option (List ℕ)} where
+module _ {T C Z B X A E G H F : Type 0} (plain : CrewCallsOf T G (Arc (KeptLinks (Based Z)) B) LeavesOut A H F) (honouring : CrewCallsOf T C (Arc (KeptLinks (Based Z)) B) (Honours (UserTexts (Based X)) B) A RulesState E) {disk : Z} {reads : X} {still told : Type 0} {fs : Functions} {texts : Texts} {home : Home} {cores : ℕ} {screen : Screen} {old new : Option (List ℕ)} where
   -- the same call, by other names of its words
-  pub searches_with : {words words' : List (List ℕ)} → words ≡ words' → AskForText words ⊎ Searches plain honouring disk reads still told fs texts home screen words old new → AskForText words' ⊎ Searches plain honouring disk reads still told fs texts home screen words' old new
-  searches_with is = subst (λ (w : List (List ℕ)). AskForText w ⊎ Searches plain honouring disk reads still told fs texts home screen w old new) is
+  pub searches_with : {words words' : List (List ℕ)} → words ≡ words' → AskForText words ⊎ Searches plain honouring disk reads still told fs texts home cores screen words old new → AskForText words' ⊎ Searches plain honouring disk reads still told fs texts home cores screen words' old new
+  searches_with is = subst (λ (w : List (List ℕ)). AskForText w ⊎ Searches plain honouring disk reads still told fs texts home cores screen w old new) is

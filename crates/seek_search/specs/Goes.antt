@@ -1,5 +1,5 @@
 -- The answers of a search, whatever the disk and the texts answer.
-use Rattle.std.specs.Prelude.{◌≡◌, ◌⊎◌, ℕ, Bool, true, false, List, Option, Some, Result, MatchBool}
+use Rattle.std.specs.Prelude.{◌≡◌, ◌⊎◌, ℕ, Bool, true, false, List, Option, Some, Result, is_some, MatchBool}
 use Rattle.std.specs.Arc.{arc_value}
 use Rattle.std.specs.Iterator.{Drains, Yields}
 use Rattle.std.specs.List.{list_any}
@@ -11,7 +11,7 @@ use Rattle.jwalk.specs.jwalk_model.Options.{with_skip_hidden}
 use Rattle.jwalk.specs.jwalk_job.Given.{counted_list}
 use Rattle.jwalk_job.specs.declared.dir_entry.DirEntry.{DirEntry}
 use Rattle.jwalk_job.specs.declared.error.Error.{Error}
-use Rattle.jwalk.specs.WalkDir.{callback_of, file_system_of, options_of, root_of, state_of, stateless, Starts}
+use Rattle.jwalk.specs.WalkDir.{callback_of, described, file_system_of, options_of, root_of, state_of, stateless, Starts}
 use Rattle.jwalk.specs.declared.crew.Crew.{Crew}
 use Rattle.jwalk.specs.declared.crew.Session.{Session}
 use Rattle.jwalk.specs.DirEntryIter.{DirEntryIter}
@@ -31,13 +31,13 @@ use Rattle.seek_found.specs.Found.{IfAsked}
 use Rattle.seek_found.specs.Limit.{is_hit}
 use Rattle.seek_found.specs.Prune.{unpruned}
 use Rattle.seek_found.specs.Roots.{AreBelow, Below, PrintsSuch}
-use Rattle.program_walks.specs.Crew.{CrewCallsOf, with_crew}
+use Rattle.program_walks.specs.Crew.{CrewCallsOf, IsCrewOf, ReadsBy, threads_in, with_crew}
 use Rattle.jwalk.specs.jwalk_callbacks.Both.{first_of, second_of}
 use Rattle.jwalk.specs.jwalk_callbacks.declared.both.Both.{Both}
 use Rattle.jwalk_ignore.specs.Callback.Excluding.{excluded_of}
 use Rattle.seek_search.specs.Printing.{IsFront}
 use Rattle.seek_search.specs.RulesRead.{home_asked, lines_asked}
-use Rattle.seek_search.specs.Search.{excluded_asked, form_before, limit_asked, named_below, options_asked, roots_asked, settings_asked, sought_before}
+use Rattle.seek_search.specs.Search.{excluded_asked, form_before, limit_asked, named_below, options_asked, roots_asked, settings_asked, sought_before, threads_asked}
 use Rattle.jwalk_ignore.specs.declared.callback.excluding.Excluding.{Excluding}
 use Rattle.seek_search.specs.KeptLinks.{functions_kept}
 use Rattle.seek_search.specs.declared.kept_links.KeptLinks.{KeptLinks}
@@ -64,57 +64,64 @@ abbrev pub Honours : Type 0 → Type 0 → Type 0
 Honours X B = IgnoreFiles (Arc X B) Excluding
 
 -- The walk over this disk below this root, without ignore files. It leaves out what these lines name, and then what `-E`
--- does. A crew may read for it.
-pub record IsPlain {T C S B A R E : Type 0} (disk : S) (lines : List ℕ) (asked : Asked) (root : List ℕ) (walk : WalkDirGeneric C (Arc S B) LeavesOut A (Crew T) R E) : Type 0 where
+-- does. This crew reads for it, if there is one.
+pub record IsPlain {T C S B A R E : Type 0} (disk : S) (crew : Option (Arc (Crew T) A)) (lines : List ℕ) (asked : Asked) (root : List ℕ) (walk : WalkDirGeneric C (Arc S B) LeavesOut A (Crew T) R E) : Type 0 where
   pub over : arc_value (file_system_of walk) ≡ disk
   pub below : root_of walk ≡ root
-  pub by_crew : Bool
-  pub options : options_of walk ≡ with_crew by_crew (options_asked asked)
+  pub options : options_of walk ≡ with_crew (is_some crew) (options_asked asked)
+  pub by : ReadsBy crew (described walk).crew
   pub named : excluded_of (first_of (callback_of walk)) ≡ named_below lines root
   pub excluded : excluded_of (second_of (callback_of walk)) ≡ excluded_asked asked root
 
--- The walk over this disk below this root that honours the ignore files of these texts, and at last these lines. It begins without rules, and is
--- shown hidden names. It drops these itself, unless they are asked for.
-pub record IsHonouring {T C S B X A E : Type 0} (disk : S) (texts : X) (lines : List ℕ) (asked : Asked) (root : List ℕ) (walk : WalkDirGeneric C (Arc S B) (Honours X B) A (Crew T) RulesState E) : Type 0 where
+-- The walk over this disk below this root that honours the ignore files of these texts, and at last these lines. It
+-- begins without rules, and is shown hidden names. It drops these itself, unless they are asked for. This crew reads for
+-- it, if there is one.
+pub record IsHonouring {T C S B X A E : Type 0} (disk : S) (texts : X) (crew : Option (Arc (Crew T) A)) (lines : List ℕ) (asked : Asked) (root : List ℕ) (walk : WalkDirGeneric C (Arc S B) (Honours X B) A (Crew T) RulesState E) : Type 0 where
   pub over : arc_value (file_system_of walk) ≡ disk
   pub below : root_of walk ≡ root
-  pub by_crew : Bool
-  pub options : options_of walk ≡ with_skip_hidden false (with_crew by_crew (options_asked asked))
+  pub options : options_of walk ≡ with_skip_hidden false (with_crew (is_some crew) (options_asked asked))
+  pub by : ReadsBy crew (described walk).crew
   pub texts_read : arc_value (texts_of (callback_of walk)) ≡ texts
   pub settings : settings_of (callback_of walk) ≡ settings_asked lines asked
   pub excluded : excluded_of (next_of (callback_of walk)) ≡ excluded_asked asked root
   pub begins : rules_held (state_of walk) ≡ no_rules
 
 module _ {T C S B X A E G H F : Type 0} (plain : CrewCallsOf T G (Arc S B) LeavesOut A H F) (honouring : CrewCallsOf T C (Arc S B) (Honours X B) A RulesState E) where
-  -- The answers are those of the walk that is asked for below this root: all of them, unless the search may stop.
-  abbrev pub YieldedBelow : S → X → List ℕ → Asked → Sought → Below
-  YieldedBelow disk texts lines asked sought may_stop root answers =
-      MatchBool asked.no_ignore (Yielded plain (IsPlain disk lines asked root) sought may_stop answers) (Yielded honouring (IsHonouring disk texts lines asked root) sought may_stop answers)
+  -- The answers are those of the walk that is asked for below this root, for which this crew reads, if there is one: all
+  -- of them, unless the search may stop.
+  abbrev pub YieldedBelow : S → X → Option (Arc (Crew T) A) → List ℕ → Asked → Sought → Below
+  YieldedBelow disk texts crew lines asked sought may_stop root answers =
+      MatchBool asked.no_ignore (Yielded plain (IsPlain disk crew lines asked root) sought may_stop answers) (Yielded honouring (IsHonouring disk texts crew lines asked root) sought may_stop answers)
 
 module _ {T C Z B X A E G H F : Type 0} (plain : CrewCallsOf T G (Arc (KeptLinks Z) B) LeavesOut A H F) (honouring : CrewCallsOf T C (Arc (KeptLinks Z) B) (Honours X B) A RulesState E) where
   -- The answers are those of the walks below the roots that are asked for, one root after another. Links that lead
   -- nowhere stay links.
-  abbrev pub AreYielded : Z → X → List ℕ → Asked → Sought → Type 0 → List (Item Worth Worth) → Type 0
-  AreYielded disk texts lines asked sought may_stop = AreBelow (YieldedBelow plain honouring (record { disk = disk; follow = asked.follow }) texts lines asked sought) may_stop (roots_asked asked)
+  abbrev pub AreYielded : Z → X → Option (Arc (Crew T) A) → List ℕ → Asked → Sought → Type 0 → List (Item Worth Worth) → Type 0
+  AreYielded disk texts crew lines asked sought may_stop = AreBelow (YieldedBelow plain honouring (record { disk = disk; follow = asked.follow }) texts crew lines asked sought) may_stop (roots_asked asked)
 
   -- The line of each answer that is looked for was printed, up to the limit, and the result says whether all answers
-  -- are clean. The absolute path is tested, and printed, if that is asked for; it is known if the texts always answer
+  -- are clean. The crew that reads has the threads that are asked for, or else as many as can run at a time, which are
+  -- `cores`. The absolute path is tested, and printed, if that is asked for; it is known if the texts always answer
   -- the same, which `told` says. If empty entries are looked for, or the disk is asked where links lead, this holds if
   -- the disk always answers the same, which `fixed` says.
-  pub record PrintsYielded (disk : Z) (fixed told : Type 0) (fs : Functions) (values : Texts) (texts : X) (lines : List ℕ) (screen : Screen) (asked : Asked) (takes : List ℕ → Bool → Bool) (old new : Option (List ℕ)) (clean : Bool) : Type 0 where
+  pub record PrintsYielded (disk : Z) (fixed told : Type 0) (fs : Functions) (values : Texts) (cores : ℕ) (texts : X) (lines : List ℕ) (screen : Screen) (asked : Asked) (takes : List ℕ → Bool → Bool) (old new : Option (List ℕ)) (clean : Bool) : Type 0 where
+    pub crew : Option (Arc (Crew T) A)
+    pub is_crew : IsCrewOf (threads_in cores (threads_asked asked)) crew
     pub front : Option (List ℕ)
     pub in_front : IsFront told values asked.full_path front
     pub shown : Option (List ℕ)
     pub is_shown : IsFront told values asked.absolute shown
     pub left : Option ℕ
-    pub printed : IfAsked fixed (sought_before fs front asked takes) (form_before (functions_kept asked.follow fs) shown screen asked) → PrintsSuch (AreYielded disk texts lines asked (sought_before fs front asked takes) (left ≡ Some 0)) (sought_before fs front asked takes) (form_before (functions_kept asked.follow fs) shown screen asked) (limit_asked asked) left old new clean
+    pub printed : IfAsked fixed (sought_before fs front asked takes) (form_before (functions_kept asked.follow fs) shown screen asked) → PrintsSuch (AreYielded disk texts crew lines asked (sought_before fs front asked takes) (left ≡ Some 0)) (sought_before fs front asked takes) (form_before (functions_kept asked.follow fs) shown screen asked) (limit_asked asked) left old new clean
 
   -- `found` says whether one of the answers is looked for. If so, the search may stop there.
-  pub record Finds (disk : Z) (told : Type 0) (fs : Functions) (values : Texts) (texts : X) (lines : List ℕ) (asked : Asked) (takes : List ℕ → Bool → Bool) (found : Bool) : Type 0 where
+  pub record Finds (disk : Z) (told : Type 0) (fs : Functions) (values : Texts) (cores : ℕ) (texts : X) (lines : List ℕ) (asked : Asked) (takes : List ℕ → Bool → Bool) (found : Bool) : Type 0 where
+    pub crew : Option (Arc (Crew T) A)
+    pub is_crew : IsCrewOf (threads_in cores (threads_asked asked)) crew
     pub front : Option (List ℕ)
     pub in_front : IsFront told values asked.full_path front
     pub answers : List (Item Worth Worth)
-    pub yielded : AreYielded disk texts lines asked (sought_before fs front asked takes) (found ≡ true) answers
+    pub yielded : AreYielded disk texts crew lines asked (sought_before fs front asked takes) (found ≡ true) answers
     pub one : list_any (is_hit (sought_before fs front asked takes)) answers ≡ found
 
 -- What is known of a search by these texts, in whose repositories are the user's excludes if they are asked for, and by

@@ -38,23 +38,23 @@ PrintsAsked fs texts home screen asked sought =
     PrintsRead fs (with_user (home_asked (home_value home) asked) texts) (lines_asked texts asked) screen asked sought
 
 module _ {T C Z B X A E G H F : Type 0} (plain : CrewCallsOf T G (Arc (KeptLinks Z) B) LeavesOut A H F) (honouring : CrewCallsOf T C (Arc (KeptLinks Z) B) (Honours (UserTexts X) B) A RulesState E) where
-  -- This is searched over this disk. The times that are asked for are known. Paths are in colors if the words or the
-  -- screen ask for it. A quiet search writes nothing, and finds one of the answers of its walks. Any other search prints
+  -- This is searched over this disk, by the crew that is asked for. The times that are asked for are known. Paths are in
+  -- colors if the words or the screen ask for it. A quiet search writes nothing, and finds one of the answers of its walks. Any other search prints
   -- their lines in the way that is asked for, and all answers are clean. If there is no limit, and the file system and
   -- the texts are fixed, as `still` and `told` say, the answers are those that are asked for. If empty entries are looked
   -- for, or the color of a link tells whether it leads nowhere, the answers are told only if the file system is fixed. Of
   -- a quiet search colors tell nothing.
-  pub record SearchesFor (disk : Z) (reads : X) (still told : Type 0) (fs : Functions) (texts : Texts) (home : Home) (screen : Screen) (asked : Asked) (sought : Sought) (old new : Option (List ℕ)) : Type 0 where
+  pub record SearchesFor (disk : Z) (reads : X) (still told : Type 0) (fs : Functions) (texts : Texts) (home : Home) (cores : ℕ) (screen : Screen) (asked : Asked) (sought : Sought) (old new : Option (List ℕ)) : Type 0 where
     pub colored : asked.colored ≡ is_colored screen asked.color
     pub times : AreTimes still fs asked asked.times
-    pub quiet : asked.quiet ≡ true → (new ≡ old) × ((asked.kinds.empty ≡ true → still) → ByRead reads told texts home asked (λ reads lines. Finds plain honouring disk told fs texts reads lines asked (takes_by sought) true))
-    pub yielded : asked.quiet ≡ false → ByRead reads told texts home asked (λ reads lines. PrintsYielded plain honouring disk still told fs texts reads lines screen asked (takes_by sought) old new true)
+    pub quiet : asked.quiet ≡ true → (new ≡ old) × ((asked.kinds.empty ≡ true → still) → ByRead reads told texts home asked (λ reads lines. Finds plain honouring disk told fs texts cores reads lines asked (takes_by sought) true))
+    pub yielded : asked.quiet ≡ false → ByRead reads told texts home asked (λ reads lines. PrintsYielded plain honouring disk still told fs texts cores reads lines screen asked (takes_by sought) old new true)
     pub prints : still → told → limit_asked asked ≡ None → PrintsAsked fs texts home screen asked sought old new
 
 module _ {T C Z B X A E G H F : Type 0} (plain : CrewCallsOf T G (Arc (KeptLinks (Based Z)) B) LeavesOut A H F) (honouring : CrewCallsOf T C (Arc (KeptLinks (Based Z)) B) (Honours (UserTexts (Based X)) B) A RulesState E) where
   -- The words ask for a search, and the names that are looked for are those of the patterns. This is searched, over the
   -- disk and the texts as they are seen from the folder that is asked for, which is one.
-  pub record Searches (disk : Z) (reads : X) (still told : Type 0) (fs : Functions) (texts : Texts) (home : Home) (screen : Screen) (words : List (List ℕ)) (old new : Option (List ℕ)) : Type 0 where
+  pub record Searches (disk : Z) (reads : X) (still told : Type 0) (fs : Functions) (texts : Texts) (home : Home) (cores : ℕ) (screen : Screen) (words : List (List ℕ)) (old new : Option (List ℕ)) : Type 0 where
     pub asked : Asked
     pub ask : AskFor words asked
     pub sought : Sought
@@ -64,4 +64,4 @@ module _ {T C Z B X A E G H F : Type 0} (plain : CrewCallsOf T G (Arc (KeptLinks
     pub from : Based X
     pub is_from : IsBased reads asked from
     pub folder : still → has_folder (functions_based (base_asked asked) fs) asked ≡ true
-    pub searches : SearchesFor plain honouring over from still told (functions_based (base_asked asked) fs) (texts_based (base_asked asked) texts) home screen asked sought old new
+    pub searches : SearchesFor plain honouring over from still told (functions_based (base_asked asked) fs) (texts_based (base_asked asked) texts) home cores screen asked sought old new

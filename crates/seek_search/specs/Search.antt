@@ -1,5 +1,5 @@
 -- The walks of a search, and its finds.
-use Rattle.std.specs.Prelude.{ℕ, zero, suc, ◌-◌, ◌^◌, ◌==◌, Bool, true, not, ◌&&◌, ◌||◌, List, [], ◌∷◌, bytes_eq, codes, flat_map, length, take, Option, None, Some, Result, Ok, Err, option_map, unwrap_or, if◌then◌else◌}
+use Rattle.std.specs.Prelude.{ℕ, zero, suc, ◌-◌, ◌^◌, ◌==◌, Bool, true, false, not, ◌&&◌, ◌||◌, List, [], ◌∷◌, bytes_eq, codes, flat_map, length, nat_lt, take, Option, None, Some, Result, Ok, Err, option_map, unwrap_or, if◌then◌else◌}
 use Rattle.std.specs.declared.io.ErrorKind.{ErrorKind}
 use Rattle.jwalk.specs.jwalk_model.Counted.{Worth, blank}
 use Rattle.jwalk.specs.jwalk_model.Entry.{Item}
@@ -44,6 +44,15 @@ options_asked asked = record defaults {
   keep_metadata = needs_metadata asked;
   max_depth = unwrap_or asked.depths.greatest (2 ^ 64 - 1);
 }
+
+-- whether the lists of roots alone are read, under a greatest depth
+abbrev pub is_shallow : Option ℕ → Bool
+is_shallow None = false
+is_shallow (Some greatest) = nat_lt greatest 2
+
+-- how many threads are asked for: one, if the lists of roots alone are read
+abbrev pub threads_asked : Asked → Option ℕ
+threads_asked asked = if is_shallow asked.depths.greatest then Some 1 else asked.threads
 
 -- the greatest number of finds, if there is a limit; it is one if only the status is asked for
 abbrev pub limit_asked : Asked → Option ℕ

@@ -9,7 +9,7 @@ ghost use Rattle.seek_found.specs.Sought.{takes_by};
 ghost use Rattle.seek_search.specs.Based.{has_folder};
 ghost use Rattle.seek_search.specs.Goes.{ByRead, Finds, PrintsYielded};
 ghost use Rattle.seek_search.specs.Run.{PrintsAsked, PrintsRead, Searches, SearchesFor};
-ghost use Rattle.seek_search.specs.Search.{limit_asked};
+ghost use Rattle.seek_search.specs.Search.{limit_asked, threads_asked};
 
 use crate::based::Based;
 use crate::kept_links::KeptLinks;
@@ -19,7 +19,7 @@ use crate::search::{HonouringWalk, PlainWalk, Search};
 use jwalk::file_system::{Fault, FileSystem};
 use jwalk_ignore::texts::Texts;
 use program_parts::halt::Halt;
-use program_walks::crew::crew_of;
+use program_walks::crew::{crew_with, threads_in};
 use seek_found::call::{Ended, read_call, status_of};
 use seek_found::sought::Sought;
 use seek_found::times::times_of;
@@ -42,11 +42,13 @@ fn shared<V: Drop>(alloc: Global, value: V) -> Result<Arc<V>, AllocError>
 }
 
 /// Returns how many threads are asked for: one, if the lists of roots alone are read.
-fn threads_asked(asked: &Asked<'_>) -> Option<usize> {
-    match asked.depths.greatest {
-        Some(0 | 1) => Some(1),
-        _ => asked.threads,
+fn threads_asked(asked: &Asked<'_>) -> Option<usize>
+    ensures { result ≡ threads_asked asked.now }
+{
+    if asked.depths.greatest.is_some_and(|most| most < 2) {
+        return Some(1);
     }
+    asked.threads
 }
 
 /// Returns whether the folder that is asked for is a directory or a link to one, if one is named. Reports it if not.
@@ -72,6 +74,8 @@ pub struct Seek<'a, T, K, S: Drop, X: Drop> {
     pub rt: &'a T,
     /// The clock, which says how long ago files were modified, and when gathered lines are written.
     pub clock: &'a K,
+    /// How many threads can run at a time: as many read, unless the words say otherwise.
+    pub cores: usize,
     /// Where memory is from.
     pub alloc: Global,
     /// The disk that is searched.
@@ -101,12 +105,12 @@ impl<
     ) -> Result<Ended, Halt>
         ensures yielded { IfOk result (λ ended. PrintsYielded ⟦<PlainWalk<T, KeptLinks<S>> as Iterator>⟧.next_gives
             ⟦<HonouringWalk<T, KeptLinks<S>, X> as Iterator>⟧.next_gives self.entry.disk (S.IsFixed self.entry.disk) (X.IsFixed self.entry.texts)
-            (S.functions self.entry.disk) (X.functions self.entry.texts) self.entry.texts given.now self.entry.screen
+            (S.functions self.entry.disk) (X.functions self.entry.texts) self.entry.cores self.entry.texts given.now self.entry.screen
             asked.now (takes_by sought.now) (W.contents out.old) (W.contents out.new) ended.clean) }
         ensures found { IfOk result (λ ended. asked.now.quiet ≡ true → (asked.now.kinds.empty ≡ true → S.IsFixed self.entry.disk)
             → Finds ⟦<PlainWalk<T, KeptLinks<S>> as Iterator>⟧.next_gives
             ⟦<HonouringWalk<T, KeptLinks<S>, X> as Iterator>⟧.next_gives self.entry.disk (X.IsFixed self.entry.texts)
-            (S.functions self.entry.disk) (X.functions self.entry.texts) self.entry.texts given.now asked.now (takes_by sought.now) ended.full) }
+            (S.functions self.entry.disk) (X.functions self.entry.texts) self.entry.cores self.entry.texts given.now asked.now (takes_by sought.now) ended.full) }
         ensures whole { IfOk result (λ ended. limit_asked asked.now ≡ None → ended.clean ≡ true → S.IsFixed self.entry.disk → X.IsFixed self.entry.texts
             → PrintsRead (S.functions self.entry.disk) (X.functions self.entry.texts) given.now self.entry.screen asked.now sought.now
             (W.contents out.old) (W.contents out.new)) }
@@ -114,6 +118,7 @@ impl<
         let Seek {
             rt,
             clock,
+            cores,
             alloc,
             disk,
             texts,
@@ -130,7 +135,7 @@ impl<
             lines: given,
             disk: shared(alloc, kept)?,
             texts: shared(alloc, texts)?,
-            crew: crew_of(rt, alloc, threads_asked(asked))?,
+            crew: crew_with(rt, alloc, threads_in(cores, threads_asked(asked)))?,
         };
         let mut printer = printer_of(alloc, screen, asked, sought, &search.texts)?;
         search.print(alloc, &mut printer, out, err)
@@ -148,14 +153,14 @@ impl<
             (X.functions self.entry.texts) self.entry.home asked.now (λ reads lines. PrintsYielded
             ⟦<PlainWalk<T, KeptLinks<S>> as Iterator>⟧.next_gives
             ⟦<HonouringWalk<T, KeptLinks<S>, UserTexts<X>> as Iterator>⟧.next_gives self.entry.disk (S.IsFixed self.entry.disk) (X.IsFixed self.entry.texts)
-            (S.functions self.entry.disk) (X.functions self.entry.texts) reads lines self.entry.screen
+            (S.functions self.entry.disk) (X.functions self.entry.texts) self.entry.cores reads lines self.entry.screen
             asked.now (takes_by sought.now) (W.contents out.old) (W.contents out.new) true)) }
         ensures found { IfOk result (λ ended. asked.now.quiet ≡ true
             → (asked.now.kinds.empty ≡ true → S.IsFixed self.entry.disk) → ByRead self.entry.texts (X.IsFixed self.entry.texts)
             (X.functions self.entry.texts) self.entry.home asked.now (λ reads lines. Finds
             ⟦<PlainWalk<T, KeptLinks<S>> as Iterator>⟧.next_gives
             ⟦<HonouringWalk<T, KeptLinks<S>, UserTexts<X>> as Iterator>⟧.next_gives self.entry.disk (X.IsFixed self.entry.texts)
-            (S.functions self.entry.disk) (X.functions self.entry.texts) reads lines asked.now (takes_by sought.now) ended.full)) }
+            (S.functions self.entry.disk) (X.functions self.entry.texts) self.entry.cores reads lines asked.now (takes_by sought.now) ended.full)) }
         ensures whole { IfOk result (λ ended. limit_asked asked.now ≡ None → ended.clean ≡ true → S.IsFixed self.entry.disk → X.IsFixed self.entry.texts
             → PrintsAsked (S.functions self.entry.disk) (X.functions self.entry.texts) self.entry.home self.entry.screen asked.now sought.now
             (W.contents out.old) (W.contents out.new)) }
@@ -163,6 +168,7 @@ impl<
         let Seek {
             rt,
             clock,
+            cores,
             alloc,
             disk,
             texts,
@@ -174,6 +180,7 @@ impl<
         Seek {
             rt,
             clock,
+            cores,
             alloc,
             disk,
             texts,
@@ -195,7 +202,7 @@ impl<
         ensures status { result ≤ 1 }
         ensures done { result ≡ 0 → (times : Times) × (colored : Bool) × SearchesFor ⟦<PlainWalk<T, KeptLinks<S>> as Iterator>⟧.next_gives
             ⟦<HonouringWalk<T, KeptLinks<S>, UserTexts<X>> as Iterator>⟧.next_gives self.entry.disk self.entry.texts
-            (S.IsFixed self.entry.disk) (X.IsFixed self.entry.texts) (S.functions self.entry.disk) (X.functions self.entry.texts) self.entry.home self.entry.screen
+            (S.IsFixed self.entry.disk) (X.IsFixed self.entry.texts) (S.functions self.entry.disk) (X.functions self.entry.texts) self.entry.home self.entry.cores self.entry.screen
             (record asked.entry { times = times; colored = colored }) sought.now (W.contents out.old) (W.contents out.new) }
     {
         match times_of(self.clock, &self.disk, &asked) {
@@ -224,12 +231,13 @@ impl<
         ensures done { result ≡ 0 → AskForText (map string_bytes words.now)
             ⊎ Searches ⟦<PlainWalk<T, KeptLinks<Based<S>>> as Iterator>⟧.next_gives
             ⟦<HonouringWalk<T, KeptLinks<Based<S>>, UserTexts<Based<X>>> as Iterator>⟧.next_gives self.entry.disk self.entry.texts
-            (S.IsFixed self.entry.disk) (X.IsFixed self.entry.texts) (S.functions self.entry.disk) (X.functions self.entry.texts) self.entry.home self.entry.screen
+            (S.IsFixed self.entry.disk) (X.IsFixed self.entry.texts) (S.functions self.entry.disk) (X.functions self.entry.texts) self.entry.home self.entry.cores self.entry.screen
             (map string_bytes words.now) (W.contents out.old) (W.contents out.new) }
     {
         let Seek {
             rt,
             clock,
+            cores,
             alloc,
             disk,
             texts,
@@ -253,6 +261,7 @@ impl<
         Seek {
             rt,
             clock,
+            cores,
             alloc,
             disk,
             texts,
@@ -279,7 +288,7 @@ impl<
         ensures done { result ≡ 0 → AskForText (joined (map string_bytes words.now))
             ⊎ Searches ⟦<PlainWalk<T, KeptLinks<Based<S>>> as Iterator>⟧.next_gives
             ⟦<HonouringWalk<T, KeptLinks<Based<S>>, UserTexts<Based<X>>> as Iterator>⟧.next_gives self.entry.disk self.entry.texts
-            (S.IsFixed self.entry.disk) (X.IsFixed self.entry.texts) (S.functions self.entry.disk) (X.functions self.entry.texts) self.entry.home self.entry.screen
+            (S.IsFixed self.entry.disk) (X.IsFixed self.entry.texts) (S.functions self.entry.disk) (X.functions self.entry.texts) self.entry.home self.entry.cores self.entry.screen
             (joined (map string_bytes words.now)) (W.contents out.old) (W.contents out.new) }
     {
         match joined_words(self.alloc, words) {

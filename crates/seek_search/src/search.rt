@@ -197,7 +197,7 @@ impl<
             (excluded_asked self.now.asked.now root.now) root.now))
             printer.old printer.new (W.contents out.old) (W.contents out.new) clean) }
         ensures yielded { IfOk result (PrintsThose (S.IsFixed (arc_value self.now.disk)) (S.functions (arc_value self.now.disk)) (Yielded ⟦<PlainWalk<T, S> as Iterator>⟧.next_gives
-            (IsPlain (arc_value self.now.disk) self.now.lines.now self.now.asked.now root.now))
+            (IsPlain (arc_value self.now.disk) self.now.crew self.now.lines.now self.now.asked.now root.now))
             printer.old printer.new (W.contents out.old) (W.contents out.new)) }
         ensures stays { StaysAs (S.functions (arc_value self.now.disk)) printer.old printer.new }
     {
@@ -231,7 +231,7 @@ impl<
             (excluded_asked self.now.asked.now root.now) root.now))
             printer.old printer.new (W.contents out.old) (W.contents out.new) clean) }
         ensures yielded { IfOk result (PrintsThose (S.IsFixed (arc_value self.now.disk)) (S.functions (arc_value self.now.disk)) (Yielded ⟦<HonouringWalk<T, S, X> as Iterator>⟧.next_gives
-            (IsHonouring (arc_value self.now.disk) (arc_value self.now.texts) self.now.lines.now self.now.asked.now root.now))
+            (IsHonouring (arc_value self.now.disk) (arc_value self.now.texts) self.now.crew self.now.lines.now self.now.asked.now root.now))
             printer.old printer.new (W.contents out.old) (W.contents out.new)) }
         ensures stays { StaysAs (S.functions (arc_value self.now.disk)) printer.old printer.new }
     {
@@ -259,7 +259,7 @@ impl<
             printer.old printer.new (W.contents out.old) (W.contents out.new) clean) }
         ensures yielded { IfOk result (PrintsThose (S.IsFixed (arc_value self.now.disk)) (S.functions (arc_value self.now.disk)) (λ sought may_stop. YieldedBelow ⟦<PlainWalk<T, S> as Iterator>⟧.next_gives
             ⟦<HonouringWalk<T, S, X> as Iterator>⟧.next_gives (arc_value self.now.disk) (arc_value self.now.texts)
-            self.now.lines.now self.now.asked.now sought may_stop root.now) printer.old printer.new (W.contents out.old) (W.contents out.new)) }
+            self.now.crew self.now.lines.now self.now.asked.now sought may_stop root.now) printer.old printer.new (W.contents out.old) (W.contents out.new)) }
         ensures stays { StaysAs (S.functions (arc_value self.now.disk)) printer.old printer.new }
     {
         if self.asked.no_ignore {
@@ -279,7 +279,7 @@ impl<
     ) -> Result<bool, Halt>
         ensures yielded { IfOk result (PrintsThose (S.IsFixed (arc_value self.now.disk)) (S.functions (arc_value self.now.disk)) (λ sought may_stop. AreBelow (YieldedBelow ⟦<PlainWalk<T, S> as Iterator>⟧.next_gives
             ⟦<HonouringWalk<T, S, X> as Iterator>⟧.next_gives (arc_value self.now.disk) (arc_value self.now.texts)
-            self.now.lines.now self.now.asked.now sought) may_stop (texts_now roots.now)) printer.old printer.new (W.contents out.old) (W.contents out.new)) }
+            self.now.crew self.now.lines.now self.now.asked.now sought) may_stop (texts_now roots.now)) printer.old printer.new (W.contents out.old) (W.contents out.new)) }
         ensures whole { IfOk result (λ clean. S.IsFixed (arc_value self.now.disk) → X.IsFixed (arc_value self.now.texts)
             → PrintsAll (S.functions (arc_value self.now.disk)) (λ sought. flat_map (unpruned_below (S.functions (arc_value self.now.disk))
             (X.functions (arc_value self.now.texts)) self.now.lines.now self.now.asked.now sought) (texts_now roots.now)) printer.old printer.new (W.contents out.old) (W.contents out.new) clean) }
@@ -310,7 +310,7 @@ impl<
     ) -> Result<bool, Halt>
         ensures yielded { IfOk result (PrintsThose (S.IsFixed (arc_value self.now.disk)) (S.functions (arc_value self.now.disk)) (λ sought may_stop. AreBelow (YieldedBelow ⟦<PlainWalk<T, S> as Iterator>⟧.next_gives
             ⟦<HonouringWalk<T, S, X> as Iterator>⟧.next_gives (arc_value self.now.disk) (arc_value self.now.texts)
-            self.now.lines.now self.now.asked.now sought) may_stop (roots_asked self.now.asked.now)) printer.old printer.new
+            self.now.crew self.now.lines.now self.now.asked.now sought) may_stop (roots_asked self.now.asked.now)) printer.old printer.new
             (W.contents out.old) (W.contents out.new)) }
         ensures whole { IfOk result (λ clean. S.IsFixed (arc_value self.now.disk) → X.IsFixed (arc_value self.now.texts)
             → PrintsAll (S.functions (arc_value self.now.disk))
@@ -335,7 +335,7 @@ impl<
     ) -> Result<Ended, Halt>
         ensures yielded { IfOk result (λ ended. WritesThose (S.IsFixed (arc_value self.now.disk)) (S.functions (arc_value self.now.disk)) (λ sought may_stop. AreBelow (YieldedBelow ⟦<PlainWalk<T, S> as Iterator>⟧.next_gives
             ⟦<HonouringWalk<T, S, X> as Iterator>⟧.next_gives (arc_value self.now.disk) (arc_value self.now.texts)
-            self.now.lines.now self.now.asked.now sought) may_stop (roots_asked self.now.asked.now)) printer.old printer.new
+            self.now.crew self.now.lines.now self.now.asked.now sought) may_stop (roots_asked self.now.asked.now)) printer.old printer.new
             (W.contents out.old) (W.contents out.new) ended.clean) }
         ensures whole { IfOk result (λ ended. S.IsFixed (arc_value self.now.disk) → X.IsFixed (arc_value self.now.texts)
             → WritesAll (S.functions (arc_value self.now.disk))

@@ -59,6 +59,7 @@ fn seek<
     let seek = Seek {
         rt,
         clock,
+        cores: 4,
         alloc: rt.alloc(),
         disk,
         texts,

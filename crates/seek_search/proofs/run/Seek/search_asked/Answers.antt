@@ -3,6 +3,7 @@ use Rattle.std.specs.Prelude.{if◌then◌else◌, IfOk}
 use Rattle.std.specs.List.{list_any}
 use Rattle.std.proofs.lemmas.Bool.{true≢false}
 use Rattle.std.proofs.lemmas.Result.{IfOk-weaker}
+use Rattle.program_walks.specs.Crew.{threads_in, IsCrewOf}
 use Rattle.seek_words.specs.Sought.{Sought}
 use Rattle.seek_found.specs.Limit.{is_hit}
 use Rattle.seek_found.proofs.RootsFacts.{found_if_full, printed_such, such_printed_by}
@@ -50,15 +51,18 @@ returns-clause-yielded g c =
     let looked = sought_over (λ (d : KeptLinks _). functions_kept d.follow (g.S.FileSystem.functions d.disk)) c.in_ok-printer.printer.filter asked c.in_ok-shared.ensures made.filter.sought in
     let formed = form_over (λ (d : KeptLinks _). functions_kept d.follow (g.S.FileSystem.functions d.disk)) c.in_ok-printer.printer.lines c.args.self.screen asked c.in_ok-shared.ensures made.form in
     let stays = subst (λ (d : KeptLinks _). g.S.FileSystem.IsFixed d.disk) (sym c.in_ok-shared.ensures) in
+    let crewed = subst (λ n. IsCrewOf n c.in_ok-crew_with.field-0) (c.threads_in.ensures ∙ ap (threads_in c.args.self.cores) c.threads_asked.ensures) c.in_ok-crew_with.ensures in
     IfOk-weaker c.print.result _ _
     (λ ended prints. record {
+      crew = c.in_ok-crew_with.field-0;
+      is_crew = crewed;
       front = made.filter.front;
       in_front = subst (λ x. IsFront (g.X.Texts.IsFixed x) (g.X.Texts.functions x) asked.full_path made.filter.front) c.in_ok-shared-2.ensures made.filter.is_front;
       shown = made.shown;
       is_shown = subst (λ x. IsFront (g.X.Texts.IsFixed x) (g.X.Texts.functions x) asked.absolute made.shown) c.in_ok-shared-2.ensures made.is_shown;
       left = c.print.new.printer.left;
       printed = λ known. such_printed_by looked formed made.limit
-          (printed_such (same_below _ _ _ asked _ (roots_asked asked) c.in_ok-shared.ensures c.in_ok-shared-2.ensures looked) (prints made.empty (asked_if looked formed stays known)));
+          (printed_such (same_below _ _ _ _ asked _ (roots_asked asked) c.in_ok-shared.ensures c.in_ok-shared-2.ensures looked) (prints made.empty (asked_if looked formed stays known)));
     })
     c.print.ensures.yielded
 
@@ -69,16 +73,19 @@ returns-clause-found g c =
     let looked = sought_over (λ (d : KeptLinks _). functions_kept d.follow (g.S.FileSystem.functions d.disk)) c.in_ok-printer.printer.filter asked c.in_ok-shared.ensures made.filter.sought in
     let formed = form_over (λ (d : KeptLinks _). functions_kept d.follow (g.S.FileSystem.functions d.disk)) c.in_ok-printer.printer.lines c.args.self.screen asked c.in_ok-shared.ensures made.form in
     let stays = subst (λ (d : KeptLinks _). g.S.FileSystem.IsFixed d.disk) (sym c.in_ok-shared.ensures) in
+    let crewed = subst (λ n. IsCrewOf n c.in_ok-crew_with.field-0) (c.threads_in.ensures ∙ ap (threads_in c.args.self.cores) c.threads_asked.ensures) c.in_ok-crew_with.ensures in
     from_three c.print.result _ _ _ _
     (λ ended prints filled room. λ quiet empties.
     let none = quiet_asks_nothing (functions_kept asked.follow (g.S.FileSystem.functions c.args.self.disk)) made.shown c.args.self.screen asked quiet in
     let yielded = prints made.empty (asked_if looked formed stays (empties, λ links. absurd (true≢false (sym links ∙ none)))) in
     let limited = made.limit ∙ ap (λ b. if b then Some 1 else positive asked.max_results) quiet in
     record {
+      crew = c.in_ok-crew_with.field-0;
+      is_crew = crewed;
       front = made.filter.front;
       in_front = subst (λ x. IsFront (g.X.Texts.IsFixed x) (g.X.Texts.functions x) asked.full_path made.filter.front) c.in_ok-shared-2.ensures made.filter.is_front;
       answers = yielded.answers;
-      yielded = stops_sooner _ _ _ _ _ asked _ _ _ (reached ended.full room) (roots_asked asked) yielded.answers (same_below _ _ _ asked _ (roots_asked asked) c.in_ok-shared.ensures c.in_ok-shared-2.ensures looked yielded.answers yielded.such);
+      yielded = stops_sooner _ _ _ _ _ _ asked _ _ _ (reached ended.full room) (roots_asked asked) yielded.answers (same_below _ _ _ _ asked _ (roots_asked asked) c.in_ok-shared.ensures c.in_ok-shared-2.ensures looked yielded.answers yielded.such);
       one = subst (λ (s : Sought). list_any (is_hit s) yielded.answers ≡ ended.full) looked (found_if_full yielded limited ended.full filled room);
     })
     c.print.ensures.yielded c.print.ensures.full c.print.ensures.room

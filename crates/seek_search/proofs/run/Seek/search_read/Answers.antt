@@ -19,7 +19,7 @@ returns-clause-yielded g c =
       lines = _;
       named = λ told. c.as_slice.ensures.value ∙ c.in_ok-lines.ensures told;
       known = printed_if _ _ (λ still. still) (λ wanted front is. subst (λ x. IsFront (g.X.Texts.IsFixed x) (g.X.Texts.functions x) wanted front) c.new-texts.ensures.texts (front_behind (home_of c.new-texts.result) wanted front is)) c.new-texts.result _
-          (subst (PrintsYielded _ _ _ _ _ _ _ _ _ _ _ _ _ _) clean prints);
+          (subst (PrintsYielded _ _ _ _ _ _ _ _ _ _ _ _ _ _ _) clean prints);
     })
     c.search_asked.ensures.yielded
 

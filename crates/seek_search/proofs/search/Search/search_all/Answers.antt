@@ -5,7 +5,7 @@ use Rattle.std.proofs.lemmas.Result.{IfOk-weaker}
 use Rattle.jwalk.specs.jwalk_model.Counted.{blank}
 use Rattle.jwalk.specs.jwalk_job.Job.{IsSteady}
 use Rattle.jwalk.specs.WalkDir.{file_system_of, callback_of, options_of, root_of}
-use Rattle.program_walks.specs.Crew.{with_crew}
+use Rattle.program_walks.specs.Crew.{ReadsBy, with_crew}
 use Rattle.program_walks.proofs.CrewFacts.{same_by_crew}
 use Rattle.jwalk.specs.jwalk_callbacks.Both.{chaining, first_of, second_of}
 use Rattle.jwalk_ignore.specs.Callback.Excluding.{Excluded, excluded_of, excluding}
@@ -69,12 +69,12 @@ returns-clause-yielded g c =
     let built = c.in_ok-walk.ensures in
     let set = c.process_read_dir.ensures in
     let walk = c.process_read_dir.result in
-    let plain : IsPlain (arc_value self.disk) self.lines.now asked c.args.root.now walk = record {
+    let plain : IsPlain (arc_value self.disk) self.crew self.lines.now asked c.args.root.now walk = record {
       over = ap arc_value (set.file_system ∙ built.file_system) ∙ c.in_ok-disk.ensures.cases;
       below = set.root ∙ built.root ∙ c.in_ok-root.ensures.ok;
-      by_crew = is_some self.crew;
       options = set.options ∙ built.options ∙ ap (with_crew (is_some self.crew)) c.options.ensures;
+      by = subst (ReadsBy self.crew) (sym set.crew) built.crew;
       named = ap (λ it. excluded_of (first_of it)) set.callback ∙ ap excluded_of c.new.ensures.first ∙ c.in_ok-naming.ensures;
       excluded = ap (λ it. excluded_of (second_of it)) set.callback ∙ ap excluded_of c.new.ensures.second ∙ c.in_ok-excluding.ensures;
     } in
-    IfOk-weaker c.print_begun.result _ _ (λ clean prints. λ known. printed_such (yielded_so _ (λ it is. subst (IsPlain (arc_value self.disk) self.lines.now asked c.args.root.now) (sym is) plain)) (prints known)) c.print_begun.ensures.yielded
+    IfOk-weaker c.print_begun.result _ _ (λ clean prints. λ known. printed_such (yielded_so _ (λ it is. subst (IsPlain (arc_value self.disk) self.crew self.lines.now asked c.args.root.now) (sym is) plain)) (prints known)) c.print_begun.ensures.yielded

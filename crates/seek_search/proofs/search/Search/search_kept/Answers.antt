@@ -7,7 +7,7 @@ use Rattle.jwalk.specs.WalkDir.{file_system_of, options_of}
 use Rattle.jwalk_ignore.specs.Callback.Given.{no_rules_yet}
 use Rattle.jwalk_ignore.specs.Callback.States.{rules_held}
 use Rattle.jwalk_ignore.specs.Callback.IgnoreViews.{ignoring, next_of, settings_of, texts_of as texts_in}
-use Rattle.program_walks.specs.Crew.{with_crew}
+use Rattle.program_walks.specs.Crew.{ReadsBy, with_crew}
 use Rattle.program_walks.proofs.CrewFacts.{hidden_by_crew}
 use Rattle.seek_words.specs.Filter.{sought_of}
 use Rattle.seek_found.specs.Prune.{unpruned}
@@ -56,8 +56,8 @@ returns-clause-yielded g c =
     (λ clean prints. λ known. printed_such (yielded_so _ (λ it is. record {
       over = ap arc_value (is.file_system ∙ built.file_system) ∙ c.in_ok-disk.ensures.cases;
       below = is.root ∙ built.root ∙ c.in_ok-root.ensures.ok;
-      by_crew = is_some self.crew;
       options = is.options ∙ ap (with_skip_hidden false) (built.options ∙ ap (with_crew (is_some self.crew)) c.options.ensures);
+      by = subst (ReadsBy self.crew) (sym is.crew) built.crew;
       texts_read = ap (λ x. arc_value (texts_in x)) is.callback ∙ ap arc_value (set.texts ∙ c.in_ok-rules_of.ensures.texts) ∙ c.in_ok-texts.ensures.cases;
       settings = ap settings_of is.callback ∙ set.settings ∙ c.in_ok-rules_of.ensures.settings;
       excluded = ap (λ x. excluded_of (next_of x)) is.callback ∙ ap excluded_of set.next ∙ c.in_ok-excluding.ensures;
