@@ -5,6 +5,7 @@ pub mod PruneFacts
 pub mod FoundFacts
 pub mod WholeFacts
 pub mod CleanFacts
+pub mod FirstFacts
 pub mod ShownFacts
 mod SoughtFacts
 mod TestFacts
