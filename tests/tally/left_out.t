@@ -85,3 +85,23 @@ $ tally --plain -b --apparent --ignore -E .* -E e/ /r
   {folders /r}	/r
 ! tally: /r/x/e: Permission denied (os error 13)
 = 1
+
+# a file of lines leaves out what they name, and lines of -E decide behind it
+tree
+  d /t
+  f 5000 /t/x.o
+  f 70 /t/kept.o
+  f 3000 /t/y.c
+  f 4 /ex
+rules /ex
+  *.o
+$ tally --plain -b --apparent -a -X /ex /t
+  3000	/t/y.c
+  3000+{folders /t}	/t
+$ tally --plain -b --apparent -a -E !kept.o -X /ex /t
+  70	/t/kept.o
+  3000	/t/y.c
+  3070+{folders /t}	/t
+$ tally --plain -X /none /t
+! tally: /none: No such file or directory (os error 2)
+= 1
