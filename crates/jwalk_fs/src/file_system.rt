@@ -1,5 +1,5 @@
 //! The file system as a trait.
-ghost use Rattle.std.specs.Prelude.{◌≡◌, List, [], ◌∷◌, Ok, OnOk, IfErr, map, string_bytes};
+ghost use Rattle.std.specs.Prelude.{◌≡◌, ℕ, List, [], ◌∷◌, Ok, OnOk, IfErr, IfOk, map, string_bytes};
 ghost use Rattle.std.specs.Arc.{arc_value};
 ghost use Rattle.jwalk_model.specs.FileSystem as value;
 ghost use Rattle.jwalk_model.specs.FileSystem.{Functions};
@@ -50,6 +50,10 @@ pub trait FileSystem: Drop {
     /// What it then returns at each path.
     ghost functions: { Self → Functions };
 
+    /// A listing of this path gave these items. A file system need not say more of its listings than that there were
+    /// some. What is promised of one listing, over any file system, names it by this.
+    ghost read_dir_gives: { Self → List ℕ → List value.Listed → Type 0 } = { λ _ _ _. Unit {0} };
+
     /// Returns the items of a directory, in the file system's order, without `.` and `..` (`std::fs::read_dir`). An
     /// item that could not be read is an error in its place.
     ///
@@ -61,8 +65,9 @@ pub trait FileSystem: Drop {
         alloc: A,
         path: &str,
     ) -> Result<Vec<io::Result<Listed<A>>, A>, Fault>
-        ensures { IsFixed self.now
-            → AnswersValue (λ v. map listed v.items) result ((functions self.now).list_of path.now) };
+        ensures value { IsFixed self.now
+            → AnswersValue (λ v. map listed v.items) result ((functions self.now).list_of path.now) }
+        ensures gives { IfOk result (λ v. read_dir_gives self.now path.now (map listed v.items)) };
 
     /// Gives `sink` the items that `read_dir` returns, one after another. A walk lists by this call. A file system that
     /// writes a body of its own for it need not keep a list; that of the trait calls `read_dir`.
@@ -78,7 +83,8 @@ pub trait FileSystem: Drop {
         sink: &mut K,
     ) -> Result<(), Fault>
         ensures taken { OnOk result ((items : List value.Listed) × TakesAll K.Took items sink.old sink.new
-            × (IsFixed self.now → (functions self.now).list_of path.now ≡ Ok items)) }
+            × (IsFixed self.now → (functions self.now).list_of path.now ≡ Ok items)
+            × read_dir_gives self.now path.now items) }
         ensures failed { IsFixed self.now → IfErr result (λ fault. FailsAs fault
             ((functions self.now).list_of path.now)) }
         ensures unchanged { IfErr result (λ fault. IfIo fault (sink.new ≡ sink.old)) }
@@ -121,6 +127,8 @@ impl<S: FileSystem, B: Allocator> FileSystem for Arc<S, B> {
 
     ghost functions = { λ s. S.functions (arc_value s) };
 
+    ghost read_dir_gives = { λ s. S.read_dir_gives (arc_value s) };
+
     fn read_dir<A: Allocator + Copy>(
         &self,
         alloc: A,
@@ -156,6 +164,8 @@ impl<S: FileSystem> FileSystem for &S {
     ghost IsFixed = { λ s. S.IsFixed s.now };
 
     ghost functions = { λ s. S.functions s.now };
+
+    ghost read_dir_gives = { λ s. S.read_dir_gives s.now };
 
     fn read_dir<A: Allocator + Copy>(
         &self,

@@ -19,7 +19,7 @@ use Rattle.jwalk_job.specs.ReadDirSpec.{spec}
 use Rattle.jwalk_job.specs.Given.{Given, counted_spec, counted_list, DefaultsCount}
 use Rattle.jwalk_job.specs.declared.job.Job.{Job}
 use Rattle.jwalk_job.specs.declared.job.gathering.Gathering.{Gathering}
-use Rattle.jwalk_job.specs.Job.{file_system, job_by}
+use Rattle.jwalk_job.specs.Job.{file_system, job_by, AsksKnown}
 use Rattle.jwalk_job.specs.declared.job.inside.Inside.{Inside}
 use Rattle.jwalk_job.specs.Ancestors.{texts}
 use Rattle.jwalk_job.specs.Inside.{AsksOn, IsInside}
@@ -29,12 +29,12 @@ use Rattle.jwalk_job.proofs.ListFacts.{counted-append}
 module _ {C S P A R E : Type 0} (files : FileSystem.Ghosts S) (defaults : Default.Ghosts E) where
   -- these are the items of the definition for items of a listing
   abbrev AreOf : Job C S P A R E → ReadDirSpec C A R E → List Listed → List (Result (DirEntry C A R E) (Error A)) → Type 0
-  AreOf job of listing l = (given : Given R E) → files.IsFixed (file_system job) → DefaultsCount defaults given
+  AreOf job of listing l = (given : Given R E) → AsksKnown files job → DefaultsCount defaults given
       → counted_list given l ≡ value.raw (job_by files given job) (counted_spec given (spec of)) listing
 
   -- the same for one of them, by what was asked so far
   abbrev IsOf : Job C S P A R E → ReadDirSpec C A R E → Inside A → Listed → List (Result (DirEntry C A R E) (Error A)) → Type 0
-  IsOf job of inside x l = (given : Given R E) → files.IsFixed (file_system job) → DefaultsCount defaults given
+  IsOf job of inside x l = (given : Given R E) → AsksKnown files job → DefaultsCount defaults given
       → IsInside (job_by files given job) (counted_spec given (spec of)) inside
       → counted_list given l ≡ value.item_of (job_by files given job) (counted_spec given (spec of)) x
 
@@ -64,14 +64,14 @@ module _ {C S P A R E : Type 0} {c : Default.Ghosts C} {cd : Debug.Ghosts C} {rc
     job = refl;
     of = refl;
     depth = λ at. at;
-    asks = λ fixed. asks_nothing (files.functions (file_system s.job.now)) s.inside;
-    value = λ given fixed default inside. sym (append-nil (counted_list given s.items.items));
+    asks = λ known. asks_nothing (files.functions (file_system s.job.now)) s.inside;
+    value = λ given known default inside. sym (append-nil (counted_list given s.items.items));
   }
 
   -- what one item gives is gathered behind the others
   pub gathered_more : (first old new : Gathering C S P A R E c cd rc r rd e ed) (before : List Listed) (x : Listed) (more : List (Result (DirEntry C A R E) (Error A)))
       → new.job.now ≡ old.job.now → new.of.now ≡ old.of.now → new.items.items ≡ old.items.items ++ more
-      → AtDepth (depth_below old) (map item more) → (files.IsFixed (file_system old.job.now) → AsksOn (files.functions (file_system old.job.now)) old.inside new.inside)
+      → AtDepth (depth_below old) (map item more) → (AsksKnown files old.job.now → AsksOn (files.functions (file_system old.job.now)) old.inside new.inside)
       → IsOf files defaults old.job.now old.of.now old.inside x more
       → IsGathered files defaults first before old → IsGathered files defaults first (before ++ x ∷ []) new
   gathered_more first old new before x more job of items deep asks one so_far = record {
@@ -80,18 +80,18 @@ module _ {C S P A R E : Type 0} {c : Default.Ghosts C} {cd : Debug.Ghosts C} {rc
     depth = λ at.
         let below = subst (λ o. AtDepth ((spec o).depth + 1) (map item more)) so_far.of deep in
         rw (items, map-append item old.items.items more) (AtDepth-append (depth_below first) (map item old.items.items) (map item more) (so_far.depth at) below);
-    asks = λ fixed.
-        let here : files.IsFixed (file_system first.job.now) → AsksOn (files.functions (file_system first.job.now)) old.inside new.inside = subst (λ j. files.IsFixed (file_system j) → AsksOn (files.functions (file_system j)) old.inside new.inside) so_far.job asks in
-        asks_more (so_far.asks fixed) (here fixed);
-    value = λ given fixed default inside.
+    asks = λ known.
+        let here : AsksKnown files first.job.now → AsksOn (files.functions (file_system first.job.now)) old.inside new.inside = subst (λ j. AsksKnown files j → AsksOn (files.functions (file_system j)) old.inside new.inside) so_far.job asks in
+        asks_more (so_far.asks known) (here known);
+    value = λ given known default inside.
         let by = job_by files given first.job.now in
         let place = counted_spec given (spec first.of.now) in
         let start = counted_list given first.items.items in
         let here : IsOf files defaults first.job.now first.of.now old.inside x more = subst (λ o. IsOf files defaults first.job.now o old.inside x more) so_far.of (subst (λ j. IsOf files defaults j old.of.now old.inside x more) so_far.job one) in
         ap (counted_list given) items
         ∙ counted-append given old.items.items more
-        ∙ ap (λ l. l ++ counted_list given more) (so_far.value given fixed default inside)
-        ∙ ap (λ l. (start ++ value.raw by place before) ++ l) (here given fixed default (still_inside (so_far.asks fixed) inside))
+        ∙ ap (λ l. l ++ counted_list given more) (so_far.value given known default inside)
+        ∙ ap (λ l. (start ++ value.raw by place before) ++ l) (here given known default (still_inside (so_far.asks known) inside))
         ∙ append_assoc start (value.raw by place before) (value.item_of by place x)
         ∙ ap (λ l. start ++ (value.raw by place before ++ l)) (sym (append-nil (value.item_of by place x)))
         ∙ ap (λ l. start ++ l) (sym (flat_map-append (value.item_of by place) before (x ∷ [])));
@@ -105,11 +105,11 @@ module _ {C S P A R E : Type 0} {c : Default.Ghosts C} {cd : Debug.Ghosts C} {rc
   -- and it is that of the definition
   pub gathered_value : (job : Job C S P A R E) (of : ReadDirSpec C A R E) (first last : Gathering C S P A R E c cd rc r rd e ed) (listing : List Listed)
       → first.job.now ≡ job → first.of.now ≡ of → first.items.items ≡ []
-      → ((given : Given R E) → files.IsFixed (file_system job) → DefaultsCount defaults given → IsInside (job_by files given job) (counted_spec given (spec of)) first.inside)
+      → ((given : Given R E) → AsksKnown files job → DefaultsCount defaults given → IsInside (job_by files given job) (counted_spec given (spec of)) first.inside)
       → IsGathered files defaults first listing last → AreOf files defaults job of listing last.items.items
-  gathered_value job of first last listing by at none inside all = λ given fixed default.
-      let begun : IsInside (job_by files given first.job.now) (counted_spec given (spec first.of.now)) first.inside = rw (by, at) (inside given fixed default) in
-      all.value given (subst (λ j. files.IsFixed (file_system j)) (sym by) fixed) default begun
+  gathered_value job of first last listing by at none inside all = λ given known default.
+      let begun : IsInside (job_by files given first.job.now) (counted_spec given (spec first.of.now)) first.inside = rw (by, at) (inside given known default) in
+      all.value given (subst (AsksKnown files) (sym by) known) default begun
       ∙ ap (λ l. counted_list given l ++ value.raw (job_by files given first.job.now) (counted_spec given (spec first.of.now)) listing) none
       ∙ ap (λ j. value.raw (job_by files given j) (counted_spec given (spec first.of.now)) listing) by
       ∙ ap (λ o. value.raw (job_by files given job) (counted_spec given (spec o)) listing) at

@@ -10,10 +10,14 @@ use Rattle.jwalk_fs.specs.declared.file_system.FileSystem as FileSystem
 use Rattle.jwalk_job.specs.declared.process_read_dir.ProcessReadDir as ProcessReadDir
 use Rattle.jwalk_job.specs.declared.job.Job.{Job}
 use Rattle.jwalk_job.specs.Given.{Given, counted_spec, counted_reading}
-use Rattle.jwalk_job.specs.Job.{file_system, greatest_depth, job_by, IsSteadyJob, IsReadingOf}
+use Rattle.jwalk_job.specs.Job.{file_system, callback, greatest_depth, job_by, GoesAsGiven, IsSteadyJob, IsReadingOf}
 use Rattle.jwalk_job.specs.Gathering.{IsListed}
 
 module _ {C S P A R E : Type 0} (files : FileSystem.Ghosts S) (process : ProcessReadDir.Ghosts P C A R E) (clone : Clone.Ghosts R) (defaults : Default.Ghosts E) (job : Job C S P A R E) (spec : Spec R) where
+  -- over a steady job the callback is as given, with clones and defaults
+  pub goes_as_given : {given : Given R E} → IsSteadyJob files process clone defaults job given → GoesAsGiven files process clone defaults (callback job) given
+  goes_as_given steady = record { callback = steady.callback; clones = steady.clones; default = steady.default }
+
   -- at the greatest depth nothing is read
   pub not_read : (state : R) → nat_le (greatest_depth job) spec.depth ≡ true → clone.is_clone spec.state state → IsReadingOf files process clone defaults job spec (Ok (record { state = state; list = [] }))
   not_read state deep cloned = record {

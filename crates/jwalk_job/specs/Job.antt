@@ -1,7 +1,8 @@
 -- A job as a value, and what its readings are.
-use Rattle.std.specs.Prelude.{◌≡◌, ◌<◌, ◌^◌, ℕ, Bool, List, Some, Result, IfOk, length, if◌then◌else◌}
+use Rattle.std.specs.Prelude.{◌≡◌, ◌<◌, ◌^◌, ◌⊎◌, ℕ, Bool, true, false, List, [], Some, Result, Ok, IfOk, length, nat_le, if◌then◌else◌}
 use Rattle.std.specs.declared.clone.Clone as Clone
 use Rattle.std.specs.declared.default.Default as Default
+use Rattle.jwalk_model.specs.FileSystem.{Listed}
 use Rattle.jwalk_model.specs.Options as value_options
 use Rattle.jwalk_model.specs.Entry.{Item}
 use Rattle.jwalk_model.specs.Sorting.{arranged}
@@ -44,6 +45,23 @@ job_by files given job = record {
 abbrev pub processed_by : {R E : Type 0} → Given R E → Bool → Spec R → List (Item Worth Worth) → Reading Worth Worth
 processed_by given sort of items = given.processed (Some of.depth) of.path (given.read_dir_state of.state) (if sort then arranged items else items)
 
+-- By these options a reading asks the file system for nothing but its listing.
+abbrev pub ListsAlone : value_options.Options → Type 0
+ListsAlone options = (options.follow_links ≡ false) × (options.same_file_system ≡ false)
+
+-- What a reading asks the file system beside its listing is known: it always returns the same, or nothing is asked.
+abbrev pub AsksKnown : {C S P A R E : Type 0} → FileSystem.Ghosts S → Job C S P A R E → Type 0
+AsksKnown files job = files.IsFixed (file_system job) ⊎ ListsAlone (options_of job)
+
+-- This holds of the definition's job wherever what a reading asks beside its listing is known, and of all that is given over which defaults count.
+abbrev pub ByListing : {C S P A R E : Type 0} → FileSystem.Ghosts S → Default.Ghosts E → Job C S P A R E → (Given R E → value.Job Worth Worth → Type 0) → Type 0
+ByListing {R = R} {E = E} files defaults job Holds = (given : Given R E) → AsksKnown files job → DefaultsCount defaults given → Holds given (job_by files given job)
+
+-- One listing of this path gave some items, which are those of a fixed file system, and of which this holds.
+abbrev pub IsOfListing : {C S P A R E : Type 0} → FileSystem.Ghosts S → Job C S P A R E → List ℕ → (List Listed → Type 0) → Type 0
+IsOfListing files job path P = (listing : List Listed) × files.read_dir_gives (file_system job) path listing
+    × (files.IsFixed (file_system job) → (files.functions (file_system job)).list_of path ≡ Ok listing) × P listing
+
 -- This holds of the definition's job, over a fixed file system and all that is given over which defaults count.
 abbrev pub ByValue : {C S P A R E : Type 0} → FileSystem.Ghosts S → Default.Ghosts E → Job C S P A R E → (Given R E → value.Job Worth Worth → Type 0) → Type 0
 ByValue {R = R} {E = E} files defaults job Holds = (given : Given R E) → files.IsFixed (file_system job) → DefaultsCount defaults given → Holds given (job_by files given job)
@@ -83,7 +101,19 @@ module _ {C S P A R E : Type 0} (files : FileSystem.Ghosts S) (process : Process
   abbrev pub IsReadingOf : Job C S P A R E → Spec R → Outcome R E → Type 0
   IsReadingOf job = IsReadingOver files (IsSteadyJob job) job
 
-  -- Over all that the job is steady over, the list is what the callback, as it is given, makes of these items of a directory.
+  -- Callback, clones and defaults are as given.
+  pub record GoesAsGiven (it : P) (given : Given R E) : Type 0 where
+    pub callback : process.Makes it given
+    pub clones : ClonesCount clone given
+    pub default : DefaultsCount defaults given
+
+  -- Where callback, clones and defaults are as given, the list is what the callback makes of these items of a directory.
   abbrev pub ProcessesItems : {F : Type 0} → Job C S P A R E → Spec R → List (Result (DirEntry C A R E) (Error A)) → Result (ReadDir C A R E) F → Type 0
-  ProcessesItems job of items result = (given : Given R E) → IsSteadyJob job given
+  ProcessesItems job of items result = (given : Given R E) → GoesAsGiven (callback job) given
       → IfOk result (λ r. processed_by given (options_of job).sort of (counted_list given items) ≡ counted_reading given (reading r))
+
+  -- The list is what the callback makes of what the options leave of one listing of the directory, whatever the file system returns, or nothing of one at the greatest depth.
+  abbrev pub IsFromListing : Job C S P A R E → Spec R → Reading R E → Type 0
+  IsFromListing job of read = ((nat_le (greatest_depth job) of.depth ≡ true) × (read.list ≡ []))
+      ⊎ IsOfListing files job of.path (λ listing. (given : Given R E) → AsksKnown files job → GoesAsGiven (callback job) given
+      → processed_by given (options_of job).sort of (value.raw (job_by files given job) (counted_spec given of) listing) ≡ counted_reading given read)

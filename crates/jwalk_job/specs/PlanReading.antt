@@ -1,6 +1,6 @@
 -- What a job's plan returns: a reading, and the directories below it.
 use Rattle.std.proofs.Common.{◌≡◌, List, map, sym, ap, ◌∙◌}
-use Rattle.std.specs.Prelude.{Result}
+use Rattle.std.specs.Prelude.{Result, IfOk}
 use Rattle.std.proofs.lemmas.Simd.{map-map}
 use Rattle.std.specs.declared.clone.Clone as Clone
 use Rattle.std.specs.declared.default.Default as Default
@@ -17,8 +17,8 @@ use Rattle.jwalk_job.specs.ReadDirSpec.{spec}
 use Rattle.jwalk_job.specs.Given.{Given, counted_spec, counted_outcome, ClonesCount}
 use Rattle.jwalk_job.specs.declared.job.Job.{Job}
 use Rattle.jwalk_job.specs.declared.read_dir.ReadDir.{ReadDir}
-use Rattle.jwalk_job.specs.Job.{IsSteadyJob, IsReadingOf, job_by}
-use Rattle.jwalk_job.specs.ReadDir.{outcome}
+use Rattle.jwalk_job.specs.Job.{IsSteadyJob, IsFromListing, IsReadingOf, job_by}
+use Rattle.jwalk_job.specs.ReadDir.{outcome, reading as reading_of}
 use Rattle.jwalk_job.specs.Plan.{tree_of}
 
 -- where clones count as their originals, clones of an outcome's directories are those of what it counts as
@@ -31,9 +31,10 @@ counted_directories clone given outcome value specs count is clones =
     ∙ ap children_of is
 
 module _ {C S P A R E : Type 0} (files : FileSystem.Ghosts S) (process : ProcessReadDir.Ghosts P C A R E) (clone : Clone.Ghosts R) (defaults : Default.Ghosts E) (job : Job C S P A R E) where
-  -- It is a reading of the directory, and comes with the directories of its list, with clones of their states.
+  -- It is a reading of the directory, of one listing, and comes with the directories of its list, with clones of their states.
   pub record IsPlanReading (of : ReadDirSpec C A R E) (read : Result (ReadDir C A R E) (Error A)) (below : List (ReadDirSpec C A R E)) : Type 0 where
     pub reading : IsReadingOf files process clone defaults job (spec of) (outcome read)
+    pub listed : IfOk read (λ r. IsFromListing files process clone defaults job (spec of) (reading_of r))
     pub clones : AreClones clone.is_clone (children_of (outcome read)) (map spec below)
 
   -- over a steady job, both are those of its tree

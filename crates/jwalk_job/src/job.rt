@@ -11,9 +11,8 @@ ghost use Rattle.jwalk_job.specs.ReadDirSpec.{spec};
 ghost use Rattle.jwalk_job.specs.ReadDir.{outcome, reading};
 ghost use Rattle.jwalk_job.specs.Options.{options_value};
 ghost use Rattle.jwalk_job.specs.Given.{counted_spec, counted_list, counted_entry, DefaultsCount};
-ghost use Rattle.jwalk_job.specs.Job.{file_system, callback, options_of, job_by, IsReadingOf, ProcessesItems, ByValue};
+ghost use Rattle.jwalk_job.specs.Job.{file_system, callback, options_of, job_by, AsksKnown, ByListing, IsFromListing, IsOfListing, IsReadingOf, ProcessesItems};
 ghost use Rattle.jwalk_job.specs.Inside.{AsksOn, IsInside};
-ghost use Rattle.jwalk_job.specs.Gathering.{IsListed};
 
 mod gathering;
 mod inside;
@@ -124,7 +123,7 @@ impl<C: ClientState, S: FileSystem, P: ProcessReadDir<C, A>, A: Allocator + Copy
 
     /// The file system is asked which file the directory is if the walk stays on one file system.
     fn inside(&self, of: &ReadDirSpec<C, A>) -> Result<Inside<A>, AllocError>
-        ensures { ByValue S.FileSystem C.DirEntryState.Default self.now (λ g job.
+        ensures { ByListing S.FileSystem C.DirEntryState.Default self.now (λ g job.
             IfOk result (λ inside. IsInside job (counted_spec g (spec of.now)) inside)) }
     {
         let follow_links = self.options.follow_links();
@@ -179,9 +178,9 @@ impl<C: ClientState, S: FileSystem, P: ProcessReadDir<C, A>, A: Allocator + Copy
     ) -> Result<Option<Item<C, A>>, AllocError>
         requires fits { (spec of.now).depth + 1 < 2 ^ 64 }
         ensures depth { IfOk result (λ o. AtDepth ((spec of.now).depth + 1) (map item (option_to_list o))) }
-        ensures asks { S.IsFixed (file_system self.now)
+        ensures asks { AsksKnown S.FileSystem self.now
             → IfOk result (λ _. AsksOn (S.functions (file_system self.now)) inside.old inside.new) }
-        ensures value { ByValue S.FileSystem C.DirEntryState.Default self.now (λ g job.
+        ensures value { ByListing S.FileSystem C.DirEntryState.Default self.now (λ g job.
             IsInside job (counted_spec g (spec of.now)) inside.old
             → IfOk result (λ o. counted_list g (option_to_list o)
             ≡ value.named job (counted_spec g (spec of.now)) (named_as name.now seen))) }
@@ -206,8 +205,8 @@ impl<C: ClientState, S: FileSystem, P: ProcessReadDir<C, A>, A: Allocator + Copy
     fn list_items(&self, of: &ReadDirSpec<C, A>) -> Result<List<C, A>, Fault>
         requires { (spec of.now).depth + 1 < 2 ^ 64 }
         ensures depth { IfOk result (λ v. AtDepth ((spec of.now).depth + 1) (map item v.items)) }
-        ensures value { ByValue S.FileSystem C.DirEntryState.Default self.now (λ g job.
-            IfOk result (λ v. IsListed (S.functions (file_system self.now)) (text of.now.path) (λ listing.
+        ensures listed { IfOk result (λ v. IsOfListing S.FileSystem self.now (text of.now.path) (λ listing.
+            ByListing S.FileSystem C.DirEntryState.Default self.now (λ g job.
             counted_list g v.items ≡ value.raw job (counted_spec g (spec of.now)) listing))) }
         ensures failed { S.IsFixed (file_system self.now) → IfErr result (λ fault.
             FailsAs fault ((S.functions (file_system self.now)).list_of (text of.now.path))) }
@@ -254,8 +253,10 @@ impl<C: ClientState, S: FileSystem, P: ProcessReadDir<C, A>, A: Allocator + Copy
         of: &ReadDirSpec<C, A>,
     ) -> Result<Result<ReadDir<C, A>, Error<A>>, AllocError>
         requires { P.IsLawful (callback self.now) }
-        ensures { IfOk result (λ o. IsReadingOf S.FileSystem P.ProcessReadDir C.ReadDirState.Clone
+        ensures reading { IfOk result (λ o. IsReadingOf S.FileSystem P.ProcessReadDir C.ReadDirState.Clone
             C.DirEntryState.Default self.now (spec of.now) (outcome o)) }
+        ensures listed { IfOk result (λ o. IfOk o (λ r. IsFromListing S.FileSystem P.ProcessReadDir
+            C.ReadDirState.Clone C.DirEntryState.Default self.now (spec of.now) (reading r))) }
     {
         if !self.options.reads(of.depth()) {
             let state = of.client_read_state.clone()?;

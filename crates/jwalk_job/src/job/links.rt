@@ -1,5 +1,5 @@
 //! Entries made from paths, and what is found behind a link that is followed.
-ghost use Rattle.std.specs.Prelude.{◌≡◌, ◌&&◌, ◌++◌, ◌∷◌, [], true, Some, Ok, Err, option_map, IfOk, MatchResult, if◌then◌else◌};
+ghost use Rattle.std.specs.Prelude.{◌≡◌, ◌&&◌, ◌++◌, ◌∷◌, [], true, false, Some, Ok, Err, option_map, IfOk, MatchResult, if◌then◌else◌};
 ghost use Rattle.jwalk_model.specs.Error.{io};
 ghost use Rattle.jwalk_model.specs.Entry.{AtDepth, path_of, children_at};
 ghost use Rattle.jwalk_model.specs.FileType.{is_symlink};
@@ -308,6 +308,8 @@ impl<C: ClientState, S: FileSystem, P: ProcessReadDir<C, A>, A: Allocator + Copy
         inside: &mut Inside<A>,
     ) -> Result<Item<C, A>, AllocError>
         ensures depth { IfOk result (λ r. AtDepth found.depth (item r ∷ [])) }
+        ensures stays { (options_of self.now).follow_links ≡ false → IfOk result (λ r. item r ≡ Ok (entry found)) }
+        ensures unasked { (options_of self.now).follow_links ≡ false → IfOk result (λ _. inside.new ≡ inside.old) }
         ensures asks { S.IsFixed (file_system self.now)
             → IfOk result (λ _. AsksOn (S.functions (file_system self.now)) inside.old inside.new) }
         ensures value { ByValue S.FileSystem C.DirEntryState.Default self.now (λ g job.

@@ -20,5 +20,6 @@ returns-clause-taken g c =
     let gone = ap (map listed) (sym (map-id c.loop-item.yielded) ∙ all.0) in (
       map listed items.items,
       subst (λ l. TakesAll g.K.Sink.Took l c.args.sink.now c.loop-item.sink) gone c.loop-item.invariant,
-      λ fixed. c.in_ok-items.ensures fixed,
+      λ fixed. c.in_ok-items.ensures.value fixed,
+      c.in_ok-items.ensures.gives,
     )
