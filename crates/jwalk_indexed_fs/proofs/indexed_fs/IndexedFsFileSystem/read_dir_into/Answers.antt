@@ -8,4 +8,5 @@ returns-in_ok-list_into-in-Some-clause-taken g c = (
   list_kept c.in-Some.kept.now.names,
   c.in_ok-list_into-in-Some.ensures,
   λ fixed. fixed.1 c.args.path.now c.in-Some.kept.now (search (rules, fixed)),
+  tt,
 )

@@ -2,8 +2,8 @@ use Rattle.std.proofs.Common.{◌≡◌, ◌++◌, [], ◌∙◌, Ok, map, ap, s
 use Rattle.jwalk_fs.specs.Views.{listed}
 use Rattle.jwalk_indexed_fs.proofs.recording_fs.RecordingFsFileSystem.read_dir.Goals as goal
 
-pub returns : goal.returns
-returns g c = λ fixed.
+pub returns-clause-value : goal.returns-clause-value
+returns-clause-value g c = λ fixed.
     let taken = c.in_ok-read_dir_into.ensures.taken in
     let before = c.new-items.result in
     let empty : map listed before.items.items ≡ [] = ap (map listed) c.new-items.ensures in

@@ -2,8 +2,8 @@ use Rattle.std.proofs.Common.{[], ◌++◌, Ok, map, ap, sym, ◌∙◌, append-
 use Rattle.jwalk_fs.specs.Views.{listed}
 use Rattle.jwalk_real_fs.proofs.patient.PatientFileSystem.read_dir.Goals as goal
 
-pub returns : goal.returns
-returns g c =
+pub returns-clause-value : goal.returns-clause-value
+returns-clause-value g c =
     let taken = c.in_ok-read_dir_into.ensures.taken in
     let begun = c.new-kept.result in
     let kept = taken.1 begun [] (sym (append-nil (map listed begun.items.items))) in
