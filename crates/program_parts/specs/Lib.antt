@@ -1,3 +1,4 @@
+pub mod Errors
 pub mod Gathered
 pub mod Help
 pub mod Masked
@@ -6,4 +7,5 @@ pub mod Paths
 pub mod Refusal
 pub mod Rules
 pub mod Status
+pub mod Told
 pub mod Values

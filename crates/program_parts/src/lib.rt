@@ -2,6 +2,7 @@
 //! output that is gathered, and the version.
 #![tactic(auto)]
 
+pub mod errors;
 pub mod gathered;
 pub mod halt;
 pub mod help;

@@ -2,6 +2,7 @@
 ghost use Rattle.std.specs.Prelude.{◌≡◌, ◌<◌, ◌≤◌};
 ghost use Rattle.program_parts.specs.Status.{status_of_kind};
 
+use crate::errors::Errors;
 use crate::gathered::Gathered;
 use crate::halt::Halt;
 use crate::help::help_text;
@@ -119,30 +120,68 @@ fn unknown_option(complaint: &str) -> Option<&str> {
         .strip_suffix(" found")
 }
 
-/// Reports why words are refused: in one line, if the parser refuses them.
-fn report<R: Display, E: Write>(
-    alloc: Global,
-    program: &str,
-    refusal: &R,
-    err: &mut E,
-) -> Result<(), AllocError> {
-    let text = format!(in alloc; "{refusal}")?;
-    let Some(line) = complaint(text.as_str()) else {
-        let _ = write!(err, "{text}");
-        return Ok(());
-    };
-    let _ = match unknown_option(line) {
-        Some(option) => writeln!(
-            err,
-            "{program}: unknown option {option} (see {program} --help)"
-        ),
-        None => writeln!(err, "{program}: {line} (see {program} --help)"),
-    };
-    Ok(())
+/// Returns what a text says, if it is a line in the name of a program.
+fn said_by<'t>(program: &str, text: &'t str) -> Option<&'t str> {
+    let said = text.strip_prefix(program)?.strip_prefix(": ")?;
+    said.strip_suffix('\n')
 }
 
-/// Prints the text that is asked for, which has the status 0, or reports why words are refused. Returns the status, or 1
-/// if memory runs out or the text can't be printed. If `columns` is known, it is the greatest width of lines of help.
+/// Returns why words are refused: in one line, if the parser refuses them.
+fn reason_of<R: Display>(alloc: Global, program: &str, refusal: &R) -> Result<String, AllocError> {
+    let text = format!(in alloc; "{refusal}")?;
+    let text = text.as_str();
+    let Some(line) = complaint(text) else {
+        return String::from_str(alloc, said_by(program, text).unwrap_or(text));
+    };
+    match unknown_option(line) {
+        Some(option) => format!(in alloc; "unknown option {option} (see {program} --help)"),
+        None => format!(in alloc; "{line} (see {program} --help)"),
+    }
+}
+
+impl<E: Write> Errors<E> {
+    ghost use Rattle.std.specs.Prelude.{◌≡◌, ◌<◌, ◌≤◌};
+    ghost use Rattle.program_parts.specs.Errors.{IsTold};
+
+    /// Tells why words are refused.
+    fn tell_refusal<R: Display>(&mut self, alloc: Global, program: &str, refusal: &R)
+        ensures told { IsTold E.contents program.now self.new }
+    {
+        match reason_of(alloc, program, refusal) {
+            Ok(reason) => self.tell(program, reason.as_str()),
+            Err(refused) => self.tell_halt(alloc, program, Halt::from(refused)),
+        }
+    }
+
+    /// Prints the text that is asked for, which has the status 0, or tells why words are refused. Returns the status, or 1
+    /// if memory runs out or the text can't be printed. If `columns` is known, it is the greatest width of lines of help.
+    pub fn refuse<R: Display, W: Write>(
+        &mut self,
+        alloc: Global,
+        columns: Option<usize>,
+        program: &str,
+        refusal: &R,
+        status: u8,
+        out: &mut W,
+    ) -> u8
+        ensures refused { 0 < status → result ≡ status }
+        ensures text { status ≡ 0 → result ≤ 1 }
+        ensures untouched { result ≡ 2 → W.contents out.new ≡ W.contents out.old }
+        ensures told { 0 < result → IsTold E.contents program.now self.new }
+    {
+        if status > 0 {
+            self.tell_refusal(alloc, program, refusal);
+            return status;
+        }
+        let Err(halt) = print_text(alloc, columns, refusal, out) else {
+            return 0;
+        };
+        self.tell_halt(alloc, program, halt);
+        1
+    }
+}
+
+/// The same, where errors are lines of `err`.
 pub fn refuse<R: Display, W: Write, E: Write>(
     alloc: Global,
     columns: Option<usize>,
@@ -156,15 +195,5 @@ pub fn refuse<R: Display, W: Write, E: Write>(
     ensures text { status ≡ 0 → result ≤ 1 }
     ensures untouched { result ≡ 2 → W.contents out.new ≡ W.contents out.old }
 {
-    if status > 0 {
-        if report(alloc, program, refusal, err).is_err() {
-            Halt::Memory.report(program, err);
-        }
-        return status;
-    }
-    let Err(halt) = print_text(alloc, columns, refusal, out) else {
-        return 0;
-    };
-    halt.report(program, err);
-    1
+    Errors::new(err).refuse(alloc, columns, program, refusal, status, out)
 }
