@@ -1,4 +1,5 @@
 //! Words, trees and failures, text by text.
+use program_parts::errors::{Errors, Told};
 use std::alloc::Global;
 use std::io;
 use std::io::{ErrorKind, Read};
@@ -282,16 +283,18 @@ fn an_input_is_read_whole_or_told(rt: HostRuntime) {
 
 #[test]
 fn each_failure_has_its_text_and_status(rt: HostRuntime) {
-    const ROWS: &[(Failure, &str, u8)] = &[
-        (Failure::BadWords, "walk: bad words\n", 2),
-        (Failure::BadTree(3), "walk: bad tree, line 3\n", 2),
-        (Failure::TooMany, "walk: too many\n", 1),
-        (Failure::Memory, "walk: memory refused\n", 1),
-        (Failure::Output, "", 1),
+    const ROWS: &[(Failure, &str, u8, Told)] = &[
+        (Failure::BadWords, "walk: bad words\n", 2, Told::Line),
+        (Failure::BadTree(3), "walk: bad tree, line 3\n", 2, Told::Line),
+        (Failure::TooMany, "walk: too many\n", 1, Told::Line),
+        (Failure::Memory, "walk: memory refused\n", 1, Told::Line),
+        (Failure::Output, "", 1, Told::Output),
     ];
-    for (failure, text, status) in ROWS {
+    for (failure, text, status, told) in ROWS {
         let mut err = Vec::new(rt.alloc());
-        assert_eq!(rt; failure.report(&mut err), *status, "{:?}", text);
+        let mut errors = Errors::new(&mut err);
+        assert_eq!(rt; failure.report(&mut errors), *status, "{:?}", text);
+        assert_eq!(rt; errors.told(), Some(*told), "{:?}", text);
         assert!(rt; err.as_slice() == text.as_bytes(), "{:?}", text);
     }
 }

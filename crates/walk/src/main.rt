@@ -4,6 +4,7 @@
 #![tactic(auto)]
 
 use jwalk::file_system::{Patient, RealFs};
+use program_parts::errors::Errors;
 use std::io::ErrorKind;
 use std::process::ExitCode;
 use std::{env, io};
@@ -31,7 +32,7 @@ fn call_of(rt: &HostRuntime) -> Result<(Vec<String>, Disk), Failure> {
 }
 
 fn main(rt: HostRuntime) -> ExitCode {
-    let mut err = rt.stderr();
+    let mut err = Errors::new(rt.stderr());
     let status = match call_of(&rt) {
         Ok((words, disk)) => run(
             &rt,

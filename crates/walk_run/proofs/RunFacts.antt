@@ -1,5 +1,5 @@
 -- How a call ends.
-use Rattle.std.proofs.Common.{◌≡◌, ℕ, List, Option, Some, None, Result, Ok, Err, IfOk, IfSome, subst}
+use Rattle.std.proofs.Common.{◌≡◌, ◌⊎◌, inl, inr, ℕ, List, Option, Some, None, Result, Ok, Err, IfOk, IfSome, subst}
 use Rattle.std.specs.Prelude.{IfNone}
 use Rattle.jwalk_model.specs.FileSystem.{Functions}
 use Rattle.jwalk_model.specs.Tree.{Tree, functions_of}
@@ -24,6 +24,11 @@ never_zero Output is = absurd cc
 pub ok_two : {X Y : Type 0} (r : Result X Y) (P Q S : X → Type 0) → IfOk r P → IfOk r Q → ((x : X) → P x → Q x → S x) → IfOk r S
 ok_two (Ok x) P Q S first second make = make x first second
 ok_two (Err e) P Q S first second make = tt
+
+-- one of two facts, of which the first makes another
+pub first_makes : {P Q R : Type 0} → P ⊎ Q → (P → R) → R ⊎ Q
+first_makes (inl p) make = inl (make p)
+first_makes (inr q) make = inr q
 
 -- why an input builds no tree is why the call begins no walk
 pub input_told : (words : List (List ℕ)) (to_come : Option (List ℕ)) (failure : Failure) → AskForTree words → TellsOfInput to_come failure → TellsOfCall words to_come failure

@@ -1,5 +1,5 @@
 -- What a walk that is asked for prints.
-use Rattle.std.specs.Prelude.{◌≡◌, ℕ, max, min, true, List, length, Option, None, Some, Result, is_ok, if◌then◌else◌}
+use Rattle.std.specs.Prelude.{◌≡◌, ℕ, max, min, Bool, true, List, length, Option, None, Some, Result, is_ok, if◌then◌else◌}
 use Rattle.std.specs.Arc.{arc_value}
 use Rattle.std.specs.List.{list_all}
 use Rattle.std.specs.Io.KnownBytes.{Appends}
@@ -53,8 +53,8 @@ abbrev pub CrewCalls : (T C S P A R E : Type 0) → Type 1
 CrewCalls T C S P A R E = CrewWalk T C S P A R E → Option (Result (DirEntry C A R E) (Error A)) → CrewWalk T C S P A R E → Type 0
 
 module _ {T C S P A R E : Type 0} (calls : CrewCalls T C S P A R E) where
-  -- A walk over a file system and from a root began as is asked for, and held one item. It was called until it ended, what is asked for was written of its answers, and none was an error.
-  pub record PrintsBegun (fs : S) (asked : Asked) (root : List ℕ) (old new : Option (List ℕ)) : Type 0 where
+  -- A walk over a file system and from a root began as is asked for, and held one item. It was called until it ended, what is asked for was written of its answers, and it is known whether none was an error.
+  pub record PrintsBegun (fs : S) (asked : Asked) (root : List ℕ) (old new : Option (List ℕ)) (clean : Bool) : Type 0 where
     pub walk : WalkDirGeneric C S P A (Crew T) R E
     pub file_system : file_system_of walk ≡ fs
     pub root_of_it : root_of walk ≡ root
@@ -63,4 +63,4 @@ module _ {T C S P A R E : Type 0} (calls : CrewCalls T C S P A R E) where
     pub it : CrewWalk T C S P A R E
     pub starts : Starts walk it
     pub one : length (held it) ≡ 1
-    pub prints : PrintsAll (written asked) calls it old new true
+    pub prints : PrintsAll (written asked) calls it old new clean

@@ -1,5 +1,5 @@
 -- How a call of the program ends.
-use Rattle.std.specs.Prelude.{◌≡◌, ◌≤◌, ◌⊎◌, ℕ, List, Option, is_some, IfSome, IfNone}
+use Rattle.std.specs.Prelude.{◌≡◌, ◌≤◌, ◌⊎◌, ℕ, Bool, true, false, List, Option, is_some, IfSome, IfNone}
 use Rattle.jwalk_model.specs.Tree as tree
 use Rattle.jwalk_model.specs.Tree.{functions_of}
 use Rattle.jwalk_fs.specs.declared.file_system.FileSystem as FileSystem
@@ -24,14 +24,22 @@ pub record BeginsWalk (words : List (List ℕ)) (to_come : Option (List ℕ)) : 
   pub builds : IfSome tree (λ t. IfSome to_come (λ bytes. Builds (text_lines bytes) t))
 
 module _ {T C S P A R E : Type 0} (calls : CrewCalls T C (Source S A) P A R E) (files : FileSystem.Ghosts S) where
-  -- The walk that begins so was printed to its end, or its totals were, and no answer is an error. Its answers are the whole walk over its tree. Without a tree, they are that over the disk, if it always returns the same.
-  pub record PrintsWalk (disk : S) (words : List (List ℕ)) (to_come old new : Option (List ℕ)) : Type 0 where
+  -- The walk that begins so was printed to its end, or its totals were, and it is known whether no answer is an error.
+  pub record PrintsAnswers (disk : S) (words : List (List ℕ)) (to_come old new : Option (List ℕ)) (clean : Bool) : Type 0 where
     pub walk : BeginsWalk words to_come
     pub source : Source S A
     pub over : IsSource disk walk.tree source
-    pub begun : PrintsBegun calls source walk.asked walk.root old new
-    pub over_tree : IfSome walk.tree (λ t. PrintsOver (functions_of t) walk.asked walk.root old new)
-    pub over_disk : IfNone walk.tree (files.IsFixed disk → PrintsOver (files.functions disk) walk.asked walk.root old new)
+    pub begun : PrintsBegun calls source walk.asked walk.root old new clean
+
+  -- The same, and no answer is an error. The answers are the whole walk over its tree. Without a tree, they are that over the disk, if it always returns the same.
+  pub record PrintsWalk (disk : S) (words : List (List ℕ)) (to_come old new : Option (List ℕ)) : Type 0 where
+    pub printed : PrintsAnswers disk words to_come old new true
+    pub over_tree : IfSome printed.walk.tree (λ t. PrintsOver (functions_of t) printed.walk.asked printed.walk.root old new)
+    pub over_disk : IfNone printed.walk.tree (files.IsFixed disk → PrintsOver (files.functions disk) printed.walk.asked printed.walk.root old new)
+
+  -- A call whose status is 1 printed all answers, and one is an error; or it ended early, and why was told last.
+  abbrev pub IsFailed : S → List (List ℕ) → Option (List ℕ) → Option (List ℕ) → Option (List ℕ) → Type 0 → Type 0
+  IsFailed disk words to_come old new is_told = PrintsAnswers disk words to_come old new false ⊎ is_told
 
 -- Why a call begins no walk: its words ask for none, or the bytes to come build no tree where one is asked for, or memory ran out.
 abbrev pub TellsOfCall : List (List ℕ) → Option (List ℕ) → Failure → Type 0

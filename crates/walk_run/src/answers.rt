@@ -1,12 +1,14 @@
 //! The answers of a walk, printed.
-ghost use Rattle.std.specs.Prelude.{◌≡◌, ◌≤◌, [], true, Ok, is_ok, IfOk, IfErr, OnOk};
+ghost use Rattle.std.specs.Prelude.{◌≡◌, ◌≤◌, ◌⊎◌, [], true, false, codes, Ok, is_ok, IfOk, IfErr, OnOk};
 ghost use Rattle.std.specs.Io.KnownBytes.{Appends, append_known};
 ghost use Rattle.jwalk_job.specs.Entry.{item};
 ghost use Rattle.jwalk_model.specs.Lines.{line_of};
+ghost use Rattle.program_parts.specs.Errors.{IsTold};
 ghost use Rattle.walk_text.specs.Failure.{status_of};
 
 use jwalk::error::Result as Answer;
 use jwalk::{ClientState, DirEntry};
+use program_parts::errors::Errors;
 use program_parts::gathered::Gathered;
 use program_parts::halt::Halt;
 use std::alloc::Allocator;
@@ -86,12 +88,13 @@ pub fn write_rest<W: Write, A: Allocator>(
     }
 }
 
-/// Returns the status after answers were printed, or could not be; standard error then reports that.
-pub fn status_once<E: Write>(printed: Result<bool, Failure>, err: &mut E) -> u8
+/// Returns the status after answers were printed, or could not be, which is then told.
+pub fn status_once<E: Write>(printed: Result<bool, Failure>, err: &mut Errors<E>) -> u8
     requires { IfErr printed (λ failure. status_of failure ≡ 1) }
     ensures status { result ≤ 1 }
     ensures clean { result ≡ 0 → printed ≡ Ok true }
     ensures none_told { printed ≡ Ok true → result ≡ 0 }
+    ensures told { result ≡ 1 → (printed ≡ Ok false) ⊎ IsTold E.contents (codes "walk") err.new }
 {
     match printed {
         Ok(true) => 0,

@@ -1,5 +1,5 @@
 //! The walk that is asked for, over any file system, with its answers printed or their totals.
-ghost use Rattle.std.specs.Prelude.{◌≡◌, ◌≤◌, string_bytes, IfOk, IfErr, OnErr};
+ghost use Rattle.std.specs.Prelude.{◌≡◌, ◌≤◌, ◌⊎◌, true, false, codes, string_bytes, IfOk, IfErr, OnErr};
 ghost use Rattle.jwalk_model.specs.Options.{with_parallelism};
 ghost use Rattle.jwalk_job.specs.Job.{callback};
 ghost use Rattle.jwalk_job.specs.Options.{options_value};
@@ -7,6 +7,7 @@ ghost use Rattle.jwalk.specs.DirEntryIter.{job_of};
 ghost use Rattle.jwalk.specs.Parallelism.{parallelism_value};
 ghost use Rattle.jwalk.specs.jwalk_readings.Parallelism.{crew_of};
 ghost use Rattle.jwalk.specs.WalkDir.{described, file_system_of, root_of, options_of};
+ghost use Rattle.program_parts.specs.Errors.{IsTold};
 ghost use Rattle.walk_text.specs.Asked.{options_asked, parallelism_named};
 ghost use Rattle.walk_text.specs.Failure.{status_of};
 ghost use Rattle.walk_run.specs.Answers.{PrintsAll};
@@ -19,6 +20,7 @@ use jwalk::crew::Session;
 use jwalk::file_system::FileSystem;
 use jwalk::read_dir::{NoProcess, ProcessReadDir};
 use jwalk::{ClientState, Crew, DirEntryIter, Host, Options, Parallelism, Readers, WalkDirGeneric};
+use program_parts::errors::Errors;
 use std::alloc::{AllocError, Allocator};
 use std::io::Write;
 use std::sync::{Arc, Wait};
@@ -143,12 +145,22 @@ pub fn print_asked<
     A: Allocator + Copy + Send + Sync + 'static,
     W: Write,
     E: Write,
->(rt: &T, alloc: A, fs: S, request: &Request<'_>, out: &mut W, err: &mut E) -> Result<u8, Failure>
+>(
+    rt: &T,
+    alloc: A,
+    fs: S,
+    request: &Request<'_>,
+    out: &mut W,
+    err: &mut Errors<E>,
+) -> Result<u8, Failure>
     ensures status { IfOk result (λ status. status ≤ 1) }
     ensures memory { IfErr result (λ failure. failure ≡ Failure.Memory) }
     ensures untouched { OnErr result (W.contents out.new ≡ W.contents out.old) }
     ensures walked { IfOk result (λ status. status ≡ 0 → PrintsBegun ⟦<AskedWalk<T, S, A> as Iterator>⟧.next_gives
-        fs request.now.asked request.now.root.now (W.contents out.old) (W.contents out.new)) }
+        fs request.now.asked request.now.root.now (W.contents out.old) (W.contents out.new) true) }
+    ensures failed { IfOk result (λ status. status ≡ 1 → PrintsBegun ⟦<AskedWalk<T, S, A> as Iterator>⟧.next_gives
+        fs request.now.asked request.now.root.now (W.contents out.old) (W.contents out.new) false
+        ⊎ IsTold E.contents (codes "walk") err.new) }
     ensures printed { IfOk result (λ status. status ≡ 0 → S.IsFixed fs
         → PrintsOver (S.functions fs) request.now.asked request.now.root.now
         (W.contents out.old) (W.contents out.new)) }

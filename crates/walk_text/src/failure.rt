@@ -1,6 +1,7 @@
 //! What prevents a walk.
 ghost use Rattle.std.specs.Prelude.{◌≡◌};
 
+use program_parts::errors::Errors;
 use std::alloc::AllocError;
 use std::fmt;
 use std::io::Write;
@@ -21,6 +22,8 @@ pub enum Failure {
 }
 
 impl Failure {
+    ghost use Rattle.std.specs.Prelude.{codes};
+    ghost use Rattle.program_parts.specs.Errors.{IsTold};
     ghost use Rattle.walk_text.specs.Failure.{status_of};
 
     fn status(self) -> u8
@@ -32,12 +35,14 @@ impl Failure {
         }
     }
 
-    /// Reports it on standard error, and returns the status. It reports nothing if standard output can't be written.
-    pub fn report<E: Write>(self, err: &mut E) -> u8
-        ensures { result ≡ status_of self }
+    /// Tells it, and returns the status. No line says so if standard output can't be written.
+    pub fn report<E: Write>(self, err: &mut Errors<E>) -> u8
+        ensures status { result ≡ status_of self }
+        ensures told { IsTold E.contents (codes "walk") err.new }
     {
-        if self != Failure::Output {
-            let _ = writeln!(err, "walk: {self}");
+        match self {
+            Failure::Output => err.pass_over_output(),
+            told => err.tell("walk", told),
         }
         self.status()
     }

@@ -9,6 +9,7 @@ use Rattle.jwalk.proofs.WholeFacts.{steady_begun, stateless_of}
 use Rattle.walk_text.specs.Asked.{options_asked}
 use Rattle.walk_run.specs.AskedWalk.{written}
 use Rattle.walk_run.proofs.AskedWalkFacts.{all_entries, of_known, same_written}
+use Rattle.walk_run.proofs.RunFacts.{first_makes}
 use Rattle.walk_run.proofs.asked_walk.print_asked.Goals as goal
 
 pub returns-clause-walked : goal.returns-clause-walked
@@ -25,6 +26,21 @@ returns-clause-walked g c = λ clean.
       one = c.into_iter-answers.ensures.one stateless (λ depth path state list. refl) (λ depth path state list. refl);
       prints = of_known c.print_answers.result _ _ (c.status_once.ensures.clean clean) c.print_answers.ensures.printed;
     }
+
+pub returns-clause-failed : goal.returns-clause-failed
+returns-clause-failed g c = λ failed.
+    let built = c.in_ok-walk.ensures in
+    first_makes (c.status_once.ensures.told failed) (λ known. record {
+      walk = c.in_ok-walk.walk;
+      file_system = built.file_system;
+      root_of_it = built.root ∙ c.in_ok-root.ensures.ok;
+      options = built.options;
+      crew = built.crew;
+      it = c.into_iter-answers.result;
+      starts = c.into_iter-answers.ensures.starts;
+      one = c.into_iter-answers.ensures.one stateless (λ depth path state list. refl) (λ depth path state list. refl);
+      prints = of_known c.print_answers.result _ _ known c.print_answers.ensures.printed;
+    })
 
 pub returns-clause-printed : goal.returns-clause-printed
 returns-clause-printed g c = λ clean fixed.
