@@ -5,5 +5,6 @@ pub mod Opens
 pub mod Plays
 pub mod PreorderValues
 pub mod Preorders
+pub mod Skips
 pub mod Steps
 pub mod UnderWay

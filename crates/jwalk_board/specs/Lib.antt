@@ -6,5 +6,6 @@ pub mod Rehearsal
 pub mod Rows
 pub mod Run
 pub mod Seen
+pub mod Skip
 pub mod Stage
 pub mod Next

@@ -5,6 +5,7 @@ ghost use Rattle.jwalk_order.specs.IndexPath.{address as indices_of};
 ghost use Rattle.jwalk_order.specs.Addressed.{numbered};
 ghost use Rattle.jwalk_board.specs.Board.{Finishes, HandsOut, HoldsOpen, IsNew, IsNextReady, IsWhole, Takes};
 ghost use Rattle.jwalk_board.specs.Next.{IsNextQueued};
+ghost use Rattle.jwalk_board.specs.Skip.{SkipsNext};
 ghost use Rattle.jwalk_board.specs.Refusal.{RefusesFinish, RefusesHandOut, RefusesTake};
 
 use jwalk_order::address_heap::AddressHeap;
@@ -237,6 +238,21 @@ impl<T: Drop, R: Drop, A: Allocator + Copy> Board<T, R, A> {
         match self.ready.pop() {
             Some(item) => Ok(item),
             None => unreachable!(),
+        }
+    }
+
+    /// Passes the next address as one without children, if there is one. What is queued, in hand or ready at it or below it
+    /// leaves the board: it is not taken and not handed out, and `finish` fails with `NotInHand` there. It takes no memory,
+    /// and is the same on a board that is stopped.
+    pub fn skip_next(&mut self)
+        ensures { SkipsNext self.old self.new }
+    {
+        if !self.matcher.is_none() {
+            let next = self.matcher.looking_for();
+            self.queued.remove_within(next);
+            self.in_hand.remove_within(next);
+            self.ready.remove_within(next);
+            self.matcher.go_on();
         }
     }
 

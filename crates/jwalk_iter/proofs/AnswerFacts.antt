@@ -1,6 +1,6 @@
 -- One call of the `next` of a walk over any readings, case by case.
 use Rattle.std.proofs.Common.{◌≡◌, ◌∙◌, ◌<◌, ℕ, Bool, true, false, List, [], ◌∷◌, ◌++◌, map, length, Option, Some, None, Result, Err, subst, inl, inr, refl, sym, ap, arith}
-use Rattle.std.specs.Prelude.{option_map}
+use Rattle.std.specs.Prelude.{option_map, IfSome}
 use Rattle.jwalk_model.specs.Error.{memory}
 use Rattle.jwalk_model.specs.Entry.{Item, NoDeeper}
 use Rattle.jwalk_model.specs.ReadDir.{Spec, Outcome}
@@ -21,6 +21,9 @@ use Rattle.jwalk_readings.specs.ReadAhead.{nothing_ahead}
 use Rattle.jwalk_readings.specs.Source.{Source}
 use Rattle.jwalk_readings.specs.declared.readings.Readings as Readings
 use Rattle.jwalk_iter.specs.declared.entries.Entries.{Entries}
+use Rattle.jwalk_iter.specs.declared.skip.Skip.{Skip}
+use Rattle.jwalk_iter.specs.declared.skip.Skip.TheVariants.{Nothing}
+use Rattle.jwalk_iter.specs.Skip.{behind_error, skip_behind}
 use Rattle.jwalk_iter.specs.Entries.{refusal, items_of, held_with, counted_with, AreAllSourced, source_of, unread_of, max_depth_of, held, held_by, to_come, IsSourced, Stops, ArePlaced, IsSteadyWalk, Known, Stays, StaysSteady, GrowsAhead, Answers}
 use Rattle.jwalk_iter.proofs.PlacedFacts.{answered_placed, unread_placed}
 use Rattle.jwalk_iter.proofs.StepFacts.{next_within, next_lighter, next_count, next_plain, next_listed, left_within, left_lighter, left_count, left_plain, left_to_come}
@@ -64,26 +67,30 @@ module _ {C A B R E : Type 0} where
       record { each = rw (held_with_rest unread it started) both.0; unread = rw (held_with_rest unread it started) both.1 }
 
 module _ {C A B R E : Type 0} (readings : Readings.Ghosts B C A R E) where
-  held_rest : (it : Entries C A B R E) → it.refused ≡ false → held readings it ≡ pair_up (items_of it) (unread_of readings it)
+  pub held_rest : (it : Entries C A B R E) → it.refused ≡ false → held readings it ≡ pair_up (items_of it) (unread_of readings it)
   held_rest it started = held_with_rest (unread_of readings it) it started
 
   held_nothing : (it : Entries C A B R E) → it.refused ≡ false → items_of it ≡ [] → held readings it ≡ []
   held_nothing it started none = held_rest it started ∙ ap (λ l. pair_up l (unread_of readings it)) none
 
-  held_by_rest : (given : Given R E) (it : Entries C A B R E) → it.refused ≡ false → held_by readings given it ≡ pair_up (map (counted_item given) (items_of it)) (map (counted_spec given) (unread_of readings it))
+  pub held_by_rest : (given : Given R E) (it : Entries C A B R E) → it.refused ≡ false → held_by readings given it ≡ pair_up (map (counted_item given) (items_of it)) (map (counted_spec given) (unread_of readings it))
   held_by_rest given it started = held_by_with given (unread_of readings it) it started
 
-  sourced_rest : (it : Entries C A B R E) → it.refused ≡ false → IsSourced readings it → length (unread_of readings it) ≡ directories (items_of it)
+  pub sourced_rest : (it : Entries C A B R E) → it.refused ≡ false → IsSourced readings it → length (unread_of readings it) ≡ directories (items_of it)
   sourced_rest it started is = sourced_count (items_of it) (unread_of readings it) (rw (held_rest it started) at is.each) (rw (held_rest it started) at is.unread)
 
-  rest_sourced : (it : Entries C A B R E) → it.refused ≡ false → length (unread_of readings it) ≡ directories (items_of it) → IsSourced readings it
+  pub rest_sourced : (it : Entries C A B R E) → it.refused ≡ false → length (unread_of readings it) ≡ directories (items_of it) → IsSourced readings it
   rest_sourced it started count = with_sourced (unread_of readings it) it started count
 
   -- what is known of a reading over what it is steady over
   knows_value : (it : Entries C A B R E) (given : Given R E) → readings.steady it.reads given → (x : Item R E) (s : Spec R) (o : Outcome R E) → Known readings it x s o → counted_outcome given o ≡ (source_of readings it).reading given (counted_spec given s)
   knows_value it given steady x s o known = known.1.0.value given steady
 
-  module _ (old new : Entries C A B R E) (began : old.refused ≡ false) where
+  module _ (old mid : Entries C A B R E) (skip : Skip) (began : old.refused ≡ false) where
+    -- the walk, once a skip goes by what was yielded
+    abbrev new : Entries C A B R E
+    new = record mid { skip = skip }
+
     abbrev from : Source R E
     from = source_of readings old
 
@@ -98,7 +105,7 @@ module _ {C A B R E : Type 0} (readings : Readings.Ghosts B C A R E) where
         ap (λ b. value.to_come ((readings.source b).reading given) (readings.source b).options.min_depth (readings.source b).options.max_depth (held_by readings given new)) base
         ∙ ap (value.to_come (from.reading given) from.options.min_depth from.options.max_depth) (held_by_rest given new started)
 
-    module _ (stays : Stays readings old new) where
+    module _ (stays : Stays readings old mid) where
       started : new.refused ≡ false
       started = stays.refused ∙ began
 
@@ -109,8 +116,12 @@ module _ {C A B R E : Type 0} (readings : Readings.Ghosts B C A R E) where
       same_weight : (l : List (Pair R E)) → weight (max_depth_of readings new) l ≡ weight from.options.max_depth l
       same_weight l = ap (λ b. weight (readings.source b).options.max_depth l) stays.base
 
-      answers_some : (x : Result (DirEntry C A R E) (Error A)) → ReadsUpTo from.copies (Known readings old) from.options (items_of old) (unread_of readings old) (Some (item x)) (items_of new) (unread_of readings new) → GrowsAhead readings old (Some (item x)) new → Answers readings old (Some x) new
-      answers_some x reads grown =
+      -- what is read ahead doesn't go by what a skip drops
+      grows_as : (answer : Option (Item R E)) → GrowsAhead readings old answer mid → GrowsAhead readings old answer new
+      grows_as answer grown = record { left_out = grown.left_out; too_high = grown.too_high; entered = grown.entered; passes = grown.passes; ahead = grown.ahead }
+
+      answers_some : (x : Result (DirEntry C A R E) (Error A)) → skip ≡ skip_behind (item x) → ReadsUpTo from.copies (Known readings old) from.options (items_of old) (unread_of readings old) (Some (item x)) (items_of mid) (unread_of readings mid) → GrowsAhead readings old (Some (item x)) mid → Answers readings old (Some x) new
+      answers_some x behind reads grown =
           let copies = from.copies in
           let Knows = Known readings old in
           let o = from.options in
@@ -131,7 +142,8 @@ module _ {C A B R E : Type 0} (readings : Readings.Ghosts B C A R E) where
             reads = rw began (inr reads);
             most = stays.most;
             steady = stays_steady (answered_placed from (readings.sound (readings.base old.reads)) Knows o (items_of old) (unread_of readings old) (Some (item x)) (items_of new) (unread_of readings new) reads);
-            ahead = λ never goes_on. grown;
+            skip = behind;
+            ahead = λ never goes_on. grows_as (Some (item x)) grown;
             kept = λ refused. absurd cc;
             coming = λ given counted. inr (
                 come_old given
@@ -140,7 +152,7 @@ module _ {C A B R E : Type 0} (readings : Readings.Ghosts B C A R E) where
                 ∙ rw (counted-is_answered given.read_dir_state given.dir_entry_state o.min_depth (item x), kept) (ap (λ l. counted_item given (item x) ∷ l) (sym (come_new given started stays.base))));
           }
 
-      answers_none : ReadsUpTo from.copies (Known readings old) from.options (items_of old) (unread_of readings old) None (items_of new) (unread_of readings new) → GrowsAhead readings old None new → Answers readings old None new
+      answers_none : ReadsUpTo from.copies (Known readings old) from.options (items_of old) (unread_of readings old) None (items_of mid) (unread_of readings mid) → GrowsAhead readings old None mid → Answers readings old None new
       answers_none reads grown =
           let copies = from.copies in
           let Knows = Known readings old in
@@ -164,7 +176,8 @@ module _ {C A B R E : Type 0} (readings : Readings.Ghosts B C A R E) where
             reads = rw began (inr reads);
             most = stays.most;
             steady = stays_steady (answered_placed from (readings.sound (readings.base old.reads)) Knows o (items_of old) (unread_of readings old) None (items_of new) (unread_of readings new) reads);
-            ahead = λ never goes_on. grown;
+            skip = tt;
+            ahead = λ never goes_on. grows_as None grown;
             kept = λ refused. absurd cc;
             coming = λ given counted.
                 come_old given
@@ -172,14 +185,14 @@ module _ {C A B R E : Type 0} (readings : Readings.Ghosts B C A R E) where
                 ∙ ap (λ l. answers o.min_depth (Listing given l unread)) none;
           }
 
-      pub answers_reads : (answer : Option (Result (DirEntry C A R E) (Error A))) → ReadsUpTo from.copies (Known readings old) from.options (items_of old) (unread_of readings old) (option_map item answer) (items_of new) (unread_of readings new) → GrowsAhead readings old (option_map item answer) new → Answers readings old answer new
-      answers_reads None reads grown = answers_none reads grown
-      answers_reads (Some x) reads grown = answers_some x reads grown
+      pub answers_reads : (answer : Option (Result (DirEntry C A R E) (Error A))) → IfSome answer (λ x. skip ≡ skip_behind (item x)) → ReadsUpTo from.copies (Known readings old) from.options (items_of old) (unread_of readings old) (option_map item answer) (items_of mid) (unread_of readings mid) → GrowsAhead readings old (option_map item answer) mid → Answers readings old answer new
+      answers_reads None behind reads grown = answers_none reads grown
+      answers_reads (Some x) behind reads grown = answers_some x behind reads grown
 
       -- the walk ends early below a directory
-      pub answers_stopped : (error : Error A) → from.tells (failure error) → ((given : Given R E) → IsSteadyWalk readings old given → failure error ≡ memory) → items_of new ≡ [] → unread_of readings new ≡ [] → readings.read_ahead new.reads ≡ nothing_ahead
+      pub answers_stopped : (error : Error A) → skip ≡ behind_error (failure error) → from.tells (failure error) → ((given : Given R E) → IsSteadyWalk readings old given → failure error ≡ memory) → items_of mid ≡ [] → unread_of readings mid ≡ [] → readings.read_ahead mid.reads ≡ nothing_ahead
           → StopsAtDirectory from.copies (Known readings old) from.options (items_of old) (unread_of readings old) → Answers readings old (Some (Err error)) new
-      answers_stopped error tells steadily none no_unread nothing_left stops =
+      answers_stopped error behind tells steadily none no_unread nothing_left stops =
           let copies = from.copies in
           let Knows = Known readings old in
           let o = from.options in
@@ -198,15 +211,16 @@ module _ {C A B R E : Type 0} (readings : Readings.Ghosts B C A R E) where
             reads = rw began (inl stopped);
             most = stays.most;
             steady = stays_steady (λ placed. unread_placed from (readings.sound (readings.base old.reads)) (items_of new) (unread_of readings new) no_unread);
+            skip = behind;
             ahead = λ never goes_on. absurd (goes_on stopped);
             kept = λ refused. absurd cc;
             coming = λ given counted. inl (record { error = failure error; told = refl; tells = steadily given counted; nothing_held = after; nothing_unread = no_unread; nothing_ahead = nothing_left });
           }
 
   -- a walk that ran out of memory at its start yields the error that says so
-  pub answers_refusal : (it : Entries C A B R E) (error : Error A) → failure error ≡ memory → it.refused ≡ true → Answers readings it (Some (Err error)) (record it { refused = false })
+  pub answers_refusal : (it : Entries C A B R E) (error : Error A) → failure error ≡ memory → it.refused ≡ true → Answers readings it (Some (Err error)) (record it { refused = false; skip = Nothing })
   answers_refusal it error told refused =
-      let new : Entries C A B R E = record it { refused = false } in
+      let new : Entries C A B R E = record it { refused = false; skip = Nothing } in
       let from = source_of readings it in
       let o = from.options in
       let front = held_refused (unread_of readings it) it refused in
@@ -220,6 +234,7 @@ module _ {C A B R E : Type 0} (readings : Readings.Ghosts B C A R E) where
         reads = rw refused refl;
         most = omega arith;
         steady = λ given steady. record { reads = steady.reads; placed = steady.placed };
+        skip = rw told refl;
         ahead = λ began. absurd cc;
         kept = λ was. refl;
         coming = λ given counted. inr (

@@ -27,7 +27,7 @@ use Rattle.jwalk_readings.specs.Sources.{Tells}
 use Rattle.jwalk_iter.specs.declared.entries.Entries.{Entries}
 use Rattle.jwalk_iter.specs.Entries as entries
 use Rattle.jwalk_iter.specs.Entries.{items_of, held_with, counted_with, AreAllSourced, StopsWith}
-pub use Rattle.jwalk_iter.specs.Entries.{TellsMemory, Position, PassesPlainly, refusal, NoneRefused, reads_of, is_refused, items_of, none_passed, one_passed, one_entered}
+pub use Rattle.jwalk_iter.specs.Entries.{TellsMemory, Position, PassesPlainly, refusal, NoneRefused, reads_of, is_refused, items_of, skip_of, skipped, dropped, none_passed, one_passed, one_entered}
 
 abbrev pub DirEntryIter : Type 0 → Type 0 → Type 0 → Type 0 → Type 0 → Type 0 → Type 0 → Type 0
 DirEntryIter C S P A L R E = Entries C A (ReadDirIter C S P A L R E) R E
@@ -137,3 +137,11 @@ module _ {C S P A L R E : Type 0} (files : FileSystem.Ghosts S) (process : Proce
   -- Calls from here on return items until `None`, and n is their number, or `usize::MAX` if there are more.
   abbrev pub Counts : DirEntryIter C S P A L R E → ℕ → Type 0
   Counts = entries.Counts (readings_by files process clone defaults readers)
+
+  -- One call of a walk's `skip_current_dir`.
+  abbrev pub Skips : DirEntryIter C S P A L R E → DirEntryIter C S P A L R E → Type 0
+  Skips = entries.Skips (readings_by files process clone defaults readers)
+
+  -- what was still to come of what a skip drops, over what is given
+  abbrev pub dropped_to_come : Given R E → DirEntryIter C S P A L R E → List (Item Worth Worth)
+  dropped_to_come = entries.dropped_to_come (readings_by files process clone defaults readers)

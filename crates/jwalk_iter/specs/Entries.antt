@@ -1,6 +1,7 @@
 -- What a walk over any readings holds, and what one of its answers does.
-use Rattle.std.specs.Prelude.{◌≡◌, ◌≤◌, ◌<◌, ◌+◌, ◌-◌, ◌*◌, ◌^◌, ◌⊎◌, ℕ, suc, min, Bool, true, false, List, [], ◌∷◌, ◌++◌, length, map, reverse, Option, Some, None, option_to_list, All, IfSome, IfNone, IfOk, IfErr, OnOk, OnErr, IsSomeAnd, MatchBool, option_map, Result, Ok, Err}
+use Rattle.std.specs.Prelude.{◌≡◌, ◌≤◌, ◌<◌, ◌+◌, ◌-◌, ◌*◌, ◌^◌, ◌⊎◌, ℕ, suc, min, Bool, true, false, List, [], ◌∷◌, ◌++◌, drop, filter, length, map, reverse, take, if◌then◌else◌, Option, Some, None, option_to_list, All, IfSome, IfNone, IfOk, IfErr, OnOk, OnErr, IsSomeAnd, MatchBool, option_map, Result, Ok, Err}
 use Rattle.std.specs.declared.alloc.AllocError.{AllocError}
+use Rattle.std.specs.List.{prefix_len}
 use Rattle.std.specs.Iterator.{Drains, Yields, YieldsThen}
 use Rattle.jwalk_model.specs.Error.{Failure, memory}
 use Rattle.jwalk_model.specs.Entry.{Item, has_directory, NoDeeper, IsBetween, AllBetween}
@@ -22,9 +23,11 @@ use Rattle.jwalk_readings.specs.declared.readers.Missed.{Missed}
 use Rattle.jwalk_readings.specs.CrewReads.{NotLost, failure_of}
 use Rattle.jwalk_readings.specs.Gives.{Readies}
 use Rattle.jwalk_readings.specs.Source.{Source, IsKnown}
+use Rattle.jwalk_iter.specs.Skip.{drops, skip_behind}
 use Rattle.jwalk_iter.specs.Step.{IsAtDirectory, ReadsUpTo, StopsAtDirectory}
 use Rattle.jwalk_readings.specs.declared.readings.Readings as Readings
 use Rattle.jwalk_iter.specs.declared.entries.Entries.{Entries}
+use Rattle.jwalk_iter.specs.declared.skip.Skip.{Skip}
 
 -- The item is the error that says that memory ran out.
 abbrev pub TellsMemory : {R E : Type 0} → Item R E → Type 0
@@ -103,6 +106,18 @@ module _ {C A B R E : Type 0} where
   -- the items that were received and not passed on, the next one first
   abbrev pub items_of : Entries C A B R E → List (Item R E)
   items_of it = map item (reverse it.items.items)
+
+  -- which items a skip drops
+  abbrev pub skip_of : Entries C A B R E → Skip
+  skip_of it = it.skip
+
+  -- how many of the items that are held a skip drops: the first ones, up to one that stays
+  abbrev pub skipped : Entries C A B R E → ℕ
+  skipped it = if it.refused then 0 else prefix_len (drops it.skip) (items_of it)
+
+  -- these items
+  abbrev pub dropped : Entries C A B R E → List (Item R E)
+  dropped it = take (skipped it) (items_of it)
 
   -- these items, each with the directory below it, where these directories aren't read yet
   abbrev pub held_with : List (Spec R) → Entries C A B R E → List (Pair R E)
@@ -270,12 +285,13 @@ module _ {C A B R E : Type 0} (readings : Readings.Ghosts B C A R E) where
     pub comes : IfErr result (NotLost (IsSteadyWalk old))
     pub stopped : OnErr result (StopsAtDirectory (source_of old).copies (Known old) (source_of old).options (items_of old) (unread_of old))
 
-  -- One call of a walk's `next`.
+  -- One call of a walk's `next`. A skip that follows goes by what was yielded.
   pub record Answers (old : Entries C A B R E) (answer : Option (Result (DirEntry C A R E) (Error A))) (new : Entries C A B R E) : Type 0 where
     pub base : readings.base new.reads ≡ readings.base old.reads
     pub depths : IsWithin old → IfSome (option_map item answer) (IsBetween (min_depth_of old) (max_depth_of old)) × IsWithin new
     pub sourced : IsSourced old → IsSourced new
     pub plain : AnswersPlainly (min_depth_of old) (held old) (option_map item answer) (held new)
+    pub skip : IfSome (option_map item answer) (λ a. new.skip ≡ skip_behind a)
     pub ended : IfNone answer (held new ≡ [])
     pub lighter : IfSome answer (λ _. weight_of new < weight_of old)
     pub reads : ReadsItems old (option_map item answer) new
@@ -315,3 +331,52 @@ module _ {C A B R E : Type 0} (readings : Readings.Ghosts B C A R E) where
   abbrev pub Counts : Entries C A B R E → ℕ → Type 0
   Counts start n =
       (answered : List (Result (DirEntry C A R E) (Error A))) × Drains Answers start answered × (n ≡ min (length answered) (2 ^ 64 - 1))
+
+  -- what was still to come of what a skip drops, over what is given
+  abbrev pub dropped_to_come : Given R E → Entries C A B R E → List (Item Worth Worth)
+  dropped_to_come given it = value.to_come ((source_of it).reading given) (min_depth_of it) (max_depth_of it) (pair_up (map (counted_item given) (dropped it)) (map (counted_spec given) (unread_of it)))
+
+  -- What dropping items leaves as it is. No more is read ahead then.
+  pub record StaysBehind (old new : Entries C A B R E) : Type 0 where
+    pub stays : Stays old new
+    pub skip : new.skip ≡ old.skip
+    pub ahead : length (readings.read_ahead new.reads).done ≤ length (readings.read_ahead old.reads).done
+
+  -- The first items go, as a skip drops them, with the directories below them. If there are none, nothing changes.
+  pub record DropsFirst (old new : Entries C A B R E) : Type 0 where
+    pub gone : List (Item R E)
+    pub items : items_of old ≡ gone ++ items_of new
+    pub each : All (λ x. drops old.skip x ≡ true) gone
+    pub unread : unread_of new ≡ drop (length (filter has_directory gone)) (unread_of old)
+    pub unchanged : gone ≡ [] → new ≡ old
+
+  -- The next item is dropped, with the directory below it, or a skip drops none and nothing changes.
+  abbrev pub DropsNext : Entries C A B R E → Bool → Entries C A B R E → Type 0
+  DropsNext old true new = DropsFirst old new × (length new.items.items < length old.items.items)
+  DropsNext old false new = (new ≡ old) × (prefix_len (drops old.skip) (items_of old) ≡ 0)
+
+  -- What a skip drops goes, with the directories below it. What was to come is what comes of it, and then what is to come now.
+  pub record Drops (old new : Entries C A B R E) : Type 0 where
+    pub refused : new.refused ≡ old.refused
+    pub items : items_of new ≡ drop (skipped old) (items_of old)
+    pub unread : unread_of new ≡ drop (length (filter has_directory (dropped old))) (unread_of old)
+    pub coming : (given : Given R E) → to_come given old ≡ dropped_to_come given old ++ to_come given new
+
+  -- Memory runs out: the error that says so is all that is to come.
+  pub record RunsOut (new : Entries C A B R E) : Type 0 where
+    pub held : held new ≡ refusal true
+    pub nothing_unread : unread_of new ≡ []
+    pub nothing_ahead : readings.read_ahead new.reads ≡ left.nothing_ahead
+
+  -- One call of a walk's `skip_current_dir`. Where nothing is to be dropped nothing changes, and so it is behind the call.
+  pub record Skips (old new : Entries C A B R E) : Type 0 where
+    pub base : readings.base new.reads ≡ readings.base old.reads
+    pub depths : IsWithin old → IsWithin new
+    pub sourced : IsSourced old → IsSourced new
+    pub lighter : weight_of new ≤ weight_of old
+    pub most : readings.most new.reads ≤ readings.most old.reads
+    pub ahead : length (readings.read_ahead new.reads).done ≤ length (readings.read_ahead old.reads).done
+    pub steady : StaysSteady old new
+    pub drops : Drops old new ⊎ RunsOut new
+    pub unchanged : dropped old ≡ [] → new ≡ old
+    pub again : dropped new ≡ []

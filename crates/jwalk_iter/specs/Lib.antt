@@ -1,3 +1,4 @@
+pub mod Skip
 pub mod Step
 pub mod Entries
 pub mod DirEntryIter

@@ -1,10 +1,13 @@
 //! A walk over any readings.
 ghost use Rattle.std.specs.Prelude.{◌≡◌, true, Ok, IfOk, OnErr};
+ghost use Rattle.jwalk_model.specs.Entry.{has_directory};
 ghost use Rattle.jwalk_job.specs.Entry.{entry, item};
+ghost use Rattle.jwalk_iter.specs.Skip.{drops};
 
 mod on_threads;
 mod starts;
 
+use crate::skip::Skip;
 use jwalk_job::client_state::ClientState;
 use jwalk_job::dir_entry::DirEntry;
 use jwalk_job::error::Error;
@@ -22,6 +25,8 @@ pub struct Entries<C: ClientState, A: Allocator + Copy, B> {
     items: List<C, A>,
     // Memory ran out at the start, and the error was not yielded yet.
     refused: bool,
+    // What a skip drops, by the item that was yielded last.
+    skip: Skip,
 }
 
 impl<C: ClientState, A: Allocator + Copy, B: Drop> Drop for Entries<C, A, B> {
@@ -30,14 +35,26 @@ impl<C: ClientState, A: Allocator + Copy, B: Drop> Drop for Entries<C, A, B> {
             reads: _,
             items: _,
             refused: _,
+            skip: _,
         } = self;
     }
 }
 
+fn has_directory<C: ClientState, A: Allocator + Copy>(held: &Item<C, A>) -> bool
+    ensures { result ≡ has_directory (item held.now) }
+{
+    match held {
+        Ok(found) => found.read_children.is_some(),
+        Err(_error) => false,
+    }
+}
+
 impl<C: ClientState, A: Allocator + Copy, B> Entries<C, A, B> {
-    ghost use Rattle.std.specs.Prelude.{◌++◌, OnOk, IsSome, option_map, map};
+    ghost use Rattle.std.specs.Prelude.{◌++◌, ◌∷◌, ◌<◌, length, OnOk, IsSome, IfSome, IfNone, option_map, map};
+    ghost use Rattle.std.specs.List.{prefix_len};
     ghost use Rattle.jwalk_job.specs.ReadDir.{reading, outcome};
-    ghost use Rattle.jwalk_iter.specs.Entries.{reads_of, is_refused, items_of};
+    ghost use Rattle.jwalk_iter.specs.declared.skip.Skip.TheVariants.{Nothing};
+    ghost use Rattle.jwalk_iter.specs.Entries.{reads_of, is_refused, items_of, skip_of};
     ghost use Rattle.jwalk_iter.specs.Step.{Receives};
 
     /// Returns the walk over these readings that holds a root's list. If `refused`, memory ran out: the walk first
@@ -46,6 +63,7 @@ impl<C: ClientState, A: Allocator + Copy, B> Entries<C, A, B> {
         ensures reads { reads_of result ≡ reads }
         ensures items { items_of result ≡ map item list.items }
         ensures refused { is_refused result ≡ refused }
+        ensures skip { skip_of result ≡ Nothing }
     {
         let mut items = list;
         items.reverse();
@@ -53,6 +71,7 @@ impl<C: ClientState, A: Allocator + Copy, B> Entries<C, A, B> {
             reads,
             items,
             refused,
+            skip: Skip::Nothing,
         }
     }
 
@@ -75,6 +94,24 @@ impl<C: ClientState, A: Allocator + Copy, B> Entries<C, A, B> {
             return Ok(());
         }
         self.items.append(&mut items)
+    }
+
+    /// Takes the next item from what is held, if a skip drops it.
+    fn pop_dropped(&mut self) -> Option<Item<C, A>>
+        ensures others { self.new ≡ record self.old { items = self.new.items } }
+        ensures first { IfSome result (λ x. items_of self.old ≡ item x ∷ items_of self.new) }
+        ensures dropped { IfSome result (λ x. drops self.old.skip (item x) ≡ true) }
+        ensures fewer { IfSome result (λ x. length self.new.items.items < length self.old.items.items) }
+        ensures none { IfNone result ((self.new ≡ self.old)
+            × (prefix_len (drops self.old.skip) (items_of self.old) ≡ 0)) }
+    {
+        let Some(next) = self.items.last() else {
+            return None;
+        };
+        if !self.skip.drops(next) {
+            return None;
+        }
+        self.items.pop()
     }
 
     fn entered(
@@ -100,10 +137,11 @@ impl<C: ClientState, A: Allocator + Copy, B> Entries<C, A, B> {
 }
 
 impl<C: ClientState, A: Allocator + Copy, B: Readings<C, A>> Entries<C, A, B> {
-    ghost use Rattle.std.specs.Prelude.{[], false, IfSome, IfNone};
+    ghost use Rattle.std.specs.Prelude.{[], false, ◌<◌, IfSome, IfNone, OnOk};
+    ghost use Rattle.std.specs.List.{prefix_len};
     ghost use Rattle.jwalk_model.specs.Listing.{is_answered};
     ghost use Rattle.jwalk_readings.specs.ReadAhead.{nothing_ahead};
-    ghost use Rattle.jwalk_iter.specs.Entries.{min_depth_of, items_of, unread_of, Stays, Passes, GoesOn, Answers, AnswersWhatCame, Fills, Counts};
+    ghost use Rattle.jwalk_iter.specs.Entries.{min_depth_of, items_of, unread_of, Stays, Passes, GoesOn, Answers, AnswersWhatCame, Fills, Counts, StaysBehind, DropsFirst, DropsNext, Skips};
 
     fn stop(&mut self)
         ensures stays { Stays B.Readings self.old self.new }
@@ -163,13 +201,17 @@ impl<C: ClientState, A: Allocator + Copy, B: Readings<C, A>> Entries<C, A, B> {
     fn answer(&mut self, came: Result<Option<Item<C, A>>, Missed>) -> Option<Item<C, A>>
         ensures { AnswersWhatCame B.Readings came self.old result self.new }
     {
-        match came {
+        let answer = match came {
             Ok(answer) => answer,
             Err(missed) => {
                 self.stop();
                 Some(Err(error_of(missed)))
             }
+        };
+        if let Some(yielded) = &answer {
+            self.skip = Skip::behind(yielded);
         }
+        answer
     }
 
     /// Returns the next answer; or the error that reports why it won't come, and then nothing is left.
@@ -179,6 +221,7 @@ impl<C: ClientState, A: Allocator + Copy, B: Readings<C, A>> Entries<C, A, B> {
     {
         if self.refused {
             self.refused = false;
+            self.skip = Skip::Nothing;
             return Some(Err(Error::memory()));
         }
         let came = self.next_kept();
@@ -208,6 +251,65 @@ impl<C: ClientState, A: Allocator + Copy, B: Readings<C, A>> Entries<C, A, B> {
             filled += 1;
         }
         Ok(filled)
+    }
+
+    /// Drops the next item, if a skip drops it, and returns whether it did.
+    ///
+    /// # Errors
+    ///
+    /// If memory runs out for the directory below it.
+    fn drop_next(&mut self) -> Result<bool, AllocError>
+        ensures stays { StaysBehind B.Readings self.old self.new }
+        ensures dropped { IfOk result (λ more. DropsNext B.Readings self.old more self.new) }
+        ensures some { OnErr result (0 < prefix_len (drops self.old.skip) (items_of self.old)) }
+    {
+        let Some(dropped) = self.pop_dropped() else {
+            return Ok(false);
+        };
+        if has_directory(&dropped) {
+            self.reads.skip_next()?;
+        }
+        Ok(true)
+    }
+
+    /// Drops all that a skip drops.
+    ///
+    /// # Errors
+    ///
+    /// If memory runs out for a directory. A part is dropped then.
+    fn drop_skipped(&mut self) -> Result<(), AllocError>
+        ensures stays { StaysBehind B.Readings self.old self.new }
+        ensures dropped { OnOk result (DropsFirst B.Readings self.old self.new
+            × (prefix_len (drops self.new.skip) (items_of self.new) ≡ 0)) }
+        ensures some { OnErr result (0 < prefix_len (drops self.old.skip) (items_of self.old)) }
+    {
+        while self.drop_next()? {}
+        Ok(())
+    }
+
+    /// Skips what is left of a directory, by the item that was yielded last. It goes from what the walk holds, whatever
+    /// the least depth is, and none of it is read or yielded any more:
+    ///
+    /// - behind a directory that was read, all that is below it;
+    /// - behind a directory that was not read, since it is at the greatest depth, couldn't be read or was not to be read,
+    ///   nothing: what is beside it comes;
+    /// - behind any other entry, and behind an error, the rest of the list that it lies in. What is dropped ends before the
+    ///   first item that lies less deep. An error that reports that memory ran out, or on a crew, lies in no list: nothing
+    ///   goes behind it.
+    ///
+    /// Before the first answer, after `None` and a second time nothing changes. After `fill` the last of its answers
+    /// counts. A directory that was yielded was read before. Of those that are skipped a serial walk reads none. In
+    /// batches and over a crew some may have been read already, and readings that a crew's workers are at go on to their
+    /// end: these are dropped, and no call waits for them. Over a crew it may block for a lock.
+    ///
+    /// If memory runs out, the walk yields the error that reports it, and then nothing is left.
+    pub fn skip_current_dir(&mut self)
+        ensures { Skips B.Readings self.old self.new }
+    {
+        if !self.refused && self.drop_skipped().is_err() {
+            self.stop();
+            self.refused = true;
+        }
     }
 
     /// Returns how many directories were read whose readings are not yet handed on. A serial walk reads none ahead.

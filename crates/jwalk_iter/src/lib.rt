@@ -5,3 +5,4 @@
 
 pub mod dir_entry_iter;
 pub mod entries;
+mod skip;

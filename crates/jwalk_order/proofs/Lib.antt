@@ -6,3 +6,4 @@ pub mod Keys
 pub mod Sets
 pub mod Siblings
 pub mod Tops
+pub mod Within

@@ -9,3 +9,4 @@ pub mod OrderedQueue
 pub mod OrderedQueueIter
 pub mod Siblings
 pub mod Step
+pub mod Within

@@ -3,11 +3,13 @@ ghost use Rattle.std.specs.Prelude.{◌≡◌, ◌+◌, ◌<◌, ◌≤◌, ◌�
 ghost use Rattle.std.specs.BinaryHeap.{heap_items, heap_len, heap_capacity, IsHeap};
 ghost use Rattle.std.specs.List.Sorted.{IsPermutation};
 ghost use Rattle.jwalk_order.specs.Frontier.{next_address};
-ghost use Rattle.jwalk_order.specs.IndexPath.{is_before};
+ghost use Rattle.jwalk_order.specs.IndexPath.{address, is_before};
 ghost use Rattle.jwalk_order.specs.Ordered.{address_of, ordered_cmp};
 ghost use Rattle.jwalk_order.specs.Addressed.{addressed, addresses_of, IsFirst};
 ghost use Rattle.jwalk_order.specs.Addresses.{IsAmong};
+ghost use Rattle.jwalk_order.specs.Within.{RemovesWithin};
 
+use crate::index_path::IndexPath;
 use crate::ordered::Ordered;
 use std::alloc::{AllocError, Allocator};
 use std::collections::BinaryHeap;
@@ -122,6 +124,20 @@ impl<T, A: Allocator + Copy> AddressHeap<T, A> {
         match self.front.take() {
             Some(item) => Some(item),
             None => self.others.pop(),
+        }
+    }
+
+    /// Removes the values at an address and below it, if they come first.
+    pub fn remove_within(&mut self, path: &IndexPath<A>)
+    where
+        T: Drop,
+        ensures { RemovesWithin (address path.now) self.old.items self.new.items }
+    {
+        while let Some(least) = self.peek() {
+            if !least.index_path.is_within(path) {
+                return;
+            }
+            self.pop();
         }
     }
 }

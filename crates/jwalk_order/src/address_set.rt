@@ -1,7 +1,8 @@
 //! A set of addresses.
-ghost use Rattle.std.specs.Prelude.{◌≡◌, ◌≤◌, ◌^◌, ◌∷◌, [], ◌↔◌, length, IsTrue, OnErr, OnOk};
+ghost use Rattle.std.specs.Prelude.{◌≡◌, ◌≤◌, ◌^◌, ◌∷◌, [], ◌↔◌, ◌&&◌, length, not, IsTrue, OnErr, OnOk};
+ghost use Rattle.std.specs.List.{filter};
 ghost use Rattle.std.specs.List.Sorted.{IsPermutation};
-ghost use Rattle.jwalk_order.specs.IndexPath.{address};
+ghost use Rattle.jwalk_order.specs.IndexPath.{address, is_within};
 ghost use Rattle.jwalk_order.specs.Addresses.{times, IsAmong};
 
 use crate::index_path::IndexPath;
@@ -90,4 +91,19 @@ impl<A: Allocator + Copy> AddressSet<A> {
         }
         self.others.remove(path);
     }
+
+    /// Removes an address, if it is in it, and all that lie below it.
+    pub fn remove_within(&mut self, path: &IndexPath<A>)
+        ensures { self.new ≡ filter (λ a. not (is_within (address path.now) a)) self.old }
+    {
+        self.has_apart = stays(self.has_apart, &self.apart, path);
+        self.others.retain(|other| stays(true, other, path));
+    }
+}
+
+// Whether an address, if it is in a set, doesn't lie at or below another.
+fn stays<A: Allocator + Copy>(is_in: bool, one: &IndexPath<A>, path: &IndexPath<A>) -> bool
+    ensures { result ≡ (is_in && not (is_within (address path.now) (address one.now))) }
+{
+    is_in && !one.is_within(path)
 }

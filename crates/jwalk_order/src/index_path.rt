@@ -5,7 +5,7 @@ ghost use Rattle.std.specs.Cmp.Lexicographic.{pointwise};
 ghost use Rattle.std.specs.Cmp.Rules.{comparing};
 ghost use Rattle.std.specs.Ordering.{as_partial_cmp, on};
 ghost use Rattle.std.proofs.Common.{rules};
-ghost use Rattle.jwalk_order.specs.IndexPath.{address, reversed_cmp, IsAbove};
+ghost use Rattle.jwalk_order.specs.IndexPath.{address, is_within, reversed_cmp, IsAbove};
 
 use std::alloc::{AllocError, Allocator, Global};
 use std::cmp::Ordering;
@@ -77,6 +77,15 @@ impl<A: Allocator + Copy> IndexPath<A> {
         ensures { IsTrue result ↔ (address self.now ≡ []) }
     {
         self.indices.is_empty()
+    }
+
+    /// Returns whether it is that address, or lies below it.
+    pub fn is_within(&self, above: &Self) -> bool
+        ensures { result ≡ is_within (address above.now) (address self.now) }
+    {
+        self.indices
+            .as_slice()
+            .starts_with(above.indices.as_slice())
     }
 
     /// Returns an equal address, made with this one's allocator.

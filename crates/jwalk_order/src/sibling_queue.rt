@@ -5,6 +5,7 @@ ghost use Rattle.jwalk_order.specs.Frontier.{next_address};
 ghost use Rattle.jwalk_order.specs.IndexPath.{address};
 ghost use Rattle.jwalk_order.specs.Addressed.{addresses_of, numbered, IsFirst};
 ghost use Rattle.jwalk_order.specs.Addresses.{IsAmong};
+ghost use Rattle.jwalk_order.specs.Within.{RemovesWithin};
 
 use crate::address_heap::AddressHeap;
 use crate::index_path::IndexPath;
@@ -108,5 +109,17 @@ impl<T: Drop, A: Allocator + Copy> SiblingQueue<T, A> {
             self.entries.push_reserved(entry);
         }
         Some(value)
+    }
+
+    /// Removes the values at an address and below it, if they come first.
+    pub fn remove_within(&mut self, path: &IndexPath<A>)
+        ensures { RemovesWithin (address path.now) self.old self.new }
+    {
+        while let Some(least) = self.least() {
+            if !least.is_within(path) {
+                return;
+            }
+            self.pop();
+        }
     }
 }

@@ -15,5 +15,6 @@ pub mod CrewSteadyFacts
 pub mod RestFacts
 mod GivesFacts
 mod PreparedReadFacts
+mod SkipFacts
 mod SourceInFacts
 pub mod PreparedByFacts

@@ -1,5 +1,6 @@
 //! Readings of directories in preorder, made in batches.
-ghost use Rattle.std.specs.Prelude.{◌≡◌, ◌≢◌, ◌≤◌, ◌+◌, [], length, map, option_map, IfOk, OnOk, OnErr};
+ghost use Rattle.std.specs.Prelude.{◌≡◌, ◌≢◌, ◌≤◌, ◌+◌, [], drop, length, map, option_map, IfOk, OnOk, OnErr};
+ghost use Rattle.jwalk_order.specs.Frontier.{passed};
 ghost use Rattle.jwalk_job.specs.ReadDirSpec.{spec};
 ghost use Rattle.jwalk_job.specs.ReadDir.{outcome};
 ghost use Rattle.jwalk_job.specs.Job.{callback};
@@ -132,6 +133,19 @@ impl<C: ClientState, S: FileSystem, P: ProcessReadDir<C, A>, A: Allocator + Copy
             (frontier_of self.new)) }
     {
         self.walk.read_next()
+    }
+
+    /// Passes over the directory that comes next and all that is below it, if any is left. Nothing is read.
+    pub(crate) fn skip_next(&mut self)
+        ensures job { self.new.job ≡ self.old.job }
+        ensures width { self.new.width ≡ self.old.width }
+        ensures to_read { to_read self.new ≡ drop 1 (to_read self.old) }
+        ensures done { length (read_ahead self.new).done ≤ length (read_ahead self.old).done }
+        ensures frontier { frontier_of self.new ≡ passed (frontier_of self.old) 0 }
+        ensures steady { StaysSteady S.FileSystem P.ProcessReadDir C.ReadDirState.Clone C.DirEntryState.Default
+            self.old self.new }
+    {
+        self.walk.skip_next();
     }
 
     /// Returns how many readings were made and not handed on.

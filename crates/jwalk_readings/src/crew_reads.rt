@@ -1,5 +1,5 @@
 //! Readings that a crew makes ahead.
-ghost use Rattle.std.specs.Prelude.{◌≡◌, ◌≢◌, ◌≤◌, ◌↔◌, ◌++◌, true, false, IsTrue, Ok, [], length, map, IfOk, IfErr, MatchResult, OnErr, OnOk, option_map};
+ghost use Rattle.std.specs.Prelude.{◌≡◌, ◌≢◌, ◌≤◌, ◌↔◌, ◌++◌, true, false, IsTrue, Ok, [], drop, length, map, IfOk, IfErr, MatchResult, OnErr, OnOk, option_map};
 ghost use Rattle.std.specs.Arc.{arc_value};
 ghost use Rattle.jwalk_model.specs.ReadDir.{children_of};
 ghost use Rattle.jwalk_order.specs.Frontier.{passed};
@@ -226,6 +226,45 @@ impl<
             Err(missed) => {
                 self.stop();
                 Err(missed)
+            }
+        }
+    }
+
+    /// Passes the address that comes next, here and by the readers, as one without directories in it.
+    fn pass_address(&mut self) -> Result<(), AllocError>
+        ensures job { job_of self.new ≡ job_of self.old }
+        ensures to_read { to_read self.new ≡ to_read self.old }
+        ensures most { most_ahead L.Readers self.new ≡ most_ahead L.Readers self.old }
+        ensures steady { OnOk result ((first : _) → StaysSteadyAfter S.FileSystem P.ProcessReadDir
+            C.ReadDirState.Clone C.DirEntryState.Default L.Readers self.old first self.new) }
+    {
+        let Some(readers) = &mut self.readers else {
+            return Ok(());
+        };
+        readers.skip()?;
+        if !self.matcher.is_none() {
+            self.matcher.go_on();
+        }
+        Ok(())
+    }
+
+    /// Passes over the directory that comes next and all that is below it, if any is left.
+    pub(crate) fn skip_next(&mut self) -> Result<(), AllocError>
+        ensures job { job_of self.new ≡ job_of self.old }
+        ensures to_read { OnOk result (to_read self.new ≡ drop 1 (to_read self.old)) }
+        ensures stopped { OnErr result (to_read self.new ≡ []) }
+        ensures most { most_ahead L.Readers self.new ≤ most_ahead L.Readers self.old }
+        ensures steady { StaysSteady S.FileSystem P.ProcessReadDir C.ReadDirState.Clone C.DirEntryState.Default
+            L.Readers self.old self.new }
+    {
+        let Some(_of) = self.unread.pop() else {
+            return Ok(());
+        };
+        match self.pass_address() {
+            Ok(()) => Ok(()),
+            Err(refused) => {
+                self.stop();
+                Err(refused)
             }
         }
     }

@@ -1,5 +1,5 @@
 //! What gives a walk its readings.
-ghost use Rattle.std.specs.Prelude.{◌≡◌, ◌≤◌, ℕ, List, [], IfOk, IsOk};
+ghost use Rattle.std.specs.Prelude.{◌≡◌, ◌≤◌, ℕ, List, [], IfOk, IsOk, OnOk};
 ghost use Rattle.jwalk_order.specs.Frontier.{passed};
 ghost use Rattle.jwalk_order.specs.Ordered.{child_count_of};
 ghost use Rattle.jwalk_order.specs.Addressed.{addressed};
@@ -74,6 +74,17 @@ pub trait Readers<
         ensures due { result ≡ Err Missed.Lost → (origin : _) → Self.comes_from self.old origin → ¬ IsDue S.FileSystem
             P.ProcessReadDir C.ReadDirState.Clone C.DirEntryState.Default origin (Self.awaits self.old) wanted.now };
 
+    /// Passes over the reading that comes next and those of all that is below it, if any is left. None of them is handed on
+    /// from then on. It doesn't block for a reading; over a crew it may block for a lock.
+    ///
+    /// # Errors
+    ///
+    /// If memory runs out. The readers are not to be asked again.
+    fn skip(&mut self) -> Result<(), AllocError>
+        ensures same { (origin : _) → Self.comes_from self.old origin → Self.comes_from self.new origin }
+        ensures further { OnOk result (Self.awaits self.new ≡ passed (Self.awaits self.old) 0) }
+        ensures most { Self.most self.new ≡ Self.most self.old };
+
     /// Returns how many readings were made and not handed on. Over a crew it may block for a lock.
     fn ahead(&self) -> usize
         ensures counted { Self.counts self.now result }
@@ -102,6 +113,10 @@ impl<C: ClientState, S: FileSystem, P: ProcessReadDir<C, A>, A: Allocator + Copy
         ensures { result ≡ Err Missed.Lost }
     {
         Err(Missed::Lost)
+    }
+
+    fn skip(&mut self) -> Result<(), AllocError> {
+        Ok(())
     }
 
     fn ahead(&self) -> usize

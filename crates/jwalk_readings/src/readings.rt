@@ -1,5 +1,5 @@
 //! What a walk over readings asks of them.
-ghost use Rattle.std.specs.Prelude.{◌≡◌, ◌≢◌, ◌≤◌, ◌+◌, ℕ, List, [], length, Ok, true, false, option_map, IfOk, IfErr, OnErr};
+ghost use Rattle.std.specs.Prelude.{◌≡◌, ◌≢◌, ◌≤◌, ◌+◌, ℕ, List, [], drop, length, Ok, true, false, option_map, IfOk, IfErr, OnErr, OnOk};
 ghost use Rattle.jwalk_model.specs.ReadDir.{Spec};
 ghost use Rattle.jwalk_order.specs.Frontier.{next_address};
 ghost use Rattle.jwalk_job.specs.Entry.{entry};
@@ -22,7 +22,7 @@ use jwalk_job::client_state::ClientState;
 use jwalk_job::dir_entry::DirEntry;
 use jwalk_job::options::Options;
 use jwalk_job::read_dir::Outcome;
-use std::alloc::Allocator;
+use std::alloc::{AllocError, Allocator};
 
 /// Readings in preorder, whoever makes them.
 pub trait Readings<C: ClientState, A: Allocator + Copy>: Drop {
@@ -91,6 +91,20 @@ pub trait Readings<C: ClientState, A: Allocator + Copy>: Drop {
         ensures below { result ≡ true → IsNextIn (source (base self.now)) (Ok (entry found.now)) (to_read self.now) }
         ensures other { result ≡ false
             → ¬ IsNextIn (source (base self.now)) (Ok (entry found.now)) (to_read self.now) };
+
+    /// Passes over the directory that comes next and all that is below it, if any is left. Nothing is read for it. It doesn't
+    /// block for a reading; over a crew it may block for a lock.
+    ///
+    /// # Errors
+    ///
+    /// If memory runs out. Then nothing is left to be read.
+    fn skip_next(&mut self) -> Result<(), AllocError>
+        ensures base { base self.new ≡ base self.old }
+        ensures to_read { OnOk result (to_read self.new ≡ drop 1 (to_read self.old)) }
+        ensures stopped { OnErr result (to_read self.new ≡ []) }
+        ensures ahead { length (read_ahead self.new).done ≤ length (read_ahead self.old).done }
+        ensures most { most self.new ≤ most self.old }
+        ensures steady { (g : _) → steady self.old g → steady self.new g };
 
     /// Returns the options that they are made by.
     fn options(&self) -> Options

@@ -17,7 +17,7 @@ use jwalk_job::process_read_dir::ProcessReadDir;
 use jwalk_job::read_dir::Outcome;
 use jwalk_job::read_dir_spec::ReadDirSpec;
 use jwalk_order::ordered::Ordered;
-use std::alloc::{Allocator, Global};
+use std::alloc::{AllocError, Allocator, Global};
 use std::sync::Wait;
 use std::thread::Threads;
 use std::time::Clock;
@@ -84,6 +84,10 @@ impl<
         } else {
             Err(Missed::Lost)
         }
+    }
+
+    fn skip(&mut self) -> Result<(), AllocError> {
+        self.readings.skip()
     }
 
     fn ahead(&self) -> usize

@@ -21,6 +21,8 @@ enum Step {
     HandsOut(Result<(&'static [usize], usize), HandOutRefusal>),
     // Hands out the next reading, which is ready: at this address, with a number of children.
     HandsOutNext(&'static [usize], usize),
+    // Passes the next address without its reading.
+    SkipsNext,
     // Takes, finishes and hands out only children of only children, on 299 levels.
     GoesDown,
     // Counts the queued, in hand, ready and pending.
@@ -112,6 +114,10 @@ fn goes(board: &mut Names, alloc: Global, step: &Step) -> bool {
         Step::FinishesNone(indices) => finishes_none(board, alloc, indices),
         Step::HandsOut(wanted) => hands_out(board, *wanted),
         Step::HandsOutNext(indices, child_count) => hands_out_next(board, indices, *child_count),
+        Step::SkipsNext => {
+            board.skip_next();
+            true
+        }
         Step::GoesDown => goes_down(board, alloc, [0; 300].as_slice()),
         Step::Counts(wanted) => counts(board) == *wanted,
         Step::Stops => {
@@ -188,6 +194,29 @@ const ROWS: &[(&str, usize, &[Step])] = &[
             Step::Counts([2, 0, 1, 2]),
             Step::FinishesNone(&[0]),
             Step::Counts([2, 0, 1, 2]),
+        ],
+    ),
+    (
+        "what is skipped leaves the board with all below it",
+        2,
+        &[
+            Step::Takes(Ok(&[0])),
+            Step::Finishes(&[0], "r", &["a", "b"]),
+            Step::Takes(Ok(&[0, 0])),
+            Step::Finishes(&[0, 0], "a", &["c", "d"]),
+            Step::Takes(Ok(&[0, 0, 0])),
+            Step::HandsOut(Ok((&[0], 2))),
+            Step::Counts([3, 1, 1, 4]),
+            Step::SkipsNext,
+            Step::Counts([2, 0, 0, 2]),
+            Step::FinishesNone(&[0, 0, 0]),
+            Step::Takes(Ok(&[0, 1])),
+            Step::SkipsNext,
+            Step::Counts([1, 0, 0, 1]),
+            Step::SkipsNext,
+            Step::SkipsNext,
+            Step::Counts([0, 0, 0, 0]),
+            Step::HandsOut(Err(HandOutRefusal::Done)),
         ],
     ),
     (

@@ -24,6 +24,30 @@ fn all_readings_of_a_family_however_many_together(rt: HostRuntime) {
     }
 }
 
+/// The first two of a family's readings that come where what is below the root's first child is skipped. None is left then.
+fn without_first_child(alloc: Global, width: usize) -> Option<[u8; 2]> {
+    if width == 0 {
+        return None;
+    }
+    let mut walk = BoardWalk::new(alloc, Family, width);
+    walk.begin(vec![in alloc; 0_u8].ok()?).ok()?;
+    let root = walk.read_next().ok()??;
+    walk.skip_next();
+    let next = walk.read_next().ok()??;
+    walk.skip_next();
+    match walk.read_next() {
+        Ok(None) => Some([root, next]),
+        _ => None,
+    }
+}
+
+#[test]
+fn what_is_skipped_is_not_handed_on(rt: HostRuntime) {
+    for width in 1..5 {
+        assert_eq!(rt; without_first_child(rt.alloc(), width), Some([0, 2]));
+    }
+}
+
 /// How the readings are asked for.
 enum Asking {
     /// Each is prepared first. The number before it is how many are ahead once it is prepared.

@@ -285,7 +285,12 @@ fn an_input_is_read_whole_or_told(rt: HostRuntime) {
 fn each_failure_has_its_text_and_status(rt: HostRuntime) {
     const ROWS: &[(Failure, &str, u8, Told)] = &[
         (Failure::BadWords, "walk: bad words\n", 2, Told::Line),
-        (Failure::BadTree(3), "walk: bad tree, line 3\n", 2, Told::Line),
+        (
+            Failure::BadTree(3),
+            "walk: bad tree, line 3\n",
+            2,
+            Told::Line,
+        ),
         (Failure::TooMany, "walk: too many\n", 1, Told::Line),
         (Failure::Memory, "walk: memory refused\n", 1, Told::Line),
         (Failure::Output, "", 1, Told::Output),

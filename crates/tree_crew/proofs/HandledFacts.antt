@@ -1,9 +1,9 @@
 -- What a receipt is for.
-use Rattle.std.proofs.Common.{◌≡◌, ◌∙◌, ℕ, false, List, Option, Some, None, Result, Ok, Err, OnOk, OnErr, inl, inr, refl, sym, ap, subst, box_value}
+use Rattle.std.proofs.Common.{◌≡◌, ◌∙◌, ℕ, false, Option, Some, None, inl, refl, sym, ap, subst, box_value}
 use Rattle.keyed_slot.specs.Keyed.{receipt_of, IsReceiptOf}
 use Rattle.keyed_slot.specs.declared.slot.KeyedSlot.{KeyedSlot}
 use Rattle.keyed_slot.specs.declared.slot.Receipt.{Receipt}
-use Rattle.jwalk_board.specs.Board.{Board, Finishes}
+use Rattle.jwalk_board.specs.Board.{Board}
 use Rattle.tree_crew.specs.declared.arrival.Arrival.{Arrival}
 use Rattle.tree_crew.specs.declared.arrival.Arrival.TheVariants.{Entered, Lost, Memory, Wait}
 use Rattle.tree_crew.specs.Arrival.{Arrives}
@@ -12,13 +12,8 @@ use Rattle.jwalk_order.specs.declared.ordered.Ordered.{Ordered}
 use Rattle.tree_crew.specs.declared.sleepers.Sleepers.{Sleepers}
 use Rattle.tree_crew.specs.declared.steps.Called.{Called}
 use Rattle.tree_crew.specs.declared.work.Work.{Work}
-use Rattle.tree_crew.specs.Handled.{board_in, ArrivesOrIsOut, CallsIfEntered, CallsOrIsOut, FinishesOrStops, IsHandled, IsReceiptFor, Stops}
+use Rattle.tree_crew.specs.Handled.{board_in, ArrivesOrIsOut, CallsIfEntered, CallsOrIsOut, IsHandled, IsReceiptFor}
 use Rattle.tree_crew.specs.Sleepers.{CallsNobody, CallsTakers}
-
-pub finishes_or_stops : {T R D F : Type 0} (old new : Board T R) (r : Result D F) (a : List ℕ) (reading : R) (children : List T) → OnOk r (Finishes a reading children old new) → OnErr r (Stops old new)
-    → FinishesOrStops a reading children old new
-finishes_or_stops old new (Ok x) a reading children done stopped = inl done
-finishes_or_stops old new (Err e) a reading children done stopped = inr stopped
 
 -- nobody overslept
 abbrev pub not_overslept : Sleepers → Sleepers
@@ -46,7 +41,7 @@ module _ {T U J A : Type 0} where
   calls_nobody limit Wait other board before after calls nobody = nobody
 
   -- one step on a board that was taken and put back by the key
-  handled_on : (step : Board T (Message T U J) → Board T (Message T U J) → Type 0) (was after : Option (Work T U J A) × Option (Work T U J A)) (taken put : Work T U J A) (old new : Board T (Message T U J))
+  pub handled_on : (step : Board T (Message T U J) → Board T (Message T U J) → Type 0) (was after : Option (Work T U J A) × Option (Work T U J A)) (taken put : Work T U J A) (old new : Board T (Message T U J))
       → was ≡ (Some taken, None) → after ≡ (was.0, Some put) → old ≡ box_value taken.board → box_value put.board ≡ new → step old new → IsHandled step after
   handled_on step was after taken put old new take give from to steps = record {
     old = old;

@@ -1,15 +1,28 @@
 -- At each step on a board, what is ready or in hand stays at most the limit and one.
-use Rattle.std.proofs.Common.{◌≡◌, ◌⊎◌, ℕ, suc, ◌≤◌, Bool, true, List, [], ◌∷◌, length, inl, inr, sym, ap, ◌∙◌, subst, arith, Result, Ok, Err, OnOk, OnErr}
+use Rattle.std.proofs.Common.{◌≡◌, ◌⊎◌, ℕ, suc, ◌≤◌, Bool, true, false, not, cond, List, [], ◌∷◌, ◌++◌, length, length-append, inl, inr, sym, ap, ◌∙◌, subst, arith}
+use Rattle.std.specs.List.{filter}
 use Rattle.std.proofs.lemmas.Bool.{false≢true}
 use Rattle.std.proofs.lemmas.List.Sorted.{length_permutation}
 use Rattle.jwalk_order.specs.Addressed.{addressed}
+use Rattle.jwalk_order.specs.Frontier.{next_address}
+use Rattle.jwalk_order.specs.IndexPath.{is_within}
 use Rattle.jwalk_order.specs.Ordered.{address_of}
 use Rattle.jwalk_order.specs.declared.ordered.Ordered.{Ordered}
 use Rattle.jwalk_board.specs.Board.{Board, IsNew, Takes, HandsOut, Finishes}
+use Rattle.jwalk_board.specs.Skip.{SkipsNext}
+use Rattle.tree_crew.specs.Handled.{FinishesOrStops}
 use Rattle.tree_crew.specs.ReadAhead.{ready_or_in_hand, CountsTakers, IsWithin, MayTake}
 use Rattle.tree_crew.specs.Steps.{Turns}
 use Rattle.tree_crew.specs.declared.steps.Turn.{Turn}
 use Rattle.tree_crew.specs.declared.steps.Turn.TheVariants as turn
+
+fewer_pass : {X : Type 0} (p : X → Bool) (xs : List X) → length (filter p xs) ≤ length xs
+fewer_pass p [] = omega arith
+fewer_pass p (x ∷ xs) =
+    elim (p x) as (λ b. length (cond b (x ∷ filter p xs) (filter p xs)) ≤ suc (length xs)) [
+      | true ↦ omega (arith, fewer_pass p xs)
+      | false ↦ omega (arith, fewer_pass p xs)
+    ]
 
 module _ {T R : Type 0} (b : Board T R) (limit : ℕ) (is_full : Bool) where
   -- where something may be taken, no more than the limit are ready or in hand
@@ -66,10 +79,17 @@ module _ {T R : Type 0} (limit : ℕ) (old new : Board T R) where
     | inr stopped ↦ stopped_within stopped.1 within
   ]
 
-  pub handed_in_within : {D F : Type 0} (r : Result D F) (a : List ℕ) (reading : R) (children : List T) → OnOk r (Finishes a reading children old new)
-      → OnErr r (new ≡ record old { stopped = true }) → IsWithin limit old → IsWithin limit new
-  handed_in_within (Ok x) a reading children done stopped within = finished_within a reading children done within
-  handed_in_within (Err e) a reading children done stopped within = stopped_within stopped within
+  pub handed_in_within : (a : List ℕ) (reading : R) (children : List T) → FinishesOrStops a reading children old new → IsWithin limit old → IsWithin limit new
+  handed_in_within a reading children (inl done) within = finished_within a reading children done within
+  handed_in_within a reading children (inr (inl stopped)) within = stopped_within stopped.stops within
+  handed_in_within a reading children (inr (inr late)) within = same_within late.unchanged within
+
+  pub skipped_within : SkipsNext old new → IsWithin limit old → IsWithin limit new
+  skipped_within (inl nothing) within = same_within nothing.1 within
+  skipped_within (inr skips) within =
+      let ready : length (skips.ready.gone ++ new.ready) ≡ length old.ready = length_permutation _ _ skips.ready.leave in
+      let in_hand : length new.in_hand ≡ length (filter (λ a. not (is_within (next_address old.frontier) a)) old.in_hand) = ap length skips.in_hand in
+      omega (arith, ready, length-append skips.ready.gone new.ready, in_hand, fewer_pass (λ a. not (is_within (next_address old.frontier) a)) old.in_hand, within)
 
 pub new_within : {T R : Type 0} (limit : ℕ) (specs : List T) (b : Board T R) → IsNew specs b → IsWithin limit b
 new_within limit specs b new =

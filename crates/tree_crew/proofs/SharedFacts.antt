@@ -1,15 +1,20 @@
 -- A board that comes from where a walk began stays so at each step on it. Only a hand-out changes what it still has to hand out.
-use Rattle.std.proofs.Common.{◌≡◌, Bool, true, inl, inr, sym, ap, subst, Result, Ok, Err, OnOk, OnErr, List, ℕ}
+use Rattle.std.proofs.Common.{◌≡◌, ◌∙◌, ◌++◌, Bool, true, inl, inr, sym, ap, subst, List, ℕ}
+use Rattle.std.proofs.lemmas.List.Sorted.{All-permutation}
+use Rattle.jwalk_order.specs.Frontier.{passed}
 use Rattle.jwalk_order.specs.declared.ordered.Ordered.{Ordered}
-use Rattle.jwalk_board.specs.Board.{Board, HandsOut, Finishes}
+use Rattle.jwalk_board.specs.Board.{Board, HandsOut}
+use Rattle.jwalk_board.specs.Skip.{SkipsNext}
+use Rattle.jwalk_board.proofs.Skips.{All-right}
 use Rattle.jwalk_board.specs.declared.board.plan.Plan as Plan
 use Rattle.tree_crew.specs.declared.arrival.Arrival.{Arrival}
 use Rattle.tree_crew.specs.declared.arrival.Arrival.TheVariants.{Entered, Memory, Lost, Wait}
 use Rattle.tree_crew.specs.declared.steps.Turn.{Turn}
 use Rattle.tree_crew.specs.declared.steps.Turn.TheVariants as turn
 use Rattle.tree_crew.specs.Arrival.{Arrives}
+use Rattle.tree_crew.specs.Handled.{FinishesOrStops}
 use Rattle.tree_crew.specs.Message.{Message, ran_out}
-use Rattle.tree_crew.specs.Origin.{Origin, IsBoardOf, IsMadeAt}
+use Rattle.tree_crew.specs.Origin.{Origin, IsBoardOf, IsMadeAt, IsAt, IsMessageOf}
 use Rattle.tree_crew.specs.Shared.{IsTurnOf, IsArrivalOf}
 use Rattle.tree_crew.specs.Steps.{Turns}
 use Rattle.tree_crew.specs.ReadAhead.{IsWithin}
@@ -30,10 +35,15 @@ module _ {S R : Type 0} (old new : Board S R) where
     | inr stopped ↦ stopped_frontier stopped.1
   ]
 
-  pub handed_in_frontier : {T F : Type 0} (r : Result T F) (a : List ℕ) (reading : R) (children : List S) → OnOk r (Finishes a reading children old new)
-      → OnErr r (new ≡ record old { stopped = true }) → new.frontier ≡ old.frontier
-  handed_in_frontier (Ok x) a reading children done stopped = ap (λ b. b.frontier) done.others
-  handed_in_frontier (Err e) a reading children done stopped = stopped_frontier stopped
+  pub handed_in_frontier : (a : List ℕ) (reading : R) (children : List S) → FinishesOrStops a reading children old new → new.frontier ≡ old.frontier
+  handed_in_frontier a reading children (inl done) = ap (λ b. b.frontier) done.others
+  handed_in_frontier a reading children (inr (inl stopped)) = stopped_frontier stopped.stops
+  handed_in_frontier a reading children (inr (inr late)) = ap (λ b. b.frontier) late.unchanged
+
+  -- What is passed over leaves the frontier.
+  pub skipped_frontier : SkipsNext old new → new.frontier ≡ passed old.frontier 0
+  skipped_frontier (inl nothing) = ap (λ b. b.frontier) nothing.1 ∙ nothing.0 ∙ ap (λ f. passed f 0) (sym nothing.0)
+  skipped_frontier (inr skips) = ap (λ b. b.frontier) skips.others
 
 module _ {J A T U : Type 0} (p : Plan.Ghosts J A T U) (origin : Origin T J) (old new : Board T (Message T U J)) (of : IsBoardOf p origin old) where
   pub same_of : new ≡ old → IsBoardOf p origin new
@@ -86,7 +96,14 @@ module _ {J A T U : Type 0} (p : Plan.Ghosts J A T U) (origin : Origin T J) (old
   arrived_of Lost comes = (comes.refused.1, ap (λ b. b.frontier) comes.unchanged)
   arrived_of Wait comes = ap (λ b. b.frontier) comes.unchanged
 
-  pub handed_in_of : {D F : Type 0} (r : Result D F) → ChildrenAreGiven p → (a : List ℕ) (message : Message T U J) (children : List T) → IsMadeAt p origin a message children
-      → OnOk r (Finishes a message children old new) → OnErr r (new ≡ record old { stopped = true }) → IsBoardOf p origin new
-  handed_in_of (Ok x) law a message children made done stopped = finished_of p origin old new of law a message children made done
-  handed_in_of (Err e) law a message children made done stopped = stopped_of p origin old new of stopped
+  pub handed_in_of : ChildrenAreGiven p → (a : List ℕ) (message : Message T U J) (children : List T) → IsMadeAt p origin a message children → FinishesOrStops a message children old new → IsBoardOf p origin new
+  handed_in_of law a message children made (inl done) = finished_of p origin old new of law a message children made done
+  handed_in_of law a message children made (inr (inl stopped)) = stopped_of p origin old new of stopped.stops
+  handed_in_of law a message children made (inr (inr late)) = same_of late.unchanged
+
+  pub skipped_of : SkipsNext old new → IsBoardOf p origin new
+  skipped_of (inl nothing) = same_of nothing.1
+  skipped_of (inr skips) = record {
+    queued = All-right (λ x. IsAt p origin x.at x.value) skips.queued.gone new.queued (All-permutation (λ x. IsAt p origin x.at x.value) old.queued (skips.queued.gone ++ new.queued) skips.queued.leave of.queued);
+    ready = All-right (IsMessageOf p origin) skips.ready.gone new.ready (All-permutation (IsMessageOf p origin) old.ready (skips.ready.gone ++ new.ready) skips.ready.leave of.ready);
+  }

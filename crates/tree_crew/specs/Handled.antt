@@ -4,6 +4,7 @@ use Rattle.keyed_slot.specs.Keyed.{receipt_of, IsReceiptOf, WasEmpty}
 use Rattle.keyed_slot.specs.declared.slot.Empty.{Empty}
 use Rattle.keyed_slot.specs.declared.slot.KeyedSlot.{KeyedSlot}
 use Rattle.keyed_slot.specs.declared.slot.Receipt.{Receipt}
+use Rattle.jwalk_order.specs.Addresses.{IsAmong}
 use Rattle.jwalk_order.specs.IndexPath.{address}
 use Rattle.jwalk_board.specs.Board.{Board, Finishes, IsNextReady}
 use Rattle.tree_crew.specs.declared.arrival.Arrival.{Arrival}
@@ -25,9 +26,19 @@ module _ {T R : Type 0} where
   abbrev pub Stops : Board T R → Board T R → Type 0
   Stops old new = new ≡ record old { stopped = true }
 
-  -- A reading is finished on the board, or the board is stopped.
+  -- The address of a reading isn't in hand any more, since it was passed over, and the board is unchanged.
+  pub record ComesLate (a : List ℕ) (old new : Board T R) : Type 0 where
+    pub not_in_hand : ¬ IsAmong a old.in_hand
+    pub unchanged : new ≡ old
+
+  -- The board was stopped before, or is stopped while the address is in hand, since memory ran out.
+  pub record StopsAt (a : List ℕ) (old new : Board T R) : Type 0 where
+    pub cause : (old.stopped ≡ true) ⊎ IsAmong a old.in_hand
+    pub stops : Stops old new
+
+  -- A reading is finished on the board, or comes too late for it, or the board is stopped.
   abbrev pub FinishesOrStops : List ℕ → R → List T → Board T R → Board T R → Type 0
-  FinishesOrStops a reading children old new = Finishes a reading children old new ⊎ Stops old new
+  FinishesOrStops a reading children old new = Finishes a reading children old new ⊎ (StopsAt a old new ⊎ ComesLate a old new)
 
   -- A worker's turn at this limit. It calls as many workers as may take something then, if there will be another turn, and the walk where its next reading is ready.
   pub record TurnsAndCalls {A : Type 0} (limit : ℕ) (is_full : Bool) (turn : Turn T A) (calls : Called) (old new : Board T R) : Type 0 where
@@ -86,7 +97,7 @@ module _ {T U J A : Type 0} where
     pub absent : WasEmpty empty slot
     pub noted : sleepers.board_missed ≡ true
 
-  -- What was read, if anything, was handed in: the receipt is for a board on which it is finished, or which is stopped. Or the board was missed.
+  -- What was read, if anything, was handed in: the receipt is for a board on which it is finished, or for which it comes too late, or which is stopped. Or the board was missed.
   abbrev pub IsHandedIn : {G M : Type 0} → KeyedSlot (Work T U J A) A G M → (Empty (Work T U J A) G M → Type 0) → Option (HandIn T U J A) → Option (Result (Receipt (Work T U J A) G M) (Empty (Work T U J A) G M)) → Type 0
   IsHandedIn slot missed None handed = Unit {0}
   IsHandedIn slot missed (Some read) None = ⊥

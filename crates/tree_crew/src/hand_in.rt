@@ -1,11 +1,11 @@
 //! What a worker hands in.
-ghost use Rattle.std.specs.Prelude.{◌≡◌, true, OnErr, OnOk};
+ghost use Rattle.std.specs.Prelude.{◌≡◌};
 ghost use Rattle.jwalk_order.specs.IndexPath.{address as indices_of};
-ghost use Rattle.jwalk_board.specs.Board.{Finishes};
+ghost use Rattle.tree_crew.specs.Handled.{FinishesOrStops};
 
 use crate::message::Message;
 use crate::steps::finish_or_stop;
-use jwalk_board::board::{Board, FinishFault, Plan};
+use jwalk_board::board::{Board, Plan};
 use jwalk_order::index_path::IndexPath;
 use std::alloc::Allocator;
 
@@ -46,20 +46,15 @@ impl<T: Drop, U: Drop, J: Plan<A, Spec = T, Reading = U> + Drop, A: Allocator + 
         }
     }
 
-    pub(crate) fn finish(
-        self,
-        board: &mut Board<T, Message<T, U, J, A>, A>,
-    ) -> Result<(), FinishFault<T, Message<T, U, J, A>, A>>
-        ensures finished { OnOk result (Finishes (indices_of self.address) self.message self.children.items
-            board.old board.new) }
-        ensures stopped { OnErr result (board.new ≡ record board.old { stopped = true }) }
+    pub(crate) fn finish(self, board: &mut Board<T, Message<T, U, J, A>, A>)
+        ensures { FinishesOrStops (indices_of self.address) self.message self.children.items board.old board.new }
     {
         let HandIn {
             address,
             message,
             children,
         } = self;
-        finish_or_stop(board, address, message, children)
+        finish_or_stop(board, address, message, children);
     }
 
     /// Lets it go, where there is no board to finish it on.

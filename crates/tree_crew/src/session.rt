@@ -1,8 +1,8 @@
 //! A walk over a crew.
-ghost use Rattle.std.specs.Prelude.{◌≡◌, ◌+◌, ◌≤◌, false, IfOk, IfErr, length};
+ghost use Rattle.std.specs.Prelude.{◌≡◌, ◌+◌, ◌≤◌, false, IfOk, IfErr, OnOk, length};
 ghost use Rattle.std.specs.Arc.{arc_value};
 ghost use Rattle.keyed_slot.specs.Keyed.{key_mark, is_out, handled, Opens};
-ghost use Rattle.jwalk_order.specs.Frontier.{roots as root_addresses};
+ghost use Rattle.jwalk_order.specs.Frontier.{passed, roots as root_addresses};
 ghost use Rattle.tree_crew.specs.Crew.{limit_of};
 ghost use Rattle.tree_crew.specs.BoardTag.{origin_at};
 ghost use Rattle.tree_crew.specs.Handled.{WasAsked};
@@ -127,6 +127,25 @@ impl<
         ensures asked { IfErr result (λ _. WasAsked (handled self.new.key)) }
     {
         wait_for(&*self.shared, &mut self.key)
+    }
+
+    /// Passes over the next reading and all that is below it, if any is left. What was read there is dropped, now or when
+    /// its worker comes back with it. It doesn't block for a reading, but may block for a lock.
+    ///
+    /// # Errors
+    ///
+    /// If the board is out, which is taken for memory that ran out. The session is not to be asked again.
+    pub fn skip(&mut self) -> Result<(), AllocError>
+        ensures origin { origin_of self.new ≡ origin_of self.old }
+        ensures read_ahead { read_ahead_of self.new ≡ read_ahead_of self.old }
+        ensures passed { OnOk result (awaited_by self.new ≡ passed (awaited_by self.old) 0) }
+    {
+        let shared = &*self.shared;
+        let mut sleepers = lock_soon(&shared.crew.rt, &shared.sleepers);
+        let (skipped, calls) = shared.skip(&mut sleepers, &mut self.key);
+        drop(sleepers);
+        shared.call(calls);
+        if skipped { Ok(()) } else { Err(AllocError) }
     }
 
     /// Returns how many readings were made and not handed out: at most as many as the workers read ahead, and one. It

@@ -14,7 +14,8 @@ ghost use Rattle.keyed_slot.specs.Keyed.{
   IsReceiptOf,
   WasEmpty,
 };
-ghost use Rattle.jwalk_order.specs.Frontier.{roots as root_addresses};
+ghost use Rattle.jwalk_order.specs.Frontier.{passed, roots as root_addresses};
+ghost use Rattle.jwalk_board.specs.Skip.{SkipsNext};
 ghost use Rattle.jwalk_order.specs.IndexPath.{address as indices_of};
 ghost use Rattle.tree_crew.specs.Crew.{limit_of};
 ghost use Rattle.tree_crew.specs.BoardTag.{limit_at, origin_at};
@@ -25,6 +26,7 @@ ghost use Rattle.tree_crew.specs.Handled.{
   CallsOrIsOut,
   Counts,
   FinishesOrStops,
+  IsHandled,
   IsMissed,
   IsReceiptFor,
   Stops,
@@ -187,7 +189,7 @@ impl<
     {
         match self.take_out(held) {
             Ok((mut board, loan)) => {
-                let _refused = read.finish(&mut *board);
+                read.finish(&mut *board);
                 Ok(self.put_back(held, board, loan))
             }
             Err(empty) => {
@@ -267,6 +269,31 @@ impl<
             Arrival::Wait if held.board_missed() => (Arrival::Memory, calls),
             arrival => (arrival, calls),
         }
+    }
+
+    /// Passes over the reading that comes next and all that is below it. Returns false where the board is out, and whom to
+    /// call otherwise.
+    pub(crate) fn skip(
+        &self,
+        held: &mut MutexGuard<'_, Sleepers>,
+        key: &mut Key<Work<T, U, J, A>>,
+    ) -> (bool, Called)
+        requires opens { Opens key.old self.now.work }
+        requires home { is_out key.old ≡ false }
+        ensures opens { Opens key.new self.now.work }
+        ensures home { is_out key.new ≡ false }
+        ensures passed { result.0 ≡ true → key_mark key.new ≡ passed (key_mark key.old) 0 }
+        ensures handled { result.0 ≡ true → IsHandled SkipsNext (handled key.new) }
+        ensures missed { (mutex_guard_value held.new).board_missed ≡ (mutex_guard_value held.old).board_missed }
+    {
+        let Some(work) = self.work.take_with(key) else {
+            return (false, Called::none());
+        };
+        let mut board = work.into_board();
+        board.skip_next();
+        let calls = held.after_arrival(true, &*board, self.crew.read_ahead());
+        self.work.put_back_with(Work::new(board), key);
+        (true, calls)
     }
 
     pub(crate) fn ready(&self, held: &mut MutexGuard<'_, Sleepers>) -> (usize, Handled<T, U, J, A>)

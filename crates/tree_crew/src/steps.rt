@@ -1,13 +1,14 @@
 //! A new board, and what a worker does on it, one step each.
-ghost use Rattle.std.specs.Prelude.{◌≡◌, ◌↔◌, box_value, true, IsTrue, IfOk, OnErr, OnOk};
+ghost use Rattle.std.specs.Prelude.{◌≡◌, ◌↔◌, box_value, true, IsTrue, IfOk};
 ghost use Rattle.jwalk_order.specs.IndexPath.{address as indices_of};
-ghost use Rattle.jwalk_board.specs.Board.{Finishes, IsNew, IsNextReady};
+ghost use Rattle.jwalk_board.specs.Board.{IsNew, IsNextReady};
+ghost use Rattle.tree_crew.specs.Handled.{FinishesOrStops};
 ghost use Rattle.tree_crew.specs.ReadAhead.{CountsTakers};
 ghost use Rattle.tree_crew.specs.Sleepers.{CallsNobody};
 ghost use Rattle.tree_crew.specs.Steps.{Turns};
 
 use crate::read_ahead::ReadAhead;
-use jwalk_board::board::{Board, FinishFault, TakeRefusal};
+use jwalk_board::board::{Board, FinishRefusal, TakeRefusal};
 use jwalk_order::index_path::IndexPath;
 use jwalk_order::ordered::Ordered;
 use std::alloc::{AllocError, Allocator};
@@ -71,20 +72,22 @@ pub(crate) fn take_turn<T: Drop, R: Drop, A: Allocator + Copy>(
     }
 }
 
+/// If memory runs out, the board is stopped. A reading whose address was passed over meanwhile is dropped.
 pub(crate) fn finish_or_stop<T: Drop, R: Drop, A: Allocator + Copy>(
     board: &mut Board<T, R, A>,
     address: IndexPath<A>,
     reading: R,
     children: Vec<T, A>,
-) -> Result<(), FinishFault<T, R, A>>
-    ensures finished { OnOk result (Finishes (indices_of address) reading children.items board.old board.new) }
-    ensures stopped { OnErr result (board.new ≡ record board.old { stopped = true }) }
+)
+    ensures { FinishesOrStops (indices_of address) reading children.items board.old board.new }
 {
-    let done = board.finish(address, reading, children);
-    if done.is_err() {
-        board.stop();
+    match board.finish(address, reading, children) {
+        Ok(()) => {}
+        Err(fault) => match fault.cause {
+            FinishRefusal::NotInHand => {}
+            FinishRefusal::Stopped | FinishRefusal::Memory => board.stop(),
+        },
     }
-    done
 }
 
 /// Whom a step calls of those who sleep: how many workers, and whether the walk.

@@ -6,3 +6,4 @@ mod AheadFacts
 mod NextFacts
 mod PrepareFacts
 pub mod WholeFacts
+mod SkipFacts

@@ -33,7 +33,7 @@ pub map-same : {X Y : Type 0} (f g : X → Y) (xs : List X) → ((x : X) → f x
 map-same f g [] h = refl
 map-same f g (x ∷ xs) h = ap₂ (λ y l. y ∷ l) (h x) (map-same f g xs h)
 
-map-same_where : {X Y : Type 0} (f g : X → Y) (P : X → Type 0) (xs : List X) → ((x : X) → P x → f x ≡ g x) → All P xs → map f xs ≡ map g xs
+pub map-same_where : {X Y : Type 0} (f g : X → Y) (P : X → Type 0) (xs : List X) → ((x : X) → P x → f x ≡ g x) → All P xs → map f xs ≡ map g xs
 map-same_where f g P [] h all = refl
 map-same_where f g P (x ∷ xs) h all = ap₂ (λ y l. y ∷ l) (h x (All-head P x xs all)) (map-same_where f g P xs h (All-tail P x xs all))
 
@@ -201,7 +201,7 @@ module _ {T Q V : Type 0} (v : T → V) (w : Q → V) where
       ] refl
 
   -- what is below a reading is the same where each of its children is found as before
-  below-same : (b c : Board T Q) (hand left : List (Addressed T)) (y : Addressed Q) → ((a : List ℕ) → 0 < times a (children_from 0 y.at y.child_count) → spec_at v w c left a ≡ spec_at v w b hand a) → with_below v w c left y ≡ with_below v w b hand y
+  pub below-same : (b c : Board T Q) (hand left : List (Addressed T)) (y : Addressed Q) → ((a : List ℕ) → 0 < times a (children_from 0 y.at y.child_count) → spec_at v w c left a ≡ spec_at v w b hand a) → with_below v w c left y ≡ with_below v w b hand y
   below-same b c hand left y h = ap (λ l. (y.value, l)) (specs_at-same b c hand left (children_from 0 y.at y.child_count) h)
 
   module _ {A : Type 0} where
@@ -229,7 +229,7 @@ module _ {T Q V : Type 0} (v : T → V) (w : Q → V) where
       }
 
   -- one is found at an address that is on the board, if its takers hold what is in hand
-  spec_at-once : (b : Board T Q) (hand : List (Addressed T)) (a : List ℕ) → IsHeld b hand → times a (on_board b) ≡ 1 → length (spec_at v w b hand a) ≡ 1
+  pub spec_at-once : (b : Board T Q) (hand : List (Addressed T)) (a : List ℕ) → IsHeld b hand → times a (on_board b) ≡ 1 → length (spec_at v w b hand a) ≡ 1
   spec_at-once b hand a mine once =
       let parts = length-append (found_at v b.queued a) (found_at v hand a ++ found_at w b.ready a) in
       let more = length-append (found_at v hand a) (found_at w b.ready a) in

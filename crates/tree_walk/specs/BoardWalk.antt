@@ -3,6 +3,7 @@ use Rattle.std.specs.Prelude.{◌≡◌, ◌≢◌, ◌≤◌, ◌+◌, ◌⊎�
 use Rattle.std.specs.List.Sorted.{IsPermutation}
 use Rattle.jwalk_order.specs.Addresses.{IsAmong}
 use Rattle.jwalk_order.specs.Frontier.{passed, next_address}
+use Rattle.jwalk_order.specs.Within.{Leaves}
 use Rattle.jwalk_board.specs.Board.{Board}
 use Rattle.tree_walk.specs.declared.read.Read.{Read}
 use Rattle.tree_walk.specs.ToGive.{ToGive, HandsOn}
@@ -49,6 +50,21 @@ module _ {T R : Type 0} where
   pub record Keeps (b : Board T (Read T R)) : Type 0 where
     pub running : b.stopped ≡ false
     pub none_in_hand : b.in_hand ≡ []
+
+  -- The first specification is passed over with all that is below it. Nothing is read, and what was read early there is dropped.
+  pub record SkipsFirst (old new : Option (Board T (Read T R))) : Type 0 where
+    pub first : T
+    pub to_read : (left_on old).to_read ≡ first ∷ (left_on new).to_read
+    pub gone : List (Read T R × List T)
+    pub made : IsPermutation (left_on old).made (gone ++ (left_on new).made)
+    pub passes : frontier_on new ≡ passed (frontier_on old) 0
+    pub queue : Leaves (next_on old) (ahead_of old).queue (ahead_of new).queue
+    pub done_gone : List (List ℕ)
+    pub done : IsPermutation (ahead_of old).done (done_gone ++ (ahead_of new).done)
+
+  -- It is passed over, or nothing was left to be read and all stays as it is.
+  abbrev pub SkipsNext : Option (Board T (Read T R)) → Option (Board T (Read T R)) → Type 0
+  SkipsNext old new = ((frontier_on old ≡ []) × ((left_on old).to_read ≡ []) × (new ≡ old)) ⊎ SkipsFirst old new
 
 module _ {T R J : Type 0} (w : BoardWalk T R J) where
   -- the specifications whose readings are still to be given, the next one first, without those below them

@@ -87,7 +87,7 @@ impl<T: Drop, R: Drop, J: Plan<A, Spec = T, Reading = R>, A: Allocator + Copy> B
     J,
     A,
 > {
-    ghost use Rattle.tree_walk.specs.BoardWalk.{to_read, early_of, read_ahead, frontier_of};
+    ghost use Rattle.tree_walk.specs.BoardWalk.{to_read, early_of, read_ahead, frontier_of, SkipsNext};
 
     /// Returns a walk with nothing to read yet, which is to read that many specifications together.
     pub fn new(alloc: A, plan: J, width: usize) -> Self
@@ -169,6 +169,21 @@ impl<T: Drop, R: Drop, J: Plan<A, Spec = T, Reading = R>, A: Allocator + Copy> B
             Some(board) => board.ready(),
             None => 0,
         }
+    }
+
+    /// Passes over the next specification and all that is below it, if any is left. Nothing is read, and what was read
+    /// early there is dropped.
+    pub fn skip_next(&mut self)
+        ensures plan { self.new.plan ≡ self.old.plan }
+        ensures width { self.new.width ≡ self.old.width }
+        ensures skips { SkipsNext self.old.board self.new.board }
+    {
+        let Some(board) = &mut self.board else {
+            return;
+        };
+        // What holds of every board.
+        let _pending = board.pending();
+        board.skip_next();
     }
 
     /// Drops what is not read yet, and what was read early.

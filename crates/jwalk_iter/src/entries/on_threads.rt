@@ -3,6 +3,7 @@ ghost use Rattle.std.specs.Prelude.{◌≡◌, ◌≢◌, ◌⊎◌, true, false
 ghost use Rattle.jwalk_job.specs.Job.{callback};
 
 use crate::dir_entry_iter::DirEntryIter;
+use crate::skip::Skip;
 use jwalk_fs::file_system::FileSystem;
 use jwalk_job::client_state::ClientState;
 use jwalk_job::error::Error;
@@ -93,6 +94,7 @@ where
     {
         if self.refused {
             self.refused = false;
+            self.skip = Skip::Nothing;
             return Some(Err(Error::memory()));
         }
         let came = self.next_kept_on(rt);

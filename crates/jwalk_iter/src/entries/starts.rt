@@ -3,6 +3,7 @@ ghost use Rattle.std.specs.Prelude.{◌≡◌, true};
 
 use crate::dir_entry_iter::DirEntryIter;
 use crate::entries::Entries;
+use crate::skip::Skip;
 use jwalk_fs::file_system::FileSystem;
 use jwalk_job::client_state::ClientState;
 use jwalk_job::job::Job;
@@ -47,6 +48,7 @@ impl<
             reads: ReadDirIter::new(alloc, job, mode),
             items: Vec::new(alloc),
             refused: true,
+            skip: Skip::Nothing,
         }
     }
 

@@ -110,7 +110,8 @@ impl<A: Allocator + Copy> OrderedMatcher<A> {
         Ok(())
     }
 
-    fn go_on(&mut self)
+    /// Passes the address looked for as one without children. It takes no memory.
+    pub fn go_on(&mut self)
         requires { self.old ≢ [] }
         ensures { self.new ≡ passed self.old 0 }
     {

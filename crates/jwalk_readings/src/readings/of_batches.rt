@@ -15,7 +15,7 @@ use jwalk_job::dir_entry::DirEntry;
 use jwalk_job::options::Options;
 use jwalk_job::process_read_dir::ProcessReadDir;
 use jwalk_job::read_dir::Outcome;
-use std::alloc::Allocator;
+use std::alloc::{AllocError, Allocator};
 
 impl<C: ClientState, S: FileSystem, P: ProcessReadDir<C, A>, A: Allocator + Copy> Readings<C, A>
     for BatchReads<C, S, P, A> {
@@ -49,6 +49,11 @@ impl<C: ClientState, S: FileSystem, P: ProcessReadDir<C, A>, A: Allocator + Copy
 
     fn is_next(&self, _found: &DirEntry<C, A>) -> bool {
         true
+    }
+
+    fn skip_next(&mut self) -> Result<(), AllocError> {
+        BatchReads::skip_next(self);
+        Ok(())
     }
 
     fn options(&self) -> Options {

@@ -16,7 +16,7 @@ use jwalk_job::dir_entry::DirEntry;
 use jwalk_job::options::Options;
 use jwalk_job::process_read_dir::ProcessReadDir;
 use jwalk_job::read_dir::Outcome;
-use std::alloc::Allocator;
+use std::alloc::{AllocError, Allocator};
 
 impl<
     C: ClientState,
@@ -55,6 +55,10 @@ impl<
 
     fn is_next(&self, found: &DirEntry<C, A>) -> bool {
         CrewReads::is_next(self, found)
+    }
+
+    fn skip_next(&mut self) -> Result<(), AllocError> {
+        CrewReads::skip_next(self)
     }
 
     fn options(&self) -> Options {

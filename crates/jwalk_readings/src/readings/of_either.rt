@@ -16,7 +16,7 @@ use jwalk_job::dir_entry::DirEntry;
 use jwalk_job::options::Options;
 use jwalk_job::process_read_dir::ProcessReadDir;
 use jwalk_job::read_dir::Outcome;
-use std::alloc::Allocator;
+use std::alloc::{AllocError, Allocator};
 
 impl<
     C: ClientState,
@@ -65,6 +65,15 @@ impl<
             ),
             ReadDirIter::CrewWalk(reads) => {
                 <CrewReads<C, S, P, A, L> as Readings<C, A>>::is_next(reads, found)
+            }
+        }
+    }
+
+    fn skip_next(&mut self) -> Result<(), AllocError> {
+        match self {
+            ReadDirIter::Walk(walk) => <BatchReads<C, S, P, A> as Readings<C, A>>::skip_next(walk),
+            ReadDirIter::CrewWalk(reads) => {
+                <CrewReads<C, S, P, A, L> as Readings<C, A>>::skip_next(reads)
             }
         }
     }

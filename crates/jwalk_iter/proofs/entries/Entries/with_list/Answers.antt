@@ -8,4 +8,5 @@ returns g c = record {
   reads = refl;
   items = ap (map item) (ap reverse c.reverse.ensures.items ∙ reverse-reverse c.args.list.items);
   refused = refl;
+  skip = refl;
 }
