@@ -232,6 +232,8 @@ impl<C: ClientState, A: Allocator + Copy> ProcessReadDir<C, A> for Excluding {
 
     ghost Makes = { λ s g. Excludes (excluded_of s) g };
 
+    ghost KeepsRoot = { λ _. Unit {0} };
+
     fn process(
         &self,
         depth: Option<usize>,

@@ -183,6 +183,8 @@ impl<
     ghost Makes = { λ s g. Ignores first_rules same_beside (T.IsFixed (texts_of s)) (T.functions (texts_of s))
         (settings_of s) (P.Makes (next_of s)) g };
 
+    ghost KeepsRoot = { λ s. P.KeepsRoot (next_of s) };
+
     fn process(
         &self,
         depth: Option<usize>,
@@ -207,6 +209,8 @@ impl<
 
     ghost Makes = { λ s g. Ignores rules_held nothing_beside (T.IsFixed (texts_of s)) (T.functions (texts_of s))
         (settings_of s) (P.Makes (next_of s)) g };
+
+    ghost KeepsRoot = { λ s. P.KeepsRoot (next_of s) };
 
     fn process(
         &self,

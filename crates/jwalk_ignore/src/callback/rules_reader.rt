@@ -1,7 +1,8 @@
 //! What rules make of lists.
-ghost use Rattle.std.specs.Prelude.{◌≡◌, ◌∷◌, [], IfOk, OnOk, map, filter, fold};
+ghost use Rattle.std.specs.Prelude.{◌≡◌, ◌∷◌, ◌++◌, [], None, IfOk, OnOk, map, filter, fold};
 ghost use Rattle.jwalk.specs.jwalk_model.Entry.{AtDepth};
 ghost use Rattle.jwalk.specs.jwalk_job.Entry.{item};
+ghost use Rattle.jwalk.specs.jwalk_job.Given.{AddsErrors};
 ghost use Rattle.jwalk_ignore.specs.Rules.Chain.{place_in};
 ghost use Rattle.jwalk_ignore.specs.Rules.ChainViews.{chain_value};
 ghost use Rattle.jwalk_ignore.specs.Rules.Folder.{folder_value};
@@ -180,6 +181,7 @@ impl<T: Texts> RulesReader<T> {
             (is_read_above (settings_value self.now.settings) (folder_value folder.entry) in_repository kind) kind (made_value made.old)) }
         ensures depth { (depth : _) → AtDepth depth (map item made.old.list.items)
             → OnOk result (AtDepth depth (map item made.new.list.items)) }
+        ensures errors { OnOk result (AddsErrors (map item made.old.list.items) (map item made.new.list.items)) }
     {
         if !self.settings.is_read_above(folder, in_repository, kind) {
             return Ok(());
@@ -196,6 +198,7 @@ impl<T: Texts> RulesReader<T> {
             ≡ with_folder (settings_value self.now.settings) (T.functions self.now.texts) (made_value made.old) (folder_value folder.entry)) }
         ensures depth { (depth : _) → AtDepth depth (map item made.old.list.items)
             → OnOk result (AtDepth depth (map item made.new.list.items)) }
+        ensures errors { OnOk result (AddsErrors (map item made.old.list.items) (map item made.new.list.items)) }
     {
         made.enter(is_repository(folder.git))?;
         let in_repository = made.chain.in_repository();
@@ -215,6 +218,7 @@ impl<T: Texts> RulesReader<T> {
             (map folder_value folders.entry.items)) }
         ensures depth { (depth : _) → AtDepth depth (map item made.old.list.items)
             → OnOk result (AtDepth depth (map item made.new.list.items)) }
+        ensures errors { OnOk result (AddsErrors (map item made.old.list.items) (map item made.new.list.items)) }
     {
         for folder in folders {
             self.add_folder(folder, made)?;
@@ -232,6 +236,7 @@ impl<T: Texts> RulesReader<T> {
             ≡ with_folders (settings_value self.now.settings) (T.functions self.now.texts) absolute.now (made_value made.old)) }
         ensures depth { (depth : _) → AtDepth depth (map item made.old.list.items)
             → OnOk result (AtDepth depth (map item made.new.list.items)) }
+        ensures errors { OnOk result (AddsErrors (map item made.old.list.items) (map item made.new.list.items)) }
     {
         let alloc = *made.list.allocator();
         let mut folders = folders_above(&self.texts, alloc, absolute)?;
@@ -250,6 +255,7 @@ impl<T: Texts> RulesReader<T> {
             ((T.functions self.now.texts).absolute_of root.now)) }
         ensures depth { (depth : _) → AtDepth depth (map item made.old.list.items)
             → OnOk result (AtDepth depth (map item made.new.list.items)) }
+        ensures errors { OnOk result (AddsErrors (map item made.old.list.items) (map item made.new.list.items)) }
     {
         let alloc = *made.list.allocator();
         match self.texts.absolute(alloc, root) {
@@ -276,6 +282,7 @@ impl<T: Texts> RulesReader<T> {
             ≡ with_root_item (settings_value self.now.settings) (T.functions self.now.texts) (made_value made.old) (item found)) }
         ensures depth { (depth : _) → AtDepth depth (item found ∷ []) → AtDepth depth (map item made.old.list.items)
             → OnOk result (AtDepth depth (map item made.new.list.items)) }
+        ensures errors { OnOk result (AddsErrors (map item made.old.list.items ++ item found ∷ []) (map item made.new.list.items)) }
     {
         let root = root_of(*made.list.allocator(), &found)?;
         made.add_item(found)?;
@@ -294,6 +301,7 @@ impl<T: Texts> RulesReader<T> {
             ≡ fold (with_root_item (settings_value self.now.settings) (T.functions self.now.texts)) (made_value made.old) (map item list.items)) }
         ensures depth { (depth : _) → AtDepth depth (map item list.items) → AtDepth depth (map item made.old.list.items)
             → OnOk result (AtDepth depth (map item made.new.list.items)) }
+        ensures errors { OnOk result (AddsErrors (map item made.old.list.items ++ map item list.items) (map item made.new.list.items)) }
     {
         for found in list {
             self.add_root_item(found, made)?;
@@ -311,6 +319,7 @@ impl<T: Texts> RulesReader<T> {
             ≡ at_root (settings_value self.now.settings) (T.functions self.now.texts) (chain_value chain) (map item list.items)) }
         ensures depth { (depth : _) → AtDepth depth (map item list.items)
             → IfOk result (λ made. AtDepth depth (map item made.list.items)) }
+        ensures errors { IfOk result (λ made. AddsErrors (map item list.items) (map item made.list.items)) }
     {
         let mut made = Made {
             chain,
@@ -331,6 +340,7 @@ impl<T: Texts> RulesReader<T> {
             ≡ by_rules (settings_value self.now.settings) (T.functions self.now.texts) depth path.now (chain_value chain) (map item list.items)) }
         ensures depth { (depth : _) → AtDepth depth (map item list.items)
             → IfOk result (λ made. AtDepth depth (map item made.list.items)) }
+        ensures root { depth ≡ None → IfOk result (λ made. AddsErrors (map item list.items) (map item made.list.items)) }
     {
         match depth {
             None => self.at_root(chain, list),
@@ -349,6 +359,7 @@ impl<T: Texts> RulesReader<T> {
         ensures value { T.IsFixed self.now.texts → OnOk result (made_from chain.new list.new.items
             ≡ by_rules (settings_value self.now.settings) (T.functions self.now.texts) depth path.now (chain_value chain.old) (map item list.old.items)) }
         ensures depth { (depth : _) → AtDepth depth (map item list.old.items) → OnOk result (AtDepth depth (map item list.new.items)) }
+        ensures root { depth ≡ None → OnOk result (AddsErrors (map item list.old.items) (map item list.new.items)) }
     {
         let items = mem::replace(list, Vec::new(*list.allocator()));
         let made = self.by_rules(depth, path, mem::take(chain), items)?;

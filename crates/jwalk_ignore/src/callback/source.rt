@@ -5,6 +5,7 @@ ghost use Rattle.jwalk.specs.jwalk_model.Error.{io};
 ghost use Rattle.jwalk.specs.jwalk_model.Entry.{AtDepth};
 ghost use Rattle.jwalk.specs.jwalk_fs.Views.{AnswersValue};
 ghost use Rattle.jwalk.specs.jwalk_job.Entry.{item};
+ghost use Rattle.jwalk.specs.jwalk_job.Given.{AddsErrors};
 ghost use Rattle.jwalk_ignore.specs.Callback.IgnoreFiles.{file_of, is_missing, path_of, rules_found, rules_read, rules_typed, source_above, type_of, with_found, with_item, with_rules};
 ghost use Rattle.jwalk_ignore.specs.Rules.Chain.{entered, with_link};
 ghost use Rattle.jwalk_ignore.specs.Rules.ChainViews.{chain_value};
@@ -176,6 +177,7 @@ impl<C: ClientState, A: Allocator + Copy> Made<C, A> {
             → OnOk result (made_value self.new ≡ with_found (source_value source.entry) by (made_value self.old)) }
         ensures depth { (depth : _) → AtDepth depth (map item self.old.list.items)
             → OnOk result (AtDepth depth (map item self.new.list.items)) }
+        ensures errors { OnOk result (AddsErrors (map item self.old.list.items) (map item self.new.list.items)) }
     {
         match found {
             Ok(Some(rules)) => self.add_read(source, rules),
@@ -194,6 +196,7 @@ impl<C: ClientState, A: Allocator + Copy> Made<C, A> {
             → OnOk result (made_value self.new ≡ with_rules (T.functions texts.now) (source_value source.entry) (made_value self.old)) }
         ensures depth { (depth : _) → AtDepth depth (map item self.old.list.items)
             → OnOk result (AtDepth depth (map item self.new.list.items)) }
+        ensures errors { OnOk result (AddsErrors (map item self.old.list.items) (map item self.new.list.items)) }
     {
         let alloc = *self.list.allocator();
         let path = path_text::join(alloc, source.folder, file_of(source.kind))?;

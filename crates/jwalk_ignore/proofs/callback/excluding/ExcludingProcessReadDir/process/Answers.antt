@@ -1,10 +1,11 @@
-use Rattle.std.proofs.Common.{◌∙◌, not, ap, map}
+use Rattle.std.proofs.Common.{◌≡◌, ◌∙◌, false, true, is_some, not, ap, map, sym}
 use Rattle.std.specs.List.{filter}
 use Rattle.jwalk.specs.jwalk_model.ReadDir.{list_depth}
 use Rattle.jwalk.specs.jwalk_job.Entry.{item}
 use Rattle.jwalk_ignore.specs.Callback.Excluding.{excluded_of, is_included}
 use Rattle.jwalk_ignore.proofs.ExcludingFacts.{depths_kept, excludes_nothing, excludes_rest, processed_by}
 use Rattle.jwalk_ignore.proofs.ReaderFacts.{none_given}
+use Rattle.jwalk.proofs.GivenFacts.{adds_none}
 use Rattle.jwalk_ignore.proofs.callback.excluding.ExcludingProcessReadDir.process.Goals as goal
 
 pub returns-then-not-self-clause-made : goal.returns-then-not-self-clause-made
@@ -28,3 +29,14 @@ returns-clause-made g c = λ given makes.
     ∙ ap (λ p. filter (is_included it p) list) c.in_ok-place.ensures in
     processed_by given it makes c.args.depth c.args.path.now _ _ list _
     (excludes_rest it c.args.depth c.args.path.now c.args._state.now list _ (c.is_none.ensures ∙ ap not c.if-is_none.false) left)
+
+pub returns-then-is_none-clause-root : goal.returns-then-is_none-clause-root
+returns-then-is_none-clause-root g c = λ keeps at. adds_none (map item c.args.list.now.items)
+
+pub returns-then-not-self-clause-root : goal.returns-then-not-self-clause-root
+returns-then-not-self-clause-root g c = λ keeps at. adds_none (map item c.args.list.now.items)
+
+pub returns-clause-root : goal.returns-clause-root
+returns-clause-root g c = λ keeps at.
+    let no : false ≡ true = sym (ap is_some at) ∙ (c.is_none.ensures ∙ ap not c.if-is_none.false) in
+    absurd (cc)

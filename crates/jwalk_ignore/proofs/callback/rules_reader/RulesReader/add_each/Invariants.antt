@@ -2,6 +2,7 @@ use Rattle.std.proofs.Common.{◌≡◌, map}
 use Rattle.std.specs.Prelude.{fold}
 use Rattle.jwalk.specs.jwalk_model.Entry.{AtDepth}
 use Rattle.jwalk.specs.jwalk_job.Entry.{item}
+use Rattle.jwalk.specs.jwalk_job.Given.{AddsErrors}
 use Rattle.jwalk_ignore.specs.Callback.Settings.{settings_value}
 use Rattle.jwalk_ignore.specs.Rules.Folder.{folder_value}
 use Rattle.jwalk_ignore.specs.Callback.IgnoreFiles.{with_folder}
@@ -13,4 +14,5 @@ abbrev pub invariant-loop-folder : goal.invariant-loop-folder
 invariant-loop-folder g l = record {
   value : g.T.Texts.IsFixed l.self.texts → made_value l.made ≡ fold (with_folder (settings_value l.self.settings) (g.T.Texts.functions l.self.texts)) (made_value l.fn.made) (map folder_value l.yielded);
   depth : (depth : _) → AtDepth depth (map item l.fn.made.list.items) → AtDepth depth (map item l.made.list.items);
+  errors : AddsErrors (map item l.fn.made.list.items) (map item l.made.list.items);
 }

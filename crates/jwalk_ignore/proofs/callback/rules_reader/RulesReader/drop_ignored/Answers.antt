@@ -5,3 +5,6 @@ returns-clause-value g c = λ fixed. rw (c.take.ensures.value, c.replace-items.e
 
 pub returns-clause-depth : goal.returns-clause-depth
 returns-clause-depth g c = λ depth list. c.in_ok-made.ensures.depth depth (rw c.replace-items.ensures.value list)
+
+pub returns-clause-root : goal.returns-clause-root
+returns-clause-root g c = λ root. rw c.replace-items.ensures.value at (c.in_ok-made.ensures.root root)
