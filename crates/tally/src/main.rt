@@ -4,7 +4,8 @@
 use jwalk::crew::threads_for;
 use jwalk::file_system::{Patient, RealFs};
 use jwalk_ignore::real_texts::RealTexts;
-use std::io::{IsTerminal, Write};
+use program_parts::errors::Errors;
+use std::io::IsTerminal;
 use std::process::ExitCode;
 use std::{env, io};
 use tally_run::run::run;
@@ -33,7 +34,7 @@ fn call_of(rt: &HostRuntime) -> io::Result<(Vec<String>, Screen, Disk)> {
 }
 
 fn main(rt: HostRuntime) -> ExitCode {
-    let mut err = rt.stderr();
+    let mut err = Errors::new(rt.stderr());
     let status = match call_of(&rt) {
         Ok((words, screen, (disk, texts))) => run(
             &rt,
@@ -47,7 +48,10 @@ fn main(rt: HostRuntime) -> ExitCode {
             &mut err,
         ),
         Err(error) => {
-            let _ = writeln!(err, "tally: words that can't be read: {error}");
+            err.tell(
+                "tally",
+                format_args!("words that can't be read: {error}"),
+            );
             2
         }
     };

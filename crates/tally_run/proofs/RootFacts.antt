@@ -1,5 +1,5 @@
 -- Roots that are counted one after another.
-use Rattle.std.proofs.Common.{◌≡◌, ◌∙◌, ◌<◌, ◌≤◌, ℕ, zero, suc, Bool, true, false, ◌&&◌, List, [], ◌∷◌, ◌++◌, append-nil, append_assoc, length, slice_index_or, Option, Result, Ok, Err, inl, inr, refl, sym, ap, ap₂, arith, subst}
+use Rattle.std.proofs.Common.{◌≡◌, ◌∙◌, ◌⊎◌, ◌<◌, ◌≤◌, ℕ, zero, suc, Bool, true, false, ◌&&◌, List, [], ◌∷◌, ◌++◌, append-nil, append_assoc, length, slice_index_or, Option, Result, Ok, Err, inl, inr, refl, sym, ap, ap₂, arith, subst}
 use Rattle.std.specs.Prelude.{IfOk}
 use Rattle.std.specs.Borrow.{Bor}
 use Rattle.std.specs.List.{list_all}
@@ -232,6 +232,11 @@ texts_some (root ∷ roots) some = omega arith
 pub ok_with : {X Y N : Type 0} {P Q R : X → Type 0} (r : Result X Y) → ((x : X) → (N → P x) → Q x → R x) → (N → IfOk r P) → IfOk r Q → IfOk r R
 ok_with (Ok x) more first second = more x first second
 ok_with (Err y) more first second = tt
+
+-- one of two facts, of which the first makes another
+pub first_makes : {P Q R : Type 0} → P ⊎ Q → (P → R) → R ⊎ Q
+first_makes (inl p) make = inl (make p)
+first_makes (inr q) make = inr q
 
 -- what holds of a result that is known
 pub ok_known : {X Y : Type 0} (r : Result X Y) (v : X) (P : X → Type 0) → r ≡ Ok v → IfOk r P → P v

@@ -6,6 +6,7 @@ pub mod OneDevice
 pub mod Walks
 pub mod Yielded
 pub mod RootKind
+pub mod Above
 pub mod Roots
 pub mod Counts
 pub mod Written

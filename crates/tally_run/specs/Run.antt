@@ -1,5 +1,5 @@
 -- How a call of the program ends.
-use Rattle.std.specs.Prelude.{◌≡◌, ◌<◌, ◌≤◌, ◌⊎◌, ◌==◌, ℕ, Bool, true, List, [], ◌∷◌, length, map, Option, if◌then◌else◌}
+use Rattle.std.specs.Prelude.{◌≡◌, ◌<◌, ◌≤◌, ◌⊎◌, ◌==◌, ℕ, Bool, true, false, List, [], ◌∷◌, length, map, Option, if◌then◌else◌}
 use Rattle.std.specs.List.{list_all}
 use Rattle.std.specs.declared.alloc.Global.{Global}
 use Rattle.std.specs.declared.sync.Arc.{Arc}
@@ -64,6 +64,10 @@ module _ {T Z X C E G H F : Type 0} (files : FileSystem.Ghosts Z) (rules : Texts
   -- The words ask for something to be counted, and what is asked for is written. It is known whether some of it is an error.
   abbrev pub Counts : Z → X → ℕ → Screen → List (List ℕ) → Option (List ℕ) → Option (List ℕ) → Bool → Type 0
   Counts disk texts cores screen words before after clean = (asked : Asked) × AskFor words asked × WritesIncluding disk texts cores screen asked before after clean
+
+  -- A call whose status is 1 wrote what is asked for, and some of it is an error; or it ended early, and why was told last.
+  abbrev pub IsFailed : Z → X → ℕ → Screen → List (List ℕ) → Option (List ℕ) → Option (List ℕ) → Type 0 → Type 0
+  IsFailed disk texts cores screen words before after is_told = Counts disk texts cores screen words before after false ⊎ is_told
 
   -- A call whose status is 0 wrote what is asked for, and none of it is an error; or it was asked for a text.
   abbrev pub IsDone : Z → X → ℕ → Screen → List (List ℕ) → Option (List ℕ) → Option (List ℕ) → Type 0

@@ -13,7 +13,7 @@ ghost use Rattle.tally_run.specs.Walks.{subtotals_taken, CountsAnswers, CountsWa
 use crate::failure::Failure;
 use crate::one_device::{OneDevice, root_before};
 use crate::progress::Report;
-use crate::report::{report_entry, report_error};
+use crate::report::{error_text, report_entry};
 use crate::results::Results;
 use crate::screen::Screen;
 use crate::shown::Shown;
@@ -42,8 +42,8 @@ pub(crate) struct Counted {
 ///
 /// # Errors
 ///
-/// If nothing comes behind it, or if memory runs out.
-fn take_error<A: Allocator + Copy, E: Write>(
+/// If nothing comes behind it, and then it isn't reported yet, or if memory runs out.
+fn take_error<A: Allocator + Copy, E: Report>(
     alloc: Global,
     screen: Screen,
     error: SubtotalError<A>,
@@ -54,12 +54,12 @@ fn take_error<A: Allocator + Copy, E: Write>(
     let is_last = error.is_last();
     match error {
         SubtotalError::Walk(error) => {
-            report_error(alloc, screen.shows_errors, &error, err)?;
+            let what = error_text(alloc, screen.shows_errors, &error)?;
             if is_last {
-                Err(Failure::Reported)
-            } else {
-                Ok(())
+                return Err(Failure::Error(what));
             }
+            err.error(what.as_str());
+            Ok(())
         }
         SubtotalError::TooMany => Err(Failure::TooMany),
         SubtotalError::Memory => Err(Failure::Halt(Halt::Memory)),

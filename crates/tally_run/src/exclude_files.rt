@@ -4,41 +4,39 @@ ghost use Rattle.program_parts.specs.Values.{texts_of};
 ghost use Rattle.tally_run.specs.ExcludeFiles.{Includes};
 
 use crate::failure::Failure;
-use crate::report::report_file;
+use crate::report::file_text;
 use crate::screen::Screen;
 use jwalk::file_system::Fault;
 use jwalk_ignore::texts::Texts;
 use std::alloc::{AllocError, Global};
-use std::io::Write;
 use tally_words::asked::Asked;
 
 /// Returns the text of a file.
 ///
 /// # Errors
 ///
-/// If it can't be read or isn't UTF-8, which is reported, or if memory runs out.
-fn text_at<X: Texts, E: Write>(
+/// If it can't be read or isn't UTF-8, or if memory runs out.
+fn text_at<X: Texts>(
     alloc: Global,
     texts: &X,
     screen: Screen,
     path: &str,
-    err: &mut E,
 ) -> Result<String, Failure>
     ensures { X.IsFixed texts.now → IfOk result (λ text. (X.functions texts.now).bytes_of path.now ≡ Ok (string_bytes text)) }
 {
     let bytes = match texts.read(alloc, path) {
         Ok(bytes) => bytes,
         Err(Fault::Io(error)) => {
-            report_file(alloc, screen.shows_errors, path, &error, err)?;
-            return Err(Failure::Reported);
+            let what = file_text(alloc, screen.shows_errors, path, &error)?;
+            return Err(Failure::Error(what));
         }
         Err(Fault::Memory) => return Err(Failure::from(AllocError)),
     };
     match String::from_utf8(bytes) {
         Ok(text) => Ok(text),
         Err(_) => {
-            report_file(alloc, screen.shows_errors, path, &"isn't UTF-8", err)?;
-            Err(Failure::Reported)
+            let what = file_text(alloc, screen.shows_errors, path, &"isn't UTF-8")?;
+            Err(Failure::Error(what))
         }
     }
 }
@@ -47,19 +45,18 @@ fn text_at<X: Texts, E: Write>(
 ///
 /// # Errors
 ///
-/// If one can't be read or isn't UTF-8, which is reported, or if memory runs out.
-pub(crate) fn texts_at<X: Texts, E: Write>(
+/// If one can't be read or isn't UTF-8, or if memory runs out.
+pub(crate) fn texts_at<X: Texts>(
     alloc: Global,
     texts: &X,
     screen: Screen,
     paths: &[&str],
-    err: &mut E,
 ) -> Result<Vec<String>, Failure>
     ensures { X.IsFixed texts.now → IfOk result (λ read. map (X.functions texts.now).bytes_of (texts_of paths.now) ≡ map Ok (map string_bytes read.items)) }
 {
     let mut read = Vec::new(alloc);
     for path in paths {
-        let text = text_at(alloc, texts, screen, path, err)?;
+        let text = text_at(alloc, texts, screen, path)?;
         read.reserve(1)?;
         read.push_reserved(text);
     }

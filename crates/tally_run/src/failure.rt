@@ -1,8 +1,10 @@
 //! What ends a call before its end.
-ghost use Rattle.std.specs.Prelude.{◌≡◌};
+ghost use Rattle.std.specs.Prelude.{◌≡◌, codes};
+ghost use Rattle.program_parts.specs.Errors.{IsTold};
 
+use program_parts::errors::Errors;
 use program_parts::halt::Halt;
-use std::alloc::AllocError;
+use std::alloc::{AllocError, Global};
 use std::io::Write;
 
 /// What ends a call before its end.
@@ -10,21 +12,21 @@ use std::io::Write;
 pub(crate) enum Failure {
     /// A number passes the greatest `u128`.
     TooMany,
-    /// An error, which was reported.
-    Reported,
+    /// An error behind which nothing comes, by what is said of it.
+    Error(String),
     /// Memory ran out, or standard output can't be written.
     Halt(Halt),
 }
 
 impl Failure {
-    /// Reports it on standard error, unless it was reported.
-    pub(crate) fn report<E: Write>(self, err: &mut E) {
+    /// Tells it.
+    pub(crate) fn tell<E: Write>(self, alloc: Global, err: &mut Errors<E>)
+        ensures told { IsTold E.contents (codes "tally") err.new }
+    {
         match self {
-            Failure::TooMany => {
-                let _ = writeln!(err, "tally: a total passes the greatest number");
-            }
-            Failure::Reported => {}
-            Failure::Halt(halt) => halt.report("tally", err),
+            Failure::TooMany => err.tell("tally", "a total passes the greatest number"),
+            Failure::Error(what) => err.tell("tally", what.as_str()),
+            Failure::Halt(halt) => err.tell_halt(alloc, "tally", halt),
         }
     }
 }

@@ -1,11 +1,15 @@
 //! How far a call is, on standard error.
 use jwalk_subtotals::Subtotal;
+use program_parts::errors::Errors;
 use std::io;
 use std::io::Write;
 use std::time::{Clock, Duration};
 
 /// What errors are reported to, and how far a call is.
 pub(crate) trait Report: Write {
+    /// Tells an error.
+    fn error(&mut self, what: &str);
+
     /// Takes note of the subtotal of a root.
     fn finish(&mut self, root: &Subtotal);
 
@@ -24,7 +28,7 @@ pub(crate) trait Report: Write {
 #[derive(Drop)]
 pub(crate) struct Progress<'a, K, E> {
     clock: &'a K,
-    err: &'a mut E,
+    err: &'a mut Errors<E>,
     /// How many entries were read below the roots before.
     before: u128,
     /// When the line is written next, if it is.
@@ -47,8 +51,8 @@ fn in_a_second<K: Clock>(clock: &K) -> Option<Duration> {
 }
 
 impl<'a, K: Clock, E: Write> Progress<'a, K, E> {
-    /// Returns a standard error that nothing was written to. The line is written to it if `tells` says so.
-    pub(crate) fn new(clock: &'a K, err: &'a mut E, tells: bool) -> Self {
+    /// Returns a standard error that the line isn't written to yet. It will be if `tells` says so.
+    pub(crate) fn new(clock: &'a K, err: &'a mut Errors<E>, tells: bool) -> Self {
         Progress {
             clock,
             err,
@@ -71,6 +75,11 @@ impl<'a, K: Clock, E: Write> Write for Progress<'a, K, E> {
 }
 
 impl<'a, K: Clock, E: Write> Report for Progress<'a, K, E> {
+    fn error(&mut self, what: &str) {
+        self.wipe();
+        self.err.tell("tally", what);
+    }
+
     fn finish(&mut self, root: &Subtotal) {
         self.before = self.before.saturating_add(entries_in(root));
     }

@@ -2,69 +2,57 @@
 ghost use Rattle.std.specs.Prelude.{◌≡◌, not, is_some, option_and_then, IfOk};
 ghost use Rattle.jwalk.specs.jwalk_job.Entry.{entry};
 
+use crate::progress::Report;
 use jwalk::{ClientState, DirEntry, Error};
 use program_parts::masked::masked;
 use std::alloc::{AllocError, Allocator, Global};
 use std::fmt::Display;
-use std::io::Write;
 
-/// Writes a line to standard error. If that is a terminal, control characters in it are question marks. If it can't be
-/// written, it isn't.
-fn write_line<E: Write>(
-    alloc: Global,
-    to_terminal: bool,
-    line: &str,
-    err: &mut E,
-) -> Result<(), AllocError> {
+/// Returns what is said on standard error. If that is a terminal, a question mark is in place of each control character.
+fn shown(alloc: Global, to_terminal: bool, what: String) -> Result<String, AllocError> {
     if to_terminal {
-        let shown = masked(alloc, line)?;
-        let _ = writeln!(err, "{shown}");
+        masked(alloc, what.as_str())
     } else {
-        let _ = writeln!(err, "{line}");
+        Ok(what)
     }
-    Ok(())
 }
 
-/// Returns the line of an error at a path that the disk didn't give.
-fn looped_line<A: Allocator + Copy>(
+/// Returns what is said of an error at a path that the disk didn't give.
+fn loop_text<A: Allocator + Copy>(
     alloc: Global,
     path: &str,
     error: &Error<A>,
-) -> Result<String<Global>, AllocError> {
+) -> Result<String, AllocError> {
     match error.loop_ancestor() {
-        Some(above) => format!(in alloc; "tally: {path}: a link that leads back to {above}"),
-        None => format!(in alloc; "tally: {path}: {error}"),
+        Some(above) => format!(in alloc; "{path}: a link that leads back to {above}"),
+        None => format!(in alloc; "{path}: {error}"),
     }
 }
 
-/// Returns the line of an error of a walk: with its path, or else with that of the directory that it came in. The text of
-/// an error of a name that isn't UTF-8 has the directory and the name.
-fn line_of<A: Allocator + Copy>(
-    alloc: Global,
-    error: &Error<A>,
-) -> Result<String<Global>, AllocError> {
+/// Returns what is said of an error of a walk: with its path, or else with that of the directory that it came in. The text
+/// of an error of a name that isn't UTF-8 has the directory and the name.
+fn text_of<A: Allocator + Copy>(alloc: Global, error: &Error<A>) -> Result<String, AllocError> {
     match (error.path(), error.parent_path(), error.io_error()) {
-        (Some(path), _, Some(io)) => format!(in alloc; "tally: {path}: {io}"),
-        (Some(path), _, None) => looped_line(alloc, path, error),
+        (Some(path), _, Some(io)) => format!(in alloc; "{path}: {io}"),
+        (Some(path), _, None) => loop_text(alloc, path, error),
         (None, Some(folder), Some(io)) if error.name_bytes().is_none() => {
-            format!(in alloc; "tally: {folder}: {io}")
+            format!(in alloc; "{folder}: {io}")
         }
-        _ => format!(in alloc; "tally: {error}"),
+        _ => format!(in alloc; "{error}"),
     }
 }
 
-pub(crate) fn report_error<A: Allocator + Copy, E: Write>(
+/// Returns what is said of an error of a walk on standard error.
+pub(crate) fn error_text<A: Allocator + Copy>(
     alloc: Global,
     to_terminal: bool,
     error: &Error<A>,
-    err: &mut E,
-) -> Result<(), AllocError> {
-    let line = line_of(alloc, error)?;
-    write_line(alloc, to_terminal, line.as_str(), err)
+) -> Result<String, AllocError> {
+    shown(alloc, to_terminal, text_of(alloc, error)?)
 }
 
 /// Returns whether there is no error.
-pub(crate) fn report_entry<C: ClientState, A: Allocator + Copy, E: Write>(
+pub(crate) fn report_entry<C: ClientState, A: Allocator + Copy, E: Report>(
     alloc: Global,
     to_terminal: bool,
     found: &DirEntry<C, A>,
@@ -75,31 +63,32 @@ pub(crate) fn report_entry<C: ClientState, A: Allocator + Copy, E: Write>(
 {
     match found.read_children_error() {
         Some(error) => {
-            report_error(alloc, to_terminal, error, err)?;
+            err.error(error_text(alloc, to_terminal, error)?.as_str());
             Ok(false)
         }
         None => Ok(true),
     }
 }
 
-pub(crate) fn report_root<E: Write>(
+/// Reports that a root is left out, which is no error.
+pub(crate) fn report_root<E: Report>(
     alloc: Global,
     to_terminal: bool,
     root: &str,
     err: &mut E,
 ) -> Result<(), AllocError> {
-    let line = format!(in alloc; "tally: {root}: left out, below an earlier root")?;
-    write_line(alloc, to_terminal, line.as_str(), err)
+    let what = format!(in alloc; "{root}: left out, below an earlier root")?;
+    let what = shown(alloc, to_terminal, what)?;
+    let _ = writeln!(err, "tally: {what}");
+    Ok(())
 }
 
-/// Reports why a file of excludes can't be used.
-pub(crate) fn report_file<D: Display, E: Write>(
+/// Returns what is said on standard error of a file of excludes that can't be used.
+pub(crate) fn file_text<D: Display>(
     alloc: Global,
     to_terminal: bool,
     path: &str,
     why: &D,
-    err: &mut E,
-) -> Result<(), AllocError> {
-    let line = format!(in alloc; "tally: {path}: {why}")?;
-    write_line(alloc, to_terminal, line.as_str(), err)
+) -> Result<String, AllocError> {
+    shown(alloc, to_terminal, format!(in alloc; "{path}: {why}")?)
 }

@@ -1,5 +1,6 @@
 //! Which roots are counted.
-ghost use Rattle.std.specs.Prelude.{◌≡◌, ◌≢◌, false, length, IfOk};
+ghost use Rattle.std.specs.Prelude.{◌≡◌, ◌≢◌, true, false, length, Some, IfOk, if◌then◌else◌, None};
+ghost use Rattle.tally_run.specs.Above.{folder_at, folder_in, folder_of, LeadsInto, LiesBelow};
 ghost use Rattle.tally_run.specs.RootKind.{IsKindOf};
 ghost use Rattle.tally_run.specs.Yielded.{found_in, has_folders};
 ghost use Rattle.tally_run.specs.declared.roots.RootKind.TheVariants.{LeftOut};
@@ -42,7 +43,9 @@ fn look_at<S: FileSystem>(disk: &S, path: &str) -> Result<Option<Metadata>, Allo
 }
 
 /// Returns whether something is a directory, and which file it is, if that is known.
-fn folder_and_identity(found: Option<Metadata>) -> (bool, Option<Identity>) {
+fn folder_and_identity(found: Option<Metadata>) -> (bool, Option<Identity>)
+    ensures { folder_in found ≡ (if result.0 then result.1 else None) }
+{
     match found {
         Some(found) => (found.is_dir(), found.identity()),
         None => (false, None),
@@ -61,7 +64,9 @@ fn has_folders(found: Option<Metadata>, follow: bool) -> bool
 }
 
 /// Returns `None` for what is no directory, and where its identity isn't known.
-fn directory_at<S: FileSystem>(disk: &S, path: &str) -> Result<Option<Identity>, AllocError> {
+fn directory_at<S: FileSystem>(disk: &S, path: &str) -> Result<Option<Identity>, AllocError>
+    ensures { S.IsFixed disk.now → IfOk result (λ own. own ≡ folder_at (S.functions disk.now) path.now) }
+{
     match folder_and_identity(look_at(disk, path)?) {
         (true, own) => Ok(own),
         (false, _) => Ok(None),
@@ -78,7 +83,9 @@ fn is_there<S: FileSystem>(disk: &S, path: &str) -> Result<bool, AllocError> {
 }
 
 /// Returns the folder that a path without a directory at it lies in.
-fn folder_of(path: &str) -> &str {
+fn folder_of(path: &str) -> &str
+    ensures { result.now ≡ folder_of path.now }
+{
     match parent(path) {
         Some("") | None => ".",
         Some(folder) => folder,
@@ -107,7 +114,10 @@ impl Roots {
         disk: &S,
         folder: &str,
         at: Identity,
-    ) -> Result<bool, AllocError> {
+    ) -> Result<bool, AllocError>
+        ensures above { S.IsFixed disk.now → folder_at (S.functions disk.now) folder.now ≡ Some at
+            → IfOk result (λ is. is ≡ true → LeadsInto (S.functions disk.now) self.now.counted.items folder.now) }
+    {
         let mut path = String::from_str(alloc, folder)?;
         let mut at = at;
         for _ in 0..ABOVE {
@@ -138,7 +148,10 @@ impl Roots {
         disk: &S,
         path: &str,
         own: Option<Identity>,
-    ) -> Result<bool, AllocError> {
+    ) -> Result<bool, AllocError>
+        ensures above { S.IsFixed disk.now
+            → IfOk result (λ is. is ≡ true → LeadsInto (S.functions disk.now) self.now.counted.items (folder_of path.now)) }
+    {
         if !is_there(disk, path)? {
             return Ok(false);
         }
@@ -159,6 +172,8 @@ impl Roots {
         found: Option<Metadata>,
     ) -> Result<bool, AllocError>
         ensures first { length self.now.counted.items ≡ 0 → IfOk result (λ below. below ≡ false) }
+        ensures above { S.IsFixed disk.now → folder_in found ≡ folder_at (S.functions disk.now) root.now
+            → IfOk result (λ below. below ≡ true → LiesBelow (S.functions disk.now) self.now.counted.items root.now) }
     {
         if self.counted.is_empty() {
             return Ok(false);
@@ -191,6 +206,8 @@ impl Roots {
         follow: bool,
     ) -> Result<RootKind, AllocError>
         ensures first { length self.old.counted.items ≡ 0 → IfOk result (λ kind. kind ≢ LeftOut) }
+        ensures left_out { S.IsFixed disk.now
+            → IfOk result (λ kind. kind ≡ LeftOut → LiesBelow (S.functions disk.now) self.old.counted.items root.now) }
         ensures kind { S.IsFixed disk.now → IfOk result (IsKindOf follow ((S.functions disk.now).meta_of root.now)) }
     {
         let found = look_at(disk, root)?;

@@ -1,8 +1,9 @@
 //! A call of the program.
-ghost use Rattle.std.specs.Prelude.{◌≡◌, ◌<◌, ◌≤◌, ◌⊎◌, true, flat_map, map, string_bytes, Ok, IfOk, OnOk};
+ghost use Rattle.std.specs.Prelude.{◌≡◌, ◌<◌, ◌≤◌, ◌⊎◌, true, false, codes, flat_map, map, string_bytes, Ok, IfOk, OnOk};
 ghost use Rattle.std.specs.Io.KnownBytes.{Appends};
 ghost use Rattle.tally_text.specs.Nodes.{trees_of};
-ghost use Rattle.tally_run.specs.Run.{Ends, IsDone, WritesAsked, WritesIncluding};
+ghost use Rattle.program_parts.specs.Errors.{IsTold};
+ghost use Rattle.tally_run.specs.Run.{Ends, IsDone, IsFailed, WritesAsked, WritesIncluding};
 ghost use Rattle.tally_run.specs.Written.{are_lines, scale_asked, separator_of, style_asked, table_of, width_of};
 ghost use Rattle.tally_run.specs.Written.{document_text, trees_text, AreNone, AreNoneIn, Finishes, FinishesAs};
 
@@ -15,10 +16,10 @@ use crate::walks::{HonouringWalk, PlainWalk, Walks};
 use jwalk::Host;
 use jwalk::file_system::FileSystem;
 use jwalk_ignore::texts::Texts;
+use program_parts::errors::Errors;
 use program_parts::gathered::Gathered;
 use program_parts::halt::Halt;
 use program_parts::paths::Style;
-use program_parts::refusal::refuse;
 use std::alloc::{AllocError, Global};
 use std::io::Write;
 use tally_text::document::document;
@@ -247,31 +248,33 @@ fn tally<
     ensures { IfOk result (WritesIncluding S.FileSystem X.Texts ⟦<PlainWalk<T, S> as Iterator>⟧.next_gives
         ⟦<HonouringWalk<T, S, X> as Iterator>⟧.next_gives disk texts cores screen asked.entry (W.contents out.old) (W.contents out.new)) }
 {
-    let read = texts_at(alloc, &texts, screen, asked.exclude_files.as_slice(), err)?;
+    let read = texts_at(alloc, &texts, screen, asked.exclude_files.as_slice())?;
     let asked = with_texts(alloc, asked, read.as_slice())?;
     tally_all(rt, alloc, cores, disk, texts, &asked, screen, out, err)
 }
 
-/// What ended the call before its end is reported.
-fn status_of<E: Write>(ended: Result<bool, Failure>, err: &mut E) -> u8
+/// What ended the call before its end is told.
+fn status_of<E: Write>(alloc: Global, ended: Result<bool, Failure>, err: &mut Errors<E>) -> u8
     ensures status { result ≤ 1 }
     ensures clean { result ≡ 0 → ended ≡ Ok true }
-    ensures told { ended ≡ Ok true → result ≡ 0 }
+    ensures none_told { ended ≡ Ok true → result ≡ 0 }
+    ensures told { result ≡ 1 → (ended ≡ Ok false) ⊎ IsTold E.contents (codes "tally") err.new }
 {
     match ended {
         Ok(clean) => u8::from(!clean),
         Err(failure) => {
-            failure.report(err);
+            failure.tell(alloc, err);
             1
         }
     }
 }
 
 /// Counts what is below each root, as the words ask, of which the first is the program's name. Writes the results, and
-/// reports errors on `err`. Returns the status.
+/// tells errors by `err`. Returns the status.
 ///
 /// The status is 0 if all was counted and there was no error. It is 1 if there was one, if memory ran out, or if the
-/// output can't be written. It is 2 for bad words, and then nothing is printed.
+/// output can't be written: if not all was written, `err` tells why last. It is 2 for bad words, and then nothing is
+/// printed.
 pub fn run<
     T: Host,
     S: FileSystem + Send + Sync + 'static,
@@ -287,7 +290,7 @@ pub fn run<
     words: &[String],
     screen: Screen,
     out: &mut W,
-    err: &mut E,
+    err: &mut Errors<E>,
 ) -> u8
     ensures status { result ≤ 2 }
     ensures ends { Ends (map string_bytes words.now) result }
@@ -295,25 +298,21 @@ pub fn run<
     ensures done { result ≡ 0 → IsDone S.FileSystem X.Texts ⟦<PlainWalk<T, S> as Iterator>⟧.next_gives
         ⟦<HonouringWalk<T, S, X> as Iterator>⟧.next_gives disk texts cores screen (map string_bytes words.now)
         (W.contents out.old) (W.contents out.new) }
+    ensures failed { result ≡ 1 → IsFailed S.FileSystem X.Texts ⟦<PlainWalk<T, S> as Iterator>⟧.next_gives
+        ⟦<HonouringWalk<T, S, X> as Iterator>⟧.next_gives disk texts cores screen (map string_bytes words.now)
+        (W.contents out.old) (W.contents out.new) (IsTold E.contents (codes "tally") err.new) }
+    ensures refused { result ≡ 2 → IsTold E.contents (codes "tally") err.new }
 {
     match read_words(alloc, words) {
         Ok(asked) => {
             let mut told = Progress::new(rt, err, tells(&asked, screen));
             let ended = tally(rt, alloc, cores, disk, texts, asked, screen, out, &mut told);
             told.wipe();
-            status_of(ended, err)
+            status_of(alloc, ended, err)
         }
         Err(refusal) => {
-            let status = refusal.status();
-            refuse(
-                alloc,
-                Some(screen.width),
-                "tally",
-                &refusal,
-                status,
-                out,
-                err,
-            )
+            let (columns, status) = (Some(screen.width), refusal.status());
+            err.refuse(alloc, columns, "tally", &refusal, status, out)
         }
     }
 }

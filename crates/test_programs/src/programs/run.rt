@@ -8,6 +8,7 @@ use crate::programs::rows::{Program, Row, Scene};
 use jwalk::Host as Runtime;
 use jwalk::file_system::FileSystem;
 use jwalk_ignore::texts::Texts;
+use program_parts::errors::Errors;
 use seek_search::run::Seek;
 use seek_words::screen::Screen as SeekScreen;
 use std::alloc::{AllocError, Global};
@@ -107,11 +108,14 @@ fn ran<
                 shows_errors: screen.shows_errors,
                 width: 80,
             };
-            tally_run::run::run(clock, alloc, 4, disk, texts, words, screen, out, err)
+            let mut err = Errors::new(err);
+            tally_run::run::run(
+                clock, alloc, 4, disk, texts, words, screen, out, &mut err,
+            )
         }
         Program::Walk => {
-            let mut input = row.input;
-            walk_run::run::run(rt, alloc, disk, words, &mut input, out, err)
+            let (mut input, mut err) = (row.input, Errors::new(err));
+            walk_run::run::run(rt, alloc, disk, words, &mut input, out, &mut err)
         }
     }
 }
