@@ -4,6 +4,7 @@
     python3 bench/since.py [COUNT [SEED [PROGRAM]]]
     python3 bench/since.py damage [COUNT [SEED [PROGRAM]]]
     python3 bench/since.py killed [COUNT [SEED [PROGRAM]]]
+    python3 bench/since.py sql [COUNT [SEED [PROGRAM]]]
     python3 bench/since.py speed [FOLDER [PROGRAM]]
 
 Build the program first: (cd crates/since && rt run). All of COUNT trees (200 if no number is given) are made; after three
@@ -18,8 +19,13 @@ With `damage` a snapshot is changed in COUNT ways (2,000): a byte of it, its end
 With `killed` a `since --save` is killed COUNT times (200) at a random moment. The file must be the old snapshot or a new
 one, whole.
 
+With `sql` COUNT trees (20) are saved, and `--rows -0` must print just what `os.lstat` says of each entry. Where `sqlite3`
+is there, the lines of docs/SINCE.md then make a table of the rows of each, which must have the same, and its queries must
+return what lists do.
+
 With `speed` a folder (/usr) is saved and compared beside `find`: the least processor time of nine warm turns.
 """
+import json
 import os
 import pathlib
 import random
@@ -246,6 +252,72 @@ def try_killed(program, count, seed):
     return None
 
 
+def rows_of(found):
+    """The rows of entries by their facts."""
+    return [(path, kind, size, time_ns, number) for path, (kind, size, time_ns, number) in found.items()]
+
+
+def blocks(kind):
+    """The lines of the blocks of this kind in SINCE's part on rows."""
+    text = pathlib.Path(TOP, "docs/SINCE.md").read_text(encoding="utf-8").split("\n## Rows\n")[1].split("\n## ")[0]
+    return [block.split("\n```")[0].splitlines() for block in text.split(f"```{kind}\n")[1:]]
+
+
+def asked_of_table(room):
+    """All of the table, and what the queries return: the largest files, and how many entries each day has."""
+    found = []
+    for query in ["SELECT * FROM entries;", *blocks("text")[0]]:
+        ran = subprocess.run(["sqlite3", "-json", "usr.db", query], cwd=room, capture_output=True, check=True)
+        found.append([tuple(row.values()) for row in json.loads(ran.stdout or b"[]")])
+    return found
+
+
+def try_table(program, room, rows):
+    """Why the lines of SINCE don't make a table of these rows, if they don't."""
+    os.symlink(program, os.path.join(room, "since"))
+    script = "set -e; " + "; ".join(blocks("sh")[0])
+    env = {**os.environ, "HOME": room, "PATH": f"{room}:{os.environ['PATH']}"}
+    ran = subprocess.run(["sh", "-c", script], cwd=room, env=env, capture_output=True, check=False)
+    if ran.returncode or ran.stderr:
+        return f"{room}: {ran}"
+    table, largest, days = asked_of_table(room)
+    lengths = sorted((size for _, kind, size, _, _ in rows if kind == "f"), reverse=True)
+    counts = {}
+    for _, _, _, time_ns, _ in rows:
+        day = time.strftime("%Y-%m-%d", time.gmtime(time_ns // 10**9))
+        counts[day] = counts.get(day, 0) + 1
+    if sorted(table) != sorted(rows):
+        return f"{room}: the table has other rows"
+    if [length for length, _ in largest] != lengths[:9] or days != sorted(counts.items(), reverse=True)[:9]:
+        return f"{room}: a query returned something else"
+    return None
+
+
+def try_sql(program, count, seed):
+    rng = random.Random(seed)
+    for _ in range(count):
+        room = tempfile.mkdtemp(prefix="since_")
+        top, file = os.path.join(room, "t"), os.path.join(room, "usr.snapshot")
+        os.mkdir(top)
+        plant(rng, top, [])
+        called(program, "--save", file, top, check=True)
+        texts = ["\t".join(map(str, row)) for row in rows_of(facts(top))]
+        texts = [f"./{text}" if text.startswith("-") else text for text in texts]
+        ran = called(program, "--rows", "-0", file)
+        if sorted(os.fsdecode(ran.stdout).split("\0")[:-1]) != sorted(texts):
+            return f"--rows -0 {file}: {ran}"
+        for path in entries(top):
+            if "\t" in path and os.path.lexists(os.path.join(top, path)):
+                remove(os.path.join(top, path))
+        called(program, "-q", "--save", file, top)
+        why = shutil.which("sqlite3") and try_table(program, room, rows_of(facts(top)))
+        if why:
+            return why
+        shutil.rmtree(room)
+    print(f"{count} trees: rows are what os.lstat says" + ("" if shutil.which("sqlite3") else " (no sqlite3)"))
+    return None
+
+
 def processor_time(words, output):
     """The least processor time of some turns, and the greatest peak of memory, in KiB."""
     times, peak = [], 0
@@ -276,11 +348,11 @@ def try_speed(program, folder):
 
 def main():
     words = sys.argv[1:]
-    verb = words.pop(0) if words[:1] and words[0] in ("damage", "killed", "speed") else "trees"
+    verb = words.pop(0) if words[:1] and words[0] in ("damage", "killed", "speed", "sql") else "trees"
     program = words[2] if len(words) > 2 else PROGRAM
     if verb == "speed":
         return try_speed(words[1] if len(words) > 1 else PROGRAM, words[0] if words else "/usr")
-    tries = {"trees": (try_trees, 200), "damage": (try_damage, 2000), "killed": (try_killed, 200)}
+    tries = {"trees": (try_trees, 200), "damage": (try_damage, 2000), "killed": (try_killed, 200), "sql": (try_sql, 20)}
     call, count = tries[verb]
     why = call(program, int(words[0]) if words else count, int(words[1]) if len(words) > 1 else 1)
     if why:

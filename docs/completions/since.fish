@@ -1,8 +1,12 @@
 # Completions of since for fish, made by bench/man.py.
 complete -c since -l save -d 'Replace FILE by a snapshot of what is found, or make it'
+complete -c since -l rows -d 'Write a row for each entry in FILE, and compare nothing: path, type, length, time, number'
 complete -c since -s l -l long -d 'Write behind each ~ what differs: type, length, time, number'
 complete -c since -s 0 -l print0 -d 'Write a zero byte behind each line, in place of a line feed'
 complete -c since -s q -l quiet -d 'Write no lines'
 complete -c since -s j -l threads -x -d 'Threads that read directories, or 0 for as many as can run at a time'
+complete -c since -l exclude-hidden -d 'Leave out names that start with a dot'
+complete -c since -s x -l one-file-system -d 'Leave out what is on other file systems'
+complete -c since -s d -l max-depth -x -d 'Leave out what lies more than N levels below the root'
 complete -c since -s h -l help -d 'Print help'
 complete -c since -s V -l version -d 'Print version'

@@ -14,6 +14,22 @@ $ since -j x /r/s
 !~ since: 
 = 2
 
+# rows are of a file as it is
+$ since --rows --save /r/s
+! since: the options --rows and --save exclude each other
+= 2
+$ since --rows -d 1 /r/s
+! since: the options --rows and --max-depth exclude each other
+= 2
+$ since --rows /r/s
+! since: /r/s: No such file or directory (os error 2)
+= 2
+
+# the root has depth 0, so 1 is the least
+$ since -d 0 /r/s
+!~ since: 
+= 2
+
 # help and the version
 $ since --help
 ~ Usage: since

@@ -1,3 +1,4 @@
+mod ChoiceFacts
 mod FoundFacts
 mod SavedFacts
 mod TreeFacts

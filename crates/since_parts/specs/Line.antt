@@ -25,6 +25,10 @@ abbrev pub front : Style → List ℕ → List ℕ
 front style [] = []
 front style (c ∷ cs) = if c == 45 then (if style.separator == 0 then codes "./" else []) else []
 
+-- a path as it is written
+abbrev pub path_text : Style → List ℕ → List ℕ
+path_text style path = front style path ++ shown_text style path
+
 -- a word behind a tab, or nothing
 abbrev pub word_if : Bool → List ℕ → List ℕ
 word_if differs word = if differs then 9 ∷ word else []
@@ -42,7 +46,7 @@ told_of _ _ = []
 -- the line of a difference: its sign, a space, the path, what differs, and what ends a line
 abbrev pub line_of : Style → Bool → Change (Kept Global) (Kept Global) → List ℕ
 line_of style long change =
-    sign change ∷ 32 ∷ front style (path_in change) ++ shown_text style (path_in change) ++ told_of long change ++ style.separator ∷ []
+    sign change ∷ 32 ∷ path_text style (path_in change) ++ told_of long change ++ style.separator ∷ []
 
 -- the lines of differences
 abbrev pub lines_of : Style → Bool → List (Change (Kept Global) (Kept Global)) → List ℕ

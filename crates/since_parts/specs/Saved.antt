@@ -5,7 +5,9 @@ use Rattle.jwalk_changes.specs.declared.entry.Kept.{Kept}
 use Rattle.jwalk_changes.specs.declared.facts.Facts.{Facts}
 use Rattle.jwalk_changes.specs.Facts.{is_any, which}
 use Rattle.jwalk_snapshot.specs.Text.{Content, IsSnapshot, text_of}
+use Rattle.since_parts.specs.Choice.{words_of}
 use Rattle.since_parts.specs.Held.{HoldsAll}
+use Rattle.since_parts.specs.declared.choice.Choice.{Choice}
 
 -- whether what is known of an entry that was found is known of one that is kept
 abbrev pub keeps : Facts → Facts → Bool
@@ -25,11 +27,12 @@ AreSame [] (b ∷ found) = ⊥
 AreSame (a ∷ kept) [] = ⊥
 AreSame (a ∷ kept) (b ∷ found) = IsSame a b × AreSame kept found
 
--- This is the text of a snapshot below an absolute root, which keeps these entries.
-pub record IsTextOf (absolute : List ℕ) (entries : List (Kept Global)) (text : List ℕ) : Type 0 where
+-- This is the text of a snapshot below an absolute root, which keeps what is compared, and these entries.
+pub record IsTextOf (absolute : List ℕ) (choice : Choice) (entries : List (Kept Global)) (text : List ℕ) : Type 0 where
   pub content : Content
   pub is_one : IsSnapshot content
   pub below : content.call.absolute ≡ absolute
+  pub words : content.call.words ≡ words_of choice
   pub has : text ≡ text_of content
   pub kept : List (Kept Global)
   pub holds : HoldsAll true content kept

@@ -1,7 +1,7 @@
 //! The line of a difference.
 ghost use Rattle.std.specs.Prelude.{◌≡◌, ◌++◌, ◌∷◌, [], OnOk};
 ghost use Rattle.program_parts.specs.Paths.{shown_text};
-ghost use Rattle.since_parts.specs.Line.{front, line_of, path_in, sign, told_of, which_text, word_if};
+ghost use Rattle.since_parts.specs.Line.{front, line_of, path_in, path_text, sign, told_of, which_text, word_if};
 
 use jwalk_changes::{Change, Kept, Which};
 use program_parts::paths::Style;
@@ -45,6 +45,14 @@ fn push_shown(style: Style, path: &str, out: &mut Vec<u8>) -> Result<(), AllocEr
     } else {
         out.extend_from_slice(path.as_bytes())
     }
+}
+
+/// Adds a path as it is written.
+pub(crate) fn push_path(style: Style, path: &str, out: &mut Vec<u8>) -> Result<(), AllocError>
+    ensures { OnOk result (out.new.items ≡ out.old.items ++ path_text style path.now) }
+{
+    out.extend_from_slice(front(style, path).as_bytes())?;
+    push_shown(style, path, out)
 }
 
 fn push_word(differs: bool, word: &str, out: &mut Vec<u8>) -> Result<(), AllocError>
@@ -91,11 +99,9 @@ pub fn push_line(
 ) -> Result<(), AllocError>
     ensures { OnOk result (out.new.items ≡ out.old.items ++ line_of style long change.now) }
 {
-    let path = path_in(change);
     out.push(sign(change))?;
     out.push(b' ')?;
-    out.extend_from_slice(front(style, path).as_bytes())?;
-    push_shown(style, path, out)?;
+    push_path(style, path_in(change), out)?;
     push_told(long, change, out)?;
     out.push(style.separator)?;
     Ok(())

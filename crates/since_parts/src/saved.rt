@@ -1,5 +1,6 @@
 //! The snapshot of what a walk finds.
-ghost use Rattle.std.specs.Prelude.{◌≡◌, true, string_bytes, IfOk};
+ghost use Rattle.std.specs.Prelude.{◌≡◌, true, map, string_bytes, IfOk};
+ghost use Rattle.jwalk_snapshot.specs.Text.{text_in};
 ghost use Rattle.since_parts.specs.Saved.{keeps, AreSame, IsSame, IsTextOf};
 
 use crate::failure::Failure;
@@ -131,7 +132,19 @@ fn are_same(kept: &[Kept], found: &[Kept]) -> bool
     true
 }
 
-/// Returns the text of the snapshot of what is found, which is compared with that.
+/// Returns texts that are borrowed.
+fn texts_of<'t>(alloc: Global, words: &'t [String]) -> Result<Vec<&'t str>, AllocError>
+    ensures { IfOk result (λ texts. map text_in texts.items ≡ map string_bytes words.now) }
+{
+    let mut texts = Vec::new(alloc);
+    for word in words {
+        texts.push(word.as_str())?;
+    }
+    Ok(texts)
+}
+
+/// Returns the text of the snapshot of what is found, which is compared with that. It has the words for what of the tree
+/// was looked at.
 pub fn saved_text<E: Write>(
     alloc: Global,
     file: &str,
@@ -139,13 +152,14 @@ pub fn saved_text<E: Write>(
     entries: &[Kept],
     err: &mut E,
 ) -> Result<String, Failure>
-    ensures { IfOk result (λ text. IsTextOf (string_bytes tree.now.absolute) entries.now (string_bytes text)) }
+    ensures { IfOk result (λ text. IsTextOf (string_bytes tree.now.absolute) tree.now.choice entries.now (string_bytes text)) }
 {
+    let words = tree.choice.words(alloc)?;
     let snapshot = Snapshot {
         head: Head {
             root: tree.root.as_str(),
             absolute: tree.absolute.as_str(),
-            words: Vec::new(alloc),
+            words: texts_of(alloc, &words)?,
         },
         blocks: blocks_of(alloc, entries)?,
     };

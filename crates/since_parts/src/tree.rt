@@ -3,6 +3,7 @@ ghost use Rattle.std.specs.Prelude.{◌≡◌, ◌++◌, Ok, [], option_map, opt
 ghost use Rattle.jwalk_model.specs.Paths.{join};
 ghost use Rattle.since_parts.specs.Tree.{behind, folder_in, front_of, is_temporary, is_own, own_below, own_texts, strip, IsOwnOf, IsTree};
 
+use crate::choice::Choice;
 use crate::failure::Failure;
 use jwalk_fs::fault::Fault;
 use jwalk_fs::path_text::{file_name, join, parent};
@@ -19,6 +20,8 @@ pub struct Tree {
     pub root: String,
     /// The same, made absolute.
     pub absolute: String,
+    /// What of it is compared.
+    pub choice: Choice,
     // The root with a slash behind it.
     front: String,
     // The path of the file with the snapshot behind the root, if it lies below that.
@@ -127,14 +130,16 @@ fn is_own(own: &str, path: &str) -> bool
 impl Tree {
     ghost use Rattle.since_parts.specs.Tree.{counts, front_in, own_in};
 
-    /// Returns the tree below a root, of which a file and its temporary names are left out.
+    /// Returns what is chosen of the tree below a root, of which a file and its temporary names are left out.
     pub fn new<X: Texts, E: Write>(
         alloc: Global,
         texts: &X,
         file: &str,
         root: &str,
+        choice: Choice,
         err: &mut E,
     ) -> Result<Self, Failure>
+        ensures choice { IfOk result (λ tree. tree.choice ≡ choice) }
         ensures root { IfOk result (λ tree. string_bytes tree.root ≡ root.now) }
         ensures front { IfOk result (λ tree. front_in tree ≡ front_of root.now) }
         ensures own { X.IsFixed texts.now → IfOk result (IsTree (X.functions texts.now) file.now root.now) }
@@ -145,6 +150,7 @@ impl Tree {
             root: String::from_str(alloc, root)?,
             front: join(alloc, root, "")?,
             absolute,
+            choice,
             own,
         })
     }

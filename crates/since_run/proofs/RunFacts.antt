@@ -1,5 +1,5 @@
 -- The steps of a call.
-use Rattle.std.proofs.Common.{◌≡◌, ◌∙◌, ◌≤◌, ℕ, List, Option, None, Some, Ok, Err, ap, inl, inr, string_bytes, subst, sym}
+use Rattle.std.proofs.Common.{◌≡◌, ◌∙◌, ◌≤◌, ℕ, true, false, List, Option, None, Some, Ok, Err, ap, inl, inr, string_bytes, subst, sym}
 use Rattle.std.specs.Prelude.{IfOk, Result}
 use Rattle.std.proofs.lemmas.Result.{IfOk-weaker}
 use Rattle.std.specs.IoError.{error_kind}
@@ -15,13 +15,14 @@ use Rattle.jwalk.specs.jwalk_job.declared.error.Error.{Error as WalkError}
 use Rattle.jwalk.specs.declared.crew.Crew.{Crew}
 use Rattle.jwalk_changes.specs.declared.entry.Kept.{Kept}
 use Rattle.since_words.specs.declared.asked.Asked.{Asked}
+use Rattle.since_parts.specs.declared.choice.Choice.{Choice}
 use Rattle.since_parts.specs.declared.tree.Tree.{Tree}
 use Rattle.std.specs.Io.KnownBytes.{Appends}
 use Rattle.jwalk_changes.specs.declared.change.Change.{Change}
 use Rattle.since_run.specs.declared.screen.Screen.{Screen}
 use Rattle.jwalk_snapshot.specs.Text.{Content, IsSnapshot, text_of}
 use Rattle.since_run.specs.declared.store.Store as Store
-use Rattle.since_run.specs.Done.{Begins, Compares, LooksAt, SavesAsked, Tells}
+use Rattle.since_run.specs.Done.{Begins, Compares, Lists, LooksAt, SavesAsked, Tells}
 use Rattle.program_walks.specs.Crew.{CrewCallsOf, IsCrewOf, threads_in}
 use Rattle.since_run.specs.Walks.{WalkYields}
 use Rattle.since_run.specs.Run.{HasTextAsked, IsLoaded, IsMissing, ReplacesBy, text_asked}
@@ -34,19 +35,21 @@ loaded_missing texts reads asked error found fails is =
 
 -- a text that is saved, if one is to be
 pub saves_asked : {K : Type 0} (replaces : K → List ℕ → List ℕ → K → Type 0) (asked : Asked) (tree : Tree) (entries : List (Kept Global)) (text : Option (String Global)) (old new : K)
-    → HasTextAsked asked tree entries text → ReplacesBy replaces asked.file.now old text new → SavesAsked replaces asked (string_bytes tree.absolute) entries old new
+    → HasTextAsked asked tree entries text → ReplacesBy replaces asked.file.now old text new → SavesAsked replaces asked tree entries old new
 saves_asked replaces asked tree entries None old new has done = inl (has, done)
 saves_asked replaces asked tree entries (Some text) old new has done = inr (has.0, string_bytes text, has.1, done)
 
--- a walk below the same root
-pub yields_at : {T C Z N A R E : Type 0} (files : FileSystem.Ghosts Z) (calls : CrewCallsOf T C (Arc Z A) N A R E) (disk : Z) (crew : Option (Arc (Crew T) A)) (yielded : List (Result (DirEntry C A R E) (WalkError A))) (root other : List ℕ)
-    → root ≡ other → WalkYields files calls disk crew root yielded → WalkYields files calls disk crew other yielded
-yields_at files calls disk crew yielded root other same yields = subst (λ r. WalkYields files calls disk crew r yielded) same yields
+-- a walk of the same choice below the same root
+pub yields_at : {T C Z N A R E : Type 0} (files : FileSystem.Ghosts Z) (calls : CrewCallsOf T C (Arc Z A) N A R E) (disk : Z) (crew : Option (Arc (Crew T) A)) (yielded : List (Result (DirEntry C A R E) (WalkError A))) (choice chosen : Choice) (root other : List ℕ)
+    → choice ≡ chosen → root ≡ other → WalkYields files calls disk crew choice root yielded → WalkYields files calls disk crew chosen other yielded
+yields_at files calls disk crew yielded choice chosen root other alike same yields =
+    subst (λ (c : Choice). WalkYields files calls disk crew c other yielded) alike (subst (λ r. WalkYields files calls disk crew choice r yielded) same yields)
 
--- what is found below the same root
-pub looks_at : {T Z X C N R E : Type 0} (files : FileSystem.Ghosts Z) (texts : Texts.Ghosts X) (calls : CrewCallsOf T C (Arc Z Global) N Global R E) (disk : Z) (reads : X) (crew : Option (Arc (Crew T) Global)) (file root other : List ℕ) (tree : Tree) (new : List (Kept Global))
-    → root ≡ other → LooksAt files texts calls disk reads crew file root tree new → LooksAt files texts calls disk reads crew file other tree new
-looks_at files texts calls disk reads crew file root other tree new same looks = subst (λ r. LooksAt files texts calls disk reads crew file r tree new) same looks
+-- what is found of the same choice below the same root
+pub looks_at : {T Z X C N R E : Type 0} (files : FileSystem.Ghosts Z) (texts : Texts.Ghosts X) (calls : CrewCallsOf T C (Arc Z Global) N Global R E) (disk : Z) (reads : X) (crew : Option (Arc (Crew T) Global)) (file root other : List ℕ) (choice chosen : Choice) (tree : Tree) (new : List (Kept Global))
+    → root ≡ other → choice ≡ chosen → LooksAt files texts calls disk reads crew file root choice tree new → LooksAt files texts calls disk reads crew file other chosen tree new
+looks_at files texts calls disk reads crew file root other choice chosen tree new same alike looks =
+    subst (λ (c : Choice). LooksAt files texts calls disk reads crew file other c tree new) alike (subst (λ r. LooksAt files texts calls disk reads crew file r choice tree new) same looks)
 
 -- the lines of the same differences
 pub written_at : (asked : Asked) (screen : Screen) (before after : Option (List ℕ)) (these others : List (Change (Kept Global) (Kept Global))) → these ≡ others
@@ -76,20 +79,41 @@ module _ {T Z X K C N R E Y : Type 0} (files : FileSystem.Ghosts Z) (texts : Tex
         });
       })
 
+  -- a snapshot in a file that is listed
+  pub tells_listed : (bytes : Vec ℕ Global) (snapshot : Content) → threads ≡ threads_in cores asked.threads → IsCrewOf threads crew → IsLoaded texts reads asked found → found ≡ Some bytes
+      → IsSnapshot snapshot → bytes.items ≡ text_of snapshot → asked.lists ≡ true → new ≡ old
+      → IfOk ended (Lists asked screen snapshot before after)
+      → IfOk ended (λ status. status ≤ 1 → Tells files texts store calls disk reads cores asked screen before after old new status)
+  tells_listed bytes snapshot many is_crew loaded some is_one has listed unsaved =
+      let read = subst (IsLoaded texts reads asked) some loaded in
+      IfOk-weaker ended _ _ (λ status lists. λ low. record {
+        crew = crew;
+        is_crew = subst (λ (n : ℕ). IsCrewOf n crew) many is_crew;
+        either = inr (inl (record {
+          snapshot = snapshot;
+          is_one = is_one;
+          read = λ fixed. read fixed ∙ ap Ok has;
+          listed = listed;
+          lists = lists;
+          unsaved = unsaved;
+        }));
+      })
+
   -- a snapshot in a file that is compared
   pub tells_compared : (bytes : Vec ℕ Global) (snapshot : Content) → shared ≡ disk → threads ≡ threads_in cores asked.threads → IsCrewOf threads crew → IsLoaded texts reads asked found → found ≡ Some bytes
-      → IsSnapshot snapshot → bytes.items ≡ text_of snapshot
+      → IsSnapshot snapshot → bytes.items ≡ text_of snapshot → asked.lists ≡ false
       → IfOk ended (λ status. status ≤ 1 → Compares files texts store calls shared reads crew asked screen snapshot before after old new status)
       → IfOk ended (λ status. status ≤ 1 → Tells files texts store calls disk reads cores asked screen before after old new status)
-  tells_compared bytes snapshot same many is_crew loaded some is_one has =
+  tells_compared bytes snapshot same many is_crew loaded some is_one has compared =
       let read = subst (IsLoaded texts reads asked) some loaded in
       IfOk-weaker ended _ _ (λ status done. λ low. record {
         crew = crew;
         is_crew = subst (λ (n : ℕ). IsCrewOf n crew) many is_crew;
-        either = inr (record {
+        either = inr (inr (record {
           snapshot = snapshot;
           is_one = is_one;
           read = λ fixed. read fixed ∙ ap Ok has;
+          compared = compared;
           compares = subst (λ (d : Z). Compares files texts store calls d reads crew asked screen snapshot before after old new status) same (done low);
-        });
+        }));
       })

@@ -22,25 +22,32 @@ use Rattle.since_parts.specs.Differences.{AreDifferences}
 use Rattle.since_parts.specs.Facts.{seen_of}
 use Rattle.since_parts.specs.Found.{found_in, is_clean}
 use Rattle.since_parts.specs.Held.{HoldsAll}
-use Rattle.since_run.specs.Run.{root_asked, status_for, text_asked}
+use Rattle.since_run.specs.Run.{all_chosen, choice_asked, root_asked, rows_asked, status_for, text_asked, IsChoice}
 use Rattle.since_parts.specs.Saved.{IsTextOf}
 use Rattle.since_parts.specs.Tree.{front_of, own_in, IsTree}
 use Rattle.since_run.specs.Walks.{WalkYields}
 use Rattle.since_run.specs.declared.screen.Screen.{Screen}
 use Rattle.since_run.specs.declared.store.Store as Store
+use Rattle.since_parts.specs.declared.choice.Choice.{Choice}
 use Rattle.since_parts.specs.declared.tree.Tree.{Tree}
 
 -- The text of a snapshot of these entries is saved, if that is asked for, and else nothing is.
-abbrev pub SavesAsked : {K : Type 0} → (K → List ℕ → List ℕ → K → Type 0) → Asked → List ℕ → List (Kept Global) → K → K → Type 0
-SavesAsked replaces asked absolute entries old new =
-    ((asked.save ≡ false) × (new ≡ old)) ⊎ ((asked.save ≡ true) × (text : List ℕ) × IsTextOf absolute entries text × replaces old asked.file.now text new)
+abbrev pub SavesAsked : {K : Type 0} → (K → List ℕ → List ℕ → K → Type 0) → Asked → Tree → List (Kept Global) → K → K → Type 0
+SavesAsked replaces asked tree entries old new =
+    ((asked.save ≡ false) × (new ≡ old)) ⊎ ((asked.save ≡ true) × (text : List ℕ) × IsTextOf (string_bytes tree.absolute) tree.choice entries text × replaces old asked.file.now text new)
+
+-- A row for each entry that a snapshot holds is written.
+pub record Lists (asked : Asked) (screen : Screen) (snapshot : Content) (before after : Option (List ℕ)) (status : ℕ) : Type 0 where
+  pub written : Appends before after (rows_asked asked screen snapshot)
+  pub none : status ≡ 0
 
 module _ {T Z X C N R E : Type 0} (files : FileSystem.Ghosts Z) (texts : Texts.Ghosts X) (calls : CrewCallsOf T C (Arc Z Global) N Global R E) where
-  -- These are the entries that the whole walk below a root yields, but for the root and the file with the snapshot. All answers are clean.
-  pub record LooksAt (disk : Z) (reads : X) (crew : Option (Arc (Crew T) Global)) (file root : List ℕ) (tree : Tree) (new : List (Kept Global)) : Type 0 where
+  -- These are the entries that the whole walk of a tree yields, but for the root and the file with the snapshot. All answers are clean.
+  pub record LooksAt (disk : Z) (reads : X) (crew : Option (Arc (Crew T) Global)) (file root : List ℕ) (choice : Choice) (tree : Tree) (new : List (Kept Global)) : Type 0 where
     pub tree_is : texts.IsFixed reads → IsTree (texts.functions reads) file root tree
     pub yielded : List (Result (DirEntry C Global R E) (Error Global))
-    pub yields : WalkYields files calls disk crew root yielded
+    pub chosen : tree.choice ≡ choice
+    pub yields : WalkYields files calls disk crew choice root yielded
     pub clean : list_all is_clean (map item yielded) ≡ true
     pub found : map seen_of new ≡ found_in (front_of root) (own_in tree) (map item yielded)
 
@@ -49,28 +56,40 @@ module _ {T Z X K C N R E : Type 0} (files : FileSystem.Ghosts Z) (texts : Texts
   pub record Begins (disk : Z) (reads : X) (crew : Option (Arc (Crew T) Global)) (asked : Asked) (old new : K) (status : ℕ) : Type 0 where
     pub tree : Tree
     pub entries : List (Kept Global)
-    pub looks : LooksAt files texts calls disk reads crew asked.file.now (root_asked asked dot) tree entries
-    pub saves : SavesAsked store.Replaces asked (string_bytes tree.absolute) entries old new
+    pub looks : LooksAt files texts calls disk reads crew asked.file.now (root_asked asked dot) (choice_asked asked all_chosen) tree entries
+    pub saves : SavesAsked store.Replaces asked tree entries old new
     pub none : status ≡ 0
 
   -- The lines of all differences between what a snapshot holds and what is found are written, and the status says whether there is one. File numbers count if the snapshot is of the same absolute root.
   pub record Compares (disk : Z) (reads : X) (crew : Option (Arc (Crew T) Global)) (asked : Asked) (screen : Screen) (snapshot : Content) (before after : Option (List ℕ)) (old new : K) (status : ℕ) : Type 0 where
+    pub choice : Choice
+    pub chosen : IsChoice asked snapshot.call.words choice
     pub tree : Tree
     pub entries : List (Kept Global)
-    pub looks : LooksAt files texts calls disk reads crew asked.file.now (root_asked asked snapshot.call.absolute) tree entries
+    pub looks : LooksAt files texts calls disk reads crew asked.file.now (root_asked asked snapshot.call.absolute) choice tree entries
     pub held : List (Kept Global)
     pub holds : HoldsAll (bytes_eq snapshot.call.absolute (string_bytes tree.absolute)) snapshot held
     pub changes : List (Change (Kept Global) (Kept Global))
     pub differ : AreDifferences held entries changes
     pub written : Appends before after (text_asked asked screen changes)
-    pub saves : SavesAsked store.Replaces asked (string_bytes tree.absolute) entries old new
+    pub saves : SavesAsked store.Replaces asked tree entries old new
     pub tells : status ≡ status_for changes
+
+  -- The file has a snapshot, whose entries are listed. Nothing is saved.
+  pub record ListsFile (reads : X) (asked : Asked) (screen : Screen) (before after : Option (List ℕ)) (old new : K) (status : ℕ) : Type 0 where
+    pub snapshot : Content
+    pub is_one : IsSnapshot snapshot
+    pub read : texts.IsFixed reads → (texts.functions reads).bytes_of asked.file.now ≡ Ok (text_of snapshot)
+    pub listed : asked.lists ≡ true
+    pub lists : Lists asked screen snapshot before after status
+    pub unsaved : new ≡ old
 
   -- The file has a snapshot, and it is compared with what is found.
   pub record ComparesFile (disk : Z) (reads : X) (crew : Option (Arc (Crew T) Global)) (asked : Asked) (screen : Screen) (before after : Option (List ℕ)) (old new : K) (status : ℕ) : Type 0 where
     pub snapshot : Content
     pub is_one : IsSnapshot snapshot
     pub read : texts.IsFixed reads → (texts.functions reads).bytes_of asked.file.now ≡ Ok (text_of snapshot)
+    pub compared : asked.lists ≡ false
     pub compares : Compares disk reads crew asked screen snapshot before after old new status
 
   -- There is no such file, and it is made: nothing is written.
@@ -84,7 +103,7 @@ module _ {T Z X K C N R E : Type 0} (files : FileSystem.Ghosts Z) (texts : Texts
   pub record Tells (disk : Z) (reads : X) (cores : ℕ) (asked : Asked) (screen : Screen) (before after : Option (List ℕ)) (old new : K) (status : ℕ) : Type 0 where
     pub crew : Option (Arc (Crew T) Global)
     pub is_crew : IsCrewOf (threads_in cores asked.threads) crew
-    pub either : MakesFile disk reads crew asked before after old new status ⊎ ComparesFile disk reads crew asked screen before after old new status
+    pub either : MakesFile disk reads crew asked before after old new status ⊎ (ListsFile reads asked screen before after old new status ⊎ ComparesFile disk reads crew asked screen before after old new status)
 
   -- A call whose status is 0 or 1 did what its words ask for; or it was asked for a text.
   abbrev pub IsDone : Z → X → ℕ → List (List ℕ) → Screen → Option (List ℕ) → Option (List ℕ) → K → K → ℕ → Type 0

@@ -1,5 +1,5 @@
 -- The steps of a call.
-use Rattle.std.specs.Prelude.{◌≡◌, ℕ, Bool, true, false, ◌==◌, List, [], length, Option, None, Some, option_map, unwrap_or, Ok, Err, string_bytes, if◌then◌else◌}
+use Rattle.std.specs.Prelude.{◌≡◌, ℕ, Bool, true, false, ◌==◌, ◌||◌, List, [], length, is_some, Option, None, Some, option_map, unwrap_or, Ok, Err, string_bytes, if◌then◌else◌}
 use Rattle.std.specs.IoError.{error_kind}
 use Rattle.std.specs.declared.alloc.Global.{Global}
 use Rattle.std.specs.declared.io.Error.{Error}
@@ -10,10 +10,14 @@ use Rattle.jwalk_changes.specs.declared.change.Change.{Change}
 use Rattle.jwalk_changes.specs.declared.entry.Kept.{Kept}
 use Rattle.jwalk_ignore_rules.specs.declared.rules.texts.Texts as Texts
 use Rattle.program_parts.specs.declared.paths.Style.{Style}
+use Rattle.jwalk_snapshot.specs.Text.{Content}
+use Rattle.since_parts.specs.Choice.{words_of}
 use Rattle.since_parts.specs.Line.{lines_of}
+use Rattle.since_parts.specs.Row.{rows_of}
 use Rattle.since_words.specs.declared.asked.Asked.{Asked}
 use Rattle.since_parts.specs.Saved.{IsTextOf}
 use Rattle.since_run.specs.declared.screen.Screen.{Screen}
+use Rattle.since_parts.specs.declared.choice.Choice.{Choice}
 use Rattle.since_parts.specs.declared.tree.Tree.{Tree}
 
 -- what ends a line
@@ -28,6 +32,10 @@ style_asked asked screen = record { here = false; to_terminal = screen.is_termin
 abbrev pub text_asked : Asked → Screen → List (Change (Kept Global) (Kept Global)) → List ℕ
 text_asked asked screen changes = if asked.quiet then [] else lines_of (style_asked asked screen) asked.long changes
 
+-- the rows of what a snapshot holds: none if no lines are asked for
+abbrev pub rows_asked : Asked → Screen → Content → List ℕ
+rows_asked asked screen snapshot = if asked.quiet then [] else rows_of (style_asked asked screen) snapshot.folders
+
 -- the status by differences
 abbrev pub status_for : List (Change (Kept Global) (Kept Global)) → ℕ
 status_for changes = if length changes == 0 then 0 else 1
@@ -35,6 +43,26 @@ status_for changes = if length changes == 0 then 0 else 1
 -- the root that is asked for, or else another
 abbrev pub root_asked : Asked → List ℕ → List ℕ
 root_asked asked other = unwrap_or (option_map (λ it. it.now) asked.root) other
+
+-- whether words ask for what is compared
+abbrev pub asks_choice : Asked → Bool
+asks_choice asked = asked.exclude_hidden || (asked.one_file_system || is_some asked.depth)
+
+-- what is compared: what the words ask for, or else this
+abbrev pub choice_asked : Asked → Choice → Choice
+choice_asked asked other =
+    if asks_choice asked then record { exclude_hidden = asked.exclude_hidden; one_file_system = asked.one_file_system; depth = asked.depth } else other
+
+-- all of a tree
+abbrev pub all_chosen : Choice
+all_chosen = record { exclude_hidden = false; one_file_system = false; depth = None }
+
+-- What is compared with a snapshot of these words: what the words ask for, or else what the snapshot is of. Only where it is replaced, these may differ.
+pub record IsChoice (asked : Asked) (words : List (List ℕ)) (choice : Choice) : Type 0 where
+  pub held : Choice
+  pub kept : words_of held ≡ words
+  pub is : choice ≡ choice_asked asked held
+  pub same : asked.save ≡ false → choice ≡ held
 
 -- There is no file, for this reason, and it is to be made.
 pub record IsMissing (asked : Asked) (error : Error) (found : Option (Vec ℕ Global)) : Type 0 where
@@ -50,7 +78,7 @@ IsLoaded texts reads asked (Some bytes) = texts.IsFixed reads → (texts.functio
 -- A text is to be saved if that is asked for, and it is that of a snapshot of these entries.
 abbrev pub HasTextAsked : Asked → Tree → List (Kept Global) → Option (String Global) → Type 0
 HasTextAsked asked tree entries None = asked.save ≡ false
-HasTextAsked asked tree entries (Some text) = (asked.save ≡ true) × IsTextOf (string_bytes tree.absolute) entries (string_bytes text)
+HasTextAsked asked tree entries (Some text) = (asked.save ≡ true) × IsTextOf (string_bytes tree.absolute) tree.choice entries (string_bytes text)
 
 -- A file has this text now, if there is one, and else nothing changed.
 abbrev pub ReplacesBy : {K : Type 0} → (K → List ℕ → List ℕ → K → Type 0) → List ℕ → K → Option (String Global) → K → Type 0

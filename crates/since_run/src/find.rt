@@ -2,12 +2,13 @@
 ghost use Rattle.std.specs.Prelude.{◌≡◌, IfOk};
 ghost use Rattle.std.specs.Arc.{arc_value};
 ghost use Rattle.jwalk.specs.jwalk_job.Options.{options_value};
-ghost use Rattle.since_run.specs.Walks.{all_options, Finds};
+ghost use Rattle.since_run.specs.Walks.{options_for, Finds};
 
 use jwalk::file_system::FileSystem;
 use jwalk::read_dir::NoProcess;
 use jwalk::{Crew, Host, Options};
 use program_walks::crew::{CrewWalk, walk_below};
+use since_parts::choice::Choice;
 use since_parts::failure::Failure;
 use since_parts::found::Found;
 use since_parts::tree::Tree;
@@ -18,14 +19,16 @@ use std::sync::Arc;
 /// The walk below a root.
 pub(crate) type WholeWalk<T, S> = CrewWalk<T, ((), ()), Arc<S>, NoProcess>;
 
-/// Hidden names are read too, in the order of names, and entries keep their metadata.
-fn all_options() -> Options
-    ensures { options_value result ≡ all_options }
+/// All that is chosen is read, in the order of names, and entries keep their metadata.
+fn options_for(choice: Choice) -> Options
+    ensures { options_value result ≡ options_for choice }
 {
     Options::new()
         .with_sort(true)
-        .with_skip_hidden(false)
+        .with_skip_hidden(choice.exclude_hidden)
+        .with_same_file_system(choice.one_file_system)
         .with_keep_metadata(true)
+        .with_max_depth(choice.depth.unwrap_or(usize::MAX))
 }
 
 /// Returns what a walk finds below the root of a tree. If there is a crew, it reads the directories.
@@ -39,7 +42,7 @@ pub(crate) fn find<T: Host, S: FileSystem + Send + Sync + 'static, E: Write>(
     ensures { IfOk result (Finds S.FileSystem ⟦<WholeWalk<T, S> as Iterator>⟧.next_gives (arc_value disk) crew.now tree.now) }
 {
     let root = String::from_str(alloc, tree.root.as_str())?;
-    let walk = walk_below::<((), ()), _, _, _>(disk, root, all_options(), crew)?;
+    let walk = walk_below::<((), ()), _, _, _>(disk, root, options_for(tree.choice), crew)?;
     let mut answers = walk.into_iter();
     let mut found = Found::new(alloc);
     found.take_all(alloc, tree, &mut answers, err)?;

@@ -1,8 +1,10 @@
-//! What the program `since` does with its words and a disk: it compares what is below a root with a snapshot.
+//! What the program `since` does with its words and a disk: it compares what is below a root with a snapshot, or lists it.
 #![tactic(auto)]
 
+mod choice;
 mod find;
 mod lines;
+mod rows;
 pub mod run;
 pub mod screen;
 pub mod store;

@@ -4,11 +4,13 @@ ghost use Rattle.std.specs.Arc.{arc_value};
 ghost use Rattle.std.specs.Io.KnownBytes.{Appends};
 ghost use Rattle.jwalk_model.specs.Paths.{dot};
 ghost use Rattle.jwalk_snapshot.specs.Text.{content_of, text_of, IsSnapshot};
-ghost use Rattle.since_run.specs.Run.{root_asked, separator_of, status_for, style_asked, text_asked, HasTextAsked, IsLoaded, IsMissing, ReplacesBy};
-ghost use Rattle.since_run.specs.Done.{Begins, Compares, IsDone, LooksAt, Tells};
+ghost use Rattle.since_run.specs.Run.{root_asked, rows_asked, separator_of, status_for, style_asked, text_asked, HasTextAsked, IsLoaded, IsMissing, ReplacesBy};
+ghost use Rattle.since_run.specs.Done.{Begins, Compares, IsDone, Lists, LooksAt, Tells};
 
+use crate::choice::{choice_asked, choice_for};
 use crate::find::{WholeWalk, find};
 use crate::lines::write_lines;
+use crate::rows::write_rows;
 use crate::screen::Screen;
 use crate::store::Store;
 use jwalk::file_system::{Fault, FileSystem};
@@ -20,6 +22,7 @@ use program_parts::halt::Halt;
 use program_parts::paths::Style;
 use program_parts::refusal::{RefusalBy, refuse};
 use program_walks::crew::{crew_with, threads_in};
+use since_parts::choice::Choice;
 use since_parts::differences::differences;
 use since_parts::failure::Failure;
 use since_parts::found::Found;
@@ -108,12 +111,13 @@ fn look<T: Host, S: FileSystem + Send + Sync + 'static, X: Texts, E: Write>(
     texts: &X,
     file: &str,
     root: &str,
+    choice: Choice,
     err: &mut E,
 ) -> Result<(Tree, Found), Failure>
     ensures { IfOk result (λ it. it.1.clean ≡ true → LooksAt S.FileSystem X.Texts ⟦<WholeWalk<T, S> as Iterator>⟧.next_gives
-        (arc_value disk) texts.now crew.now file.now root.now it.0 it.1.entries.items) }
+        (arc_value disk) texts.now crew.now file.now root.now choice it.0 it.1.entries.items) }
 {
-    let tree = Tree::new(alloc, texts, file, root, err)?;
+    let tree = Tree::new(alloc, texts, file, root, choice, err)?;
     let found = find(alloc, disk, crew, &tree, err)?;
     Ok((tree, found))
 }
@@ -178,6 +182,21 @@ fn write_changes<W: Write>(
     write_lines(alloc, style_of(asked, screen), asked.long, changes, out)
 }
 
+fn write_listed<W: Write>(
+    alloc: Global,
+    asked: &Asked<'_>,
+    screen: Screen,
+    snapshot: &Snapshot<'_>,
+    out: &mut W,
+) -> Result<(), Halt>
+    ensures { OnOk result (Appends (W.contents out.old) (W.contents out.new) (rows_asked asked.now screen (content_of snapshot.now))) }
+{
+    if asked.quiet {
+        return Ok(());
+    }
+    write_rows(alloc, style_of(asked, screen), &snapshot.blocks, out)
+}
+
 fn status_for(changes: &[Change<Kept, Kept>]) -> u8
     ensures { result ≡ status_for changes.now }
 {
@@ -219,7 +238,8 @@ fn begin<T: Host, S: FileSystem + Send + Sync + 'static, X: Texts, K: Store, E: 
         (arc_value disk) texts.now crew.now asked.now store.old store.new status) }
 {
     let root = root_or_here(asked);
-    let (tree, found) = look(alloc, disk, crew, texts, asked.file, root, err)?;
+    let choice = choice_asked(asked, Choice::ALL);
+    let (tree, found) = look(alloc, disk, crew, texts, asked.file, root, choice, err)?;
     let text = text_to_save(alloc, asked, &tree, &found, err)?;
     let clean = found.clean;
     if !clean {
@@ -246,8 +266,9 @@ fn compare<T: Host, S: FileSystem + Send + Sync + 'static, X: Texts, K: Store, W
     ensures compares { IfOk result (λ status. status ≤ 1 → Compares S.FileSystem X.Texts K.Store ⟦<WholeWalk<T, S> as Iterator>⟧.next_gives
         (arc_value disk) texts.now crew.now asked.now screen (content_of snapshot.now) (W.contents out.old) (W.contents out.new) store.old store.new status) }
 {
+    let choice = choice_for(alloc, asked, &snapshot.head.words, err)?;
     let root = root_asked(asked, snapshot.head.absolute);
-    let (tree, found) = look(alloc, disk, crew, texts, asked.file, root, err)?;
+    let (tree, found) = look(alloc, disk, crew, texts, asked.file, root, choice, err)?;
     let text = text_to_save(alloc, asked, &tree, &found, err)?;
     let clean = found.clean;
     let numbers = snapshot.head.absolute == tree.absolute.as_str();
@@ -259,6 +280,26 @@ fn compare<T: Host, S: FileSystem + Send + Sync + 'static, X: Texts, K: Store, W
     }
     replace(store, asked.file, &text, err)?;
     Ok(status_for(&changes))
+}
+
+/// Writes a row for each entry that a snapshot has. Returns the status.
+fn list<W: Write, E: Write>(
+    alloc: Global,
+    asked: &Asked<'_>,
+    screen: Screen,
+    snapshot: &Snapshot<'_>,
+    out: &mut W,
+    err: &mut E,
+) -> Result<u8, Failure>
+    ensures status { IfOk result (λ status. status ≤ 2) }
+    ensures lists { IfOk result (Lists asked.now screen (content_of snapshot.now) (W.contents out.old) (W.contents out.new)) }
+{
+    if let Some(root) = asked.root {
+        let _ = writeln!(err, "since: {root}: with --rows no root is read");
+        return Err(Failure::Told);
+    }
+    write_listed(alloc, asked, screen, snapshot, out)?;
+    Ok(0)
 }
 
 /// Returns the status.
@@ -284,6 +325,9 @@ fn since<T: Host, S: FileSystem + Send + Sync + 'static, X: Texts, K: Store, W: 
         return begin(alloc, disk, &crew, texts, store, asked, err);
     };
     let snapshot = read_snapshot(alloc, asked.file, &bytes, err)?;
+    if asked.lists {
+        return list(alloc, asked, screen, &snapshot, out, err);
+    }
     compare(
         alloc, disk, &crew, texts, store, asked, screen, &snapshot, out, err,
     )
@@ -303,9 +347,9 @@ fn status_of<E: Write>(ended: Result<u8, Failure>, err: &mut E) -> u8
 }
 
 /// Compares what is below a root with a snapshot, as the words ask, of which the first is the program's name. Writes a
-/// line for each difference, and reports errors on `err`. Returns the status.
+/// line for each difference, or a row for each entry of the snapshot, and reports errors on `err`. Returns the status.
 ///
-/// The status is 0 if nothing differs, or if a text was asked for and printed. It is 1 if something differs. It is 2 for
+/// The status is 0 if nothing differs, or if rows or a text were asked for and written. It is 1 if something differs. It is 2 for
 /// bad words, if not all could be read, if memory ran out, and if the lines or the snapshot can't be written.
 pub fn run<T: Host, S: FileSystem + Send + Sync + 'static, X: Texts, K: Store, W: Write, E: Write>(
     rt: &T,

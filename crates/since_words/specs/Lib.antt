@@ -1,3 +1,3 @@
 pub mod Command
-pub mod Asks
 pub mod Refusal
+pub mod Asks

@@ -1,10 +1,20 @@
 -- Why words are refused.
-use Rattle.std.specs.Prelude.{false, List}
-use Rattle.clap.specs.Words.{Text}
+use Rattle.std.specs.Prelude.{Bool, ◌&&◌, ◌||◌, List, codes}
+use Rattle.clap.specs.Words.{Row, Text}
 use Rattle.program_parts.specs.Refusal.{IsRefusedBy}
+use Rattle.program_parts.specs.Values.{has_value, is_named}
 use Rattle.program_parts.specs.declared.refusal.CommonRefusal.{CommonRefusal}
 use Rattle.since_words.specs.Command.{since_app}
 
--- Why words are refused: they aren't those of the command line, or ask for a text; or memory ran out. No options exclude each other.
+-- whether an option is named for what is compared or saved
+abbrev pub asks_compared : List Row → Bool
+asks_compared rows =
+    is_named rows (codes "save") || (is_named rows (codes "exclude-hidden") || (is_named rows (codes "one-file-system") || has_value rows (codes "max-depth")))
+
+-- whether rows are asked for, which are of a file as it is, and such an option is named
+abbrev pub has_conflict : List Row → Bool
+has_conflict rows = is_named rows (codes "rows") && asks_compared rows
+
+-- Why words are refused: they aren't those of the command line, or ask for a text; two options exclude each other; or memory ran out.
 abbrev pub IsRefusedFor : List Text → CommonRefusal → Type 0
-IsRefusedFor = IsRefusedBy since_app (λ rows. false)
+IsRefusedFor = IsRefusedBy since_app has_conflict

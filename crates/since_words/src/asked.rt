@@ -9,12 +9,20 @@ pub struct Asked<'w> {
     pub root: Option<&'w str>,
     /// The file is replaced by what is found.
     pub save: bool,
+    /// The entries that the file has are listed in rows, and nothing is compared.
+    pub lists: bool,
     /// Behind the path of what changed is written what differs.
     pub long: bool,
     /// Each line ends with a zero byte.
     pub print0: bool,
     /// No line is written.
     pub quiet: bool,
+    /// Hidden names are left out.
+    pub exclude_hidden: bool,
+    /// What is on other file systems than the root is left out.
+    pub one_file_system: bool,
+    /// The greatest depth, if one was named: 1 for what is in the root.
+    pub depth: Option<usize>,
     /// How many threads read directories, if that was named.
     pub threads: Option<usize>,
 }

@@ -2,10 +2,10 @@
 ghost use Rattle.std.specs.Prelude.{◌≡◌, ◌∷◌, [], false, IfOk};
 ghost use Rattle.clap.specs.Words.{app_of, rule_of};
 ghost use Rattle.program_parts.specs.Rules.{HaveRules};
-ghost use Rattle.since_words.specs.Command.{file_rule, named_app, option_rules, place_rules, since_app, tree_rule};
+ghost use Rattle.since_words.specs.Command.{choice_rules, depth_rule, file_rule, named_app, option_rules, place_rules, since_app, tree_rule};
 
 use clap::{Arg, Command};
-use program_parts::options::{flag, long_flag, threads_option};
+use program_parts::options::{flag, long_flag, number, threads_option};
 use program_parts::version::VERSION;
 use std::alloc::{AllocError, Global};
 
@@ -44,6 +44,11 @@ fn options<'a>(alloc: Global) -> Result<Vec<Arg<'a>>, AllocError>
             "save",
             "Replace FILE by a snapshot of what is found, or make it"
         ),
+        long_flag(
+            alloc,
+            "rows",
+            "Write a row for each entry in FILE, and compare nothing: path, type, length, time, number"
+        ),
         flag(
             alloc,
             "long",
@@ -61,6 +66,40 @@ fn options<'a>(alloc: Global) -> Result<Vec<Arg<'a>>, AllocError>
     ]?)
 }
 
+/// Returns the option for the greatest depth, which isn't 0: that of the root.
+fn depth_option<'a>(alloc: Global) -> Arg<'a>
+    ensures rule { rule_of result ≡ depth_rule }
+    ensures local { result.global ≡ false }
+{
+    number(
+        alloc,
+        "max-depth",
+        "Leave out what lies more than N levels below the root",
+    )
+    .short('d')
+    .value_parser(clap::value_parser!(usize).range(1..))
+}
+
+/// Returns the options for what of a tree is compared.
+fn choice_options<'a>(alloc: Global) -> Result<Vec<Arg<'a>>, AllocError>
+    ensures { IfOk result (λ options. HaveRules options.items choice_rules) }
+{
+    Ok(vec![in alloc;
+        long_flag(
+            alloc,
+            "exclude-hidden",
+            "Leave out names that start with a dot"
+        ),
+        flag(
+            alloc,
+            "one-file-system",
+            'x',
+            "Leave out what is on other file systems"
+        ),
+        depth_option(alloc),
+    ]?)
+}
+
 fn named<'a>(alloc: Global) -> Command<'a>
     ensures { app_of result ≡ named_app }
 {
@@ -74,5 +113,6 @@ pub(crate) fn command<'a>(alloc: Global) -> Result<Command<'a>, AllocError>
 {
     let places = places(alloc)?;
     let options = options(alloc)?;
-    named(alloc).args(places)?.args(options)
+    let choice = choice_options(alloc)?;
+    named(alloc).args(places)?.args(options)?.args(choice)
 }

@@ -1,14 +1,14 @@
 //! What words ask for.
-ghost use Rattle.std.specs.Prelude.{◌≡◌, map, IfOk, IfErr, option_map};
+ghost use Rattle.std.specs.Prelude.{◌≡◌, is_some, map, IfOk, IfErr, option_map};
 ghost use Rattle.clap.specs.Words.{first_of, found_of, rows_of};
 ghost use Rattle.since_words.specs.Asks.{file_in, text_in, AskFor, Asks};
-ghost use Rattle.since_words.specs.Refusal.{IsRefusedFor};
+ghost use Rattle.since_words.specs.Refusal.{asks_compared, has_conflict, IsRefusedFor};
 
 use crate::asked::Asked;
 use crate::command::command;
 use clap::ArgMatches;
 use program_parts::refusal::CommonRefusal;
-use program_parts::values::{is_named, matches_of, number_of};
+use program_parts::values::{has_value, is_named, matches_of, number_of};
 use std::alloc::Global;
 use std::convert::AsStr;
 
@@ -36,10 +36,42 @@ fn asked_of<'w>(found: &ArgMatches<'w>) -> Asked<'w>
         file: file_of(found),
         root: value_of(found, "root"),
         save: is_named(found, "save"),
+        lists: is_named(found, "rows"),
         long: is_named(found, "long"),
         print0: is_named(found, "print0"),
         quiet: is_named(found, "quiet"),
+        exclude_hidden: is_named(found, "exclude-hidden"),
+        one_file_system: is_named(found, "one-file-system"),
+        depth: number_of(found, "max-depth"),
         threads: number_of(found, "threads"),
+    }
+}
+
+/// Returns an option for what is compared or saved.
+fn compared_option(found: &ArgMatches<'_>) -> Option<&'static str>
+    ensures { is_some result ≡ asks_compared (rows_of (found_of found.now)) }
+{
+    if is_named(found, "save") {
+        Some("save")
+    } else if is_named(found, "exclude-hidden") {
+        Some("exclude-hidden")
+    } else if is_named(found, "one-file-system") {
+        Some("one-file-system")
+    } else if has_value(found, "max-depth") {
+        Some("max-depth")
+    } else {
+        None
+    }
+}
+
+/// Returns an option that rows exclude, if they are asked for: they are of a file as it is.
+fn conflict_of(found: &ArgMatches<'_>) -> Option<&'static str>
+    ensures { is_some result ≡ has_conflict (rows_of (found_of found.now)) }
+{
+    if is_named(found, "rows") {
+        compared_option(found)
+    } else {
+        None
     }
 }
 
@@ -47,11 +79,14 @@ fn asked_of<'w>(found: &ArgMatches<'w>) -> Asked<'w>
 ///
 /// # Errors
 ///
-/// If the words are bad or ask for help or the version, or if memory runs out.
+/// If the words are bad or ask for help or the version, if two options exclude each other, or if memory runs out.
 pub fn read_words<'w, S: AsStr>(alloc: Global, words: &'w [S]) -> Result<Asked<'w>, CommonRefusal>
     ensures asked { IfOk result (AskFor (map S.text words.entry.now)) }
     ensures refused { IfErr result (IsRefusedFor (map S.text words.entry.now)) }
 {
     let found = matches_of(command(alloc)?, words)?;
+    if let Some(other) = conflict_of(&found) {
+        return Err(CommonRefusal::Conflict("rows", other));
+    }
     Ok(asked_of(&found))
 }

@@ -7,7 +7,7 @@ use Rattle.jwalk.proofs.AlikeFacts.{stateless_however_read}
 use Rattle.jwalk.proofs.CleanFacts.{clean_whole}
 use Rattle.jwalk.proofs.WholeFacts.{stateless_of, steady_begun}
 use Rattle.program_walks.specs.Crew.{with_crew}
-use Rattle.since_run.specs.Walks.{all_options}
+use Rattle.since_run.specs.Walks.{options_for}
 use Rattle.since_run.proofs.FindFacts.{clean_ok}
 use Rattle.since_run.proofs.find.find.Goals as goal
 
@@ -20,7 +20,8 @@ returns g c =
     let takes = c.in_ok-take_all.ensures in
     let reads = is_some c.args.crew.now in
     let over : file_system_of walk ≡ c.args.disk = made.file_system in
-    let options : options_of walk ≡ with_crew reads all_options = made.options ∙ ap (with_crew reads) c.all_options.ensures in
+    let chosen = options_for c.args.tree.now.choice in
+    let options : options_of walk ≡ with_crew reads chosen = made.options ∙ ap (with_crew reads) c.options_for.ensures in
     let below : root_of walk ≡ string_bytes c.args.tree.now.root = made.root ∙ (c.in_ok-root.ensures.ok ∙ c.as_str.ensures.value) in
     record {
       yielded = takes.yielded;
@@ -36,8 +37,8 @@ returns g c =
             (steady_begun _ _ _ _ _ stateless walk it begun.steady begun.starts (record { file_system = over_fixed; callback = λ depth path state list. refl; clones = λ x y is. refl; default = λ x is. refl }))
             begun.starts (record { file_system = over_fixed; callback = λ depth path state list. refl; clones = λ x y is. refl; default = λ x is. refl })
             takes.drains (clean_ok takes.yielded clean)
-            ∙ stateless_of (λ fs. g.S.FileSystem.functions (arc_value fs)) walk c.args.disk (with_crew reads all_options) _ over options below
-            ∙ stateless_however_read (if reads then crew else serial) (g.S.FileSystem.functions (arc_value c.args.disk)) all_options _;
+            ∙ stateless_of (λ fs. g.S.FileSystem.functions (arc_value fs)) walk c.args.disk (with_crew reads chosen) _ over options below
+            ∙ stateless_however_read (if reads then crew else serial) (g.S.FileSystem.functions (arc_value c.args.disk)) chosen _;
       };
       has = takes.has;
     }

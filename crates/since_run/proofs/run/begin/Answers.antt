@@ -9,7 +9,7 @@ returns-clause-begins g c = λ low.
     record {
       tree = c.in_ok-tree.tree;
       entries = found.entries.items;
-      looks = looks_at _ _ _ _ _ _ _ _ _ _ _ c.root_or_here-root.ensures (c.in_ok-tree.ensures clean);
+      looks = looks_at _ _ _ _ _ _ _ _ _ _ _ _ _ c.root_or_here-root.ensures c.choice_asked-choice.ensures (c.in_ok-tree.ensures clean);
       saves = saves_asked g.K.Store.Replaces c.args.asked.now c.in_ok-tree.tree found.entries.items c.in_ok-text.text c.args.store.now c.replace.new.store (c.in_ok-text.ensures clean) c.in_ok-replace.ensures;
       none = refl;
     }

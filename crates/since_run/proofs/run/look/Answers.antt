@@ -11,8 +11,9 @@ returns g c = λ clean.
     let finds = c.in_ok-found.ensures in
     record {
       tree_is = tree.own;
+      chosen = tree.choice;
       yielded = finds.yielded;
-      yields = yields_at _ _ _ _ finds.yielded _ _ tree.root finds.yields;
+      yields = yields_at _ _ _ _ finds.yielded _ _ _ _ tree.choice tree.root finds.yields;
       clean = sym finds.has.clean_is ∙ clean;
       found = finds.has.found_is ∙ ap (λ front. found_in front (own_in c.in_ok-tree.tree) (map item finds.yielded)) tree.front;
     }

@@ -5,8 +5,12 @@ returns c = record {
   file = c.file_of.ensures;
   root = c.value_of.ensures;
   save = c.is_named.ensures;
-  long = c.is_named-2.ensures;
-  print0 = c.is_named-3.ensures;
-  quiet = c.is_named-4.ensures;
-  threads = c.number_of.ensures;
+  lists = c.is_named-2.ensures;
+  long = c.is_named-3.ensures;
+  print0 = c.is_named-4.ensures;
+  quiet = c.is_named-5.ensures;
+  exclude_hidden = c.is_named-6.ensures;
+  one_file_system = c.is_named-7.ensures;
+  depth = c.number_of.ensures;
+  threads = c.number_of-2.ensures;
 }
