@@ -1,2 +1,3 @@
 mod CallbackFacts
 mod OwnReadersFacts
+pub mod SkippedFacts

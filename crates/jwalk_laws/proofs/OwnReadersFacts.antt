@@ -1,5 +1,6 @@
 -- What readers that read when they are asked keep of where their readings come from.
-use Rattle.std.proofs.Common.{◌≡◌, ◌≢◌, ◌∙◌, ℕ, suc, ◌+◌, List, [], ◌∷◌, ◌++◌, map, length, append-nil, All, Some, None, option_map, slice_get, Bool, true, false, Result, Ok, Err, is_err, IfOk, OnOk, MatchResult, inl, inr, refl, sym, ap, ap₂, subst, arith}
+use Rattle.std.proofs.Common.{◌≡◌, ◌≢◌, ◌∙◌, ℕ, suc, ◌+◌, List, [], ◌∷◌, ◌++◌, map, length, append-nil, nil_from_length, All, Option, Some, None, option_map, option_to_list, slice_get, Bool, true, false, Result, Ok, Err, is_err, IfOk, OnOk, MatchResult, inl, inr, refl, sym, ap, ap₂, subst, arith}
+use Rattle.std.specs.Prelude.{MatchOption}
 use Rattle.std.specs.Iterator.{Yields}
 use Rattle.std.specs.List.{AllZip}
 use Rattle.std.specs.declared.alloc.AllocError.{AllocError}
@@ -76,6 +77,19 @@ module _ {C A R E : Type 0} where
       ∙ ap (λ l. l ++ addresses_of (stacked mid)) (addresses_numbered (address next) 0 (map spec below) ∙ ap (children_from 0 (address next)) (length-map below spec ∙ sym count))
       ∙ ap (λ b. children_from 0 (address b) n ++ addresses_of (stacked mid)) here
       ∙ sym (ap (λ l. passed (addresses_of l) n) (ap stacked took ∙ stacked_put mid (at, of)))
+
+module _ {C A R E : Type 0} (old new : List (IndexPath A × ReadDirSpec C A R E)) where
+  -- A directory is taken off a stack, if there is one, and its address is passed.
+  pub passes_on : (n m : ℕ) → n ≡ length old → (o : Option (IndexPath A × ReadDirSpec C A R E)) → old ≡ new ++ option_to_list o → MatchOption o ((n ≡ 0) × (m ≡ 0)) (λ x. m + 1 ≡ n) → addresses_of (stacked new) ≡ passed (addresses_of (stacked old)) 0
+  passes_on n m long (Some w) took some = sym (ap (λ l. passed (addresses_of l) 0) (ap stacked took ∙ stacked_put new w))
+  passes_on n m long None took none =
+      let empty : old ≡ [] = nil_from_length old (sym long ∙ none.0) in
+      ap (λ l. addresses_of (stacked l)) (sym (append-nil new) ∙ sym took ∙ empty) ∙ sym (ap (λ l. passed (addresses_of (stacked l)) 0) empty)
+
+  -- What holds of all on a stack still does.
+  pub all_left : (P : Addressed (Spec R) → Type 0) (o : Option (IndexPath A × ReadDirSpec C A R E)) → old ≡ new ++ option_to_list o → All P (stacked old) → All P (stacked new)
+  all_left P None took all = subst (λ l. All P (stacked l)) (took ∙ append-nil new) all
+  all_left P (Some w) took all = All-tail P (placed w) (stacked new) (subst (All P) (ap stacked took ∙ stacked_put new w) all)
 
 clones_length : {R : Type 0} (is_clone : R → R → Type 0) (specs clones : List (Spec R)) → AreClones is_clone specs clones → length clones ≡ length specs
 clones_length is_clone [] [] are = refl
@@ -160,6 +174,10 @@ module _ {C S P A R E : Type 0} (files : FileSystem.Ghosts S) (process : Process
   -- With nothing on the stack none is due either.
   pub none_due : (waiting : List (IndexPath A × ReadDirSpec C A R E)) (wanted : Wanted A) → waiting ≡ [] → ¬ IsDue files process clone defaults origin (addresses_of (stacked waiting)) wanted
   none_due waiting wanted none due = due.some (ap (λ l. addresses_of (stacked l)) none)
+
+  -- It reads for the walk where a directory was taken off the stack.
+  pub left_reads : (job : Job C S P A R E) (old new : List (IndexPath A × ReadDirSpec C A R E)) (o : Option (IndexPath A × ReadDirSpec C A R E)) → old ≡ new ++ option_to_list o → ReadsFor files process clone defaults job old origin → ReadsFor files process clone defaults job new origin
+  left_reads job old new o took comes = record { own = comes.own; at = all_left old new At o took comes.at }
 
   -- and it reads for any walk by its job
   pub none_reads : (job : Job C S P A R E) (old new : List (IndexPath A × ReadDirSpec C A R E)) → new ≡ [] → ReadsFor files process clone defaults job old origin → ReadsFor files process clone defaults job new origin

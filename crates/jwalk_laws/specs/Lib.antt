@@ -1,3 +1,4 @@
 pub mod Callbacks
 pub mod OwnReaders
 pub mod States
+pub mod Skipped

@@ -104,6 +104,11 @@ impl<S: FileSystem> Readers<States, S, NoProcess, Global> for OwnReaders<S> {
         Ok(item)
     }
 
+    fn skip(&mut self) -> Result<(), AllocError> {
+        let _skipped = self.waiting.pop();
+        Ok(())
+    }
+
     /// None is read ahead.
     fn ahead(&self) -> usize {
         0

@@ -54,6 +54,8 @@ pub enum Going<'a> {
     Ahead(usize),
     /// Yields a number of entries.
     Comes(usize),
+    /// Skips what is left of a directory.
+    Skips,
     /// Keeps this bound up to the walk's end.
     Keeps(Bound),
     /// Yields this and ends.
@@ -155,6 +157,10 @@ fn goes_on<R: Clock + AllocGlobal, B: Readings<States, Global>>(
     match going {
         Going::Ahead(count) => come_ahead(rt, walk, *count),
         Going::Comes(count) => comes(walk, *count),
+        Going::Skips => {
+            walk.skip_current_dir();
+            true
+        }
         Going::Keeps(bound) => keeps(rt, fs, walk, bound),
         Going::Ends(wanted) => {
             let mut found = Vec::new(rt.alloc());

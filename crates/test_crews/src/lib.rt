@@ -4,6 +4,8 @@
 #[cfg(test)]
 mod acts;
 #[cfg(test)]
+mod blocking;
+#[cfg(test)]
 mod bound;
 #[cfg(test)]
 mod busy;
@@ -27,5 +29,7 @@ mod readings;
 mod rows;
 #[cfg(test)]
 mod serial;
+#[cfg(test)]
+mod skips;
 #[cfg(test)]
 mod together;
