@@ -41,3 +41,19 @@ impl<A: Allocator + Copy> Entry for Kept<A> {
         self.facts
     }
 }
+
+impl<'k, A: Allocator + Copy> AtPath for &'k Kept<A> {
+    ghost path = { λ kept. names (string_bytes kept.now.path) };
+
+    fn path_parts(&self) -> (&str, &str) {
+        ("", self.path.as_str())
+    }
+}
+
+impl<'k, A: Allocator + Copy> Entry for &'k Kept<A> {
+    ghost facts = { λ kept. kept.now.facts };
+
+    fn facts(&self) -> Facts {
+        self.facts
+    }
+}

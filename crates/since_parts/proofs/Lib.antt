@@ -1,4 +1,5 @@
 mod ChoiceFacts
 mod FoundFacts
+mod HeldFacts
 mod SavedFacts
 mod TreeFacts

@@ -1,9 +1,9 @@
 pub mod Choice
 pub mod Facts
 pub mod Held
-pub mod Line
-pub mod Row
 pub mod Tree
 pub mod Found
 pub mod Differences
+pub mod Line
+pub mod Row
 pub mod Saved

@@ -1,13 +1,14 @@
 -- The snapshot of what a walk finds.
-use Rattle.std.specs.Prelude.{◌≡◌, ℕ, Bool, true, false, not, ◌&&◌, ◌||◌, List, [], ◌∷◌, is_some, string_bytes}
+use Rattle.std.specs.Prelude.{◌≡◌, ℕ, Bool, true, false, not, ◌&&◌, ◌||◌, List, [], ◌∷◌, is_some, map, string_bytes}
 use Rattle.std.specs.declared.alloc.Global.{Global}
 use Rattle.jwalk_changes.specs.declared.entry.Kept.{Kept}
 use Rattle.jwalk_changes.specs.declared.facts.Facts.{Facts}
 use Rattle.jwalk_changes.specs.Facts.{is_any, which}
 use Rattle.jwalk_snapshot.specs.Text.{Content, IsSnapshot, text_of}
 use Rattle.since_parts.specs.Choice.{words_of}
-use Rattle.since_parts.specs.Held.{HoldsAll}
+use Rattle.since_parts.specs.Held.{HoldsAll, seen_in}
 use Rattle.since_parts.specs.declared.choice.Choice.{Choice}
+use Rattle.since_parts.specs.declared.held.Held.{Held}
 
 -- whether what is known of an entry that was found is known of one that is kept
 abbrev pub keeps : Facts → Facts → Bool
@@ -15,13 +16,13 @@ keeps kept found =
     (is_some kept.len || not (is_some found.len)) && ((is_some kept.modified || not (is_some found.modified)) && (is_some kept.inode || not (is_some found.inode)))
 
 -- An entry that is kept has the path of one that was found, and no fact that counts differs.
-pub record IsSame (kept found : Kept Global) : Type 0 where
-  pub path : string_bytes kept.path ≡ string_bytes found.path
-  pub equal : is_any (which kept.facts found.facts) ≡ false
-  pub known : keeps kept.facts found.facts ≡ true
+pub record IsSame (kept : Held) (found : Kept Global) : Type 0 where
+  pub path : (seen_in kept).path ≡ string_bytes found.path
+  pub equal : is_any (which (seen_in kept).facts found.facts) ≡ false
+  pub known : keeps (seen_in kept).facts found.facts ≡ true
 
 -- All that was found is kept, one after another, and nothing else.
-abbrev pub AreSame : List (Kept Global) → List (Kept Global) → Type 0
+abbrev pub AreSame : List Held → List (Kept Global) → Type 0
 AreSame [] [] = Unit {0}
 AreSame [] (b ∷ found) = ⊥
 AreSame (a ∷ kept) [] = ⊥
@@ -34,6 +35,6 @@ pub record IsTextOf (absolute : List ℕ) (choice : Choice) (entries : List (Kep
   pub below : content.call.absolute ≡ absolute
   pub words : content.call.words ≡ words_of choice
   pub has : text ≡ text_of content
-  pub kept : List (Kept Global)
-  pub holds : HoldsAll true content kept
+  pub kept : List Held
+  pub holds : HoldsAll true content (map seen_in kept)
   pub same : AreSame kept entries

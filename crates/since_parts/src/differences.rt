@@ -1,9 +1,10 @@
 //! The differences between what a snapshot holds and what a walk finds.
-ghost use Rattle.std.specs.Prelude.{◌≡◌, [], true, IfOk};
-ghost use Rattle.since_parts.specs.Differences.{AreDifferences};
+ghost use Rattle.std.specs.Prelude.{◌≡◌, [], true, map, IfOk};
+ghost use Rattle.since_parts.specs.Differences.{kept_at, AreDifferences, IsDifferencesOf};
 
 use crate::failure::Failure;
 use crate::found::Found;
+use crate::held::Held;
 use jwalk_changes::{Change, ChangesError, Kept, changes_between, compare};
 use program_parts::halt::Halt;
 use std::alloc::{AllocError, Global};
@@ -26,15 +27,25 @@ fn ascending<'p>(alloc: Global, places: &'p [String]) -> Result<Vec<&'p str>, Al
     Ok(once)
 }
 
+fn borrowed<'f>(alloc: Global, entries: &'f [Kept]) -> Result<Vec<&'f Kept>, AllocError>
+    ensures { IfOk result (λ all. map kept_at all.items ≡ entries.now) }
+{
+    let mut all = Vec::new(alloc);
+    for entry in entries {
+        all.push(entry)?;
+    }
+    Ok(all)
+}
+
 /// Returns the differences of two lists, outside these places.
-fn between<E: Write>(
+fn between<'s, 'a, 'f, E: Write>(
     alloc: Global,
-    old: Vec<Kept>,
-    new: Vec<Kept>,
+    old: Vec<Held<'s, 'a>>,
+    new: Vec<&'f Kept>,
     unread: Vec<&str>,
     err: &mut E,
-) -> Result<Vec<Change<Kept, Kept>>, Failure>
-    ensures { IfOk result (λ changes. unread.entry.items ≡ [] → AreDifferences old.items new.items changes.items) }
+) -> Result<Vec<Change<Held<'s, 'a>, &'f Kept>>, Failure>
+    ensures { IfOk result (λ changes. unread.entry.items ≡ [] → IsDifferencesOf old.entry.items new.entry.items changes.items) }
 {
     match changes_between(alloc, old, new, unread) {
         Ok(changes) => Ok(changes),
@@ -48,22 +59,18 @@ fn between<E: Write>(
 
 /// Returns what differs between what was held and what is found. Nothing is told of what is below a directory of which
 /// not all is known.
-pub fn differences<E: Write>(
+pub fn differences<'s, 'a, 'f, E: Write>(
     alloc: Global,
-    old: Vec<Kept>,
-    found: Found,
+    old: Vec<Held<'s, 'a>>,
+    found: &'f Found,
     err: &mut E,
-) -> Result<Vec<Change<Kept, Kept>>, Failure>
-    ensures { IfOk result (λ changes. found.clean ≡ true → AreDifferences old.items found.entries.items changes.items) }
+) -> Result<Vec<Change<Held<'s, 'a>, &'f Kept>>, Failure>
+    ensures { IfOk result (λ changes. found.now.clean ≡ true → AreDifferences old.entry.items found.now.entries.items changes.items) }
 {
-    let Found {
-        entries,
-        unread,
-        clean,
-    } = found;
-    if clean {
-        return between(alloc, old, entries, Vec::new(alloc), err);
+    let new = borrowed(alloc, &found.entries)?;
+    if found.clean {
+        return between(alloc, old, new, Vec::new(alloc), err);
     }
-    let unread = ascending(alloc, &unread)?;
-    between(alloc, old, entries, unread, err)
+    let unread = ascending(alloc, &found.unread)?;
+    between(alloc, old, new, unread, err)
 }

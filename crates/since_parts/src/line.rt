@@ -3,26 +3,18 @@ ghost use Rattle.std.specs.Prelude.{◌≡◌, ◌++◌, ◌∷◌, [], OnOk};
 ghost use Rattle.program_parts.specs.Paths.{shown_text};
 ghost use Rattle.since_parts.specs.Line.{front, line_of, path_in, path_text, sign, told_of, which_text, word_if};
 
+use crate::held::Held;
 use jwalk_changes::{Change, Kept, Which};
 use program_parts::paths::Style;
 use std::alloc::{AllocError, Global};
 
-fn sign(change: &Change<Kept, Kept>) -> u8
+fn sign(change: &Change<Held<'_, '_>, &Kept>) -> u8
     ensures { result ≡ sign change.now }
 {
     match change {
         Change::Added(_) => b'+',
         Change::Removed(_) => b'-',
         Change::Changed(_, _, _) => b'~',
-    }
-}
-
-fn path_in(change: &Change<Kept, Kept>) -> &str
-    ensures { result.now ≡ path_in change.now }
-{
-    match change {
-        Change::Added(found) | Change::Changed(_, found, _) => found.path.as_str(),
-        Change::Removed(old) => old.path.as_str(),
     }
 }
 
@@ -55,6 +47,25 @@ pub(crate) fn push_path(style: Style, path: &str, out: &mut Vec<u8>) -> Result<(
     push_shown(style, path, out)
 }
 
+/// Adds the path that a change is about.
+fn push_path_in(
+    style: Style,
+    change: &Change<Held<'_, '_>, &Kept>,
+    out: &mut Vec<u8>,
+) -> Result<(), AllocError>
+    ensures { OnOk result (out.new.items ≡ out.old.items ++ path_text style (path_in change.now)) }
+{
+    match change {
+        Change::Added(found) | Change::Changed(_, found, _) => {
+            push_path(style, found.path.as_str(), out)
+        }
+        Change::Removed(old) => {
+            let path = old.path(*out.allocator())?;
+            push_path(style, path.as_str(), out)
+        }
+    }
+}
+
 fn push_word(differs: bool, word: &str, out: &mut Vec<u8>) -> Result<(), AllocError>
     ensures { OnOk result (out.new.items ≡ out.old.items ++ word_if differs word.now) }
 {
@@ -75,7 +86,11 @@ fn push_which(which: Which, out: &mut Vec<u8>) -> Result<(), AllocError>
 }
 
 /// Adds what differs of a change, if that is asked for.
-fn push_told(long: bool, change: &Change<Kept, Kept>, out: &mut Vec<u8>) -> Result<(), AllocError>
+fn push_told(
+    long: bool,
+    change: &Change<Held<'_, '_>, &Kept>,
+    out: &mut Vec<u8>,
+) -> Result<(), AllocError>
     ensures { OnOk result (out.new.items ≡ out.old.items ++ told_of long change.now) }
 {
     match change {
@@ -94,14 +109,14 @@ fn push_told(long: bool, change: &Change<Kept, Kept>, out: &mut Vec<u8>) -> Resu
 pub fn push_line(
     style: Style,
     long: bool,
-    change: &Change<Kept, Kept>,
+    change: &Change<Held<'_, '_>, &Kept>,
     out: &mut Vec<u8>,
 ) -> Result<(), AllocError>
     ensures { OnOk result (out.new.items ≡ out.old.items ++ line_of style long change.now) }
 {
     out.push(sign(change))?;
     out.push(b' ')?;
-    push_path(style, path_in(change), out)?;
+    push_path_in(style, change, out)?;
     push_told(long, change, out)?;
     out.push(style.separator)?;
     Ok(())

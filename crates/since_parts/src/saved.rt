@@ -4,9 +4,9 @@ ghost use Rattle.jwalk_snapshot.specs.Text.{text_in};
 ghost use Rattle.since_parts.specs.Saved.{keeps, AreSame, IsSame, IsTextOf};
 
 use crate::failure::Failure;
-use crate::held::held;
+use crate::held::{Held, all_held};
 use crate::tree::Tree;
-use jwalk_changes::{Facts as Compared, Kept};
+use jwalk_changes::{Entry, Facts as Compared, Kept};
 use jwalk_fs::path_text::{file_name, parent};
 use jwalk_snapshot::{Block, Facts, Head, Listing, Name, Snapshot, SnapshotError};
 use program_parts::halt::Halt;
@@ -109,16 +109,15 @@ fn keeps(kept: Compared, found: Compared) -> bool
 }
 
 /// Returns whether an entry that is kept is the same as one that was found.
-fn is_same(kept: &Kept, found: &Kept) -> bool
+fn is_same(kept: &Held<'_, '_>, found: &Kept) -> bool
     ensures { result ≡ true → IsSame kept.now found.now }
 {
-    kept.path.as_str() == found.path.as_str()
-        && !kept.facts.which(found.facts).any()
-        && keeps(kept.facts, found.facts)
+    let facts = kept.facts();
+    kept.is_at(found.path.as_str()) && !facts.which(found.facts).any() && keeps(facts, found.facts)
 }
 
 /// Returns whether all that was found is kept, one after another, and nothing else.
-fn are_same(kept: &[Kept], found: &[Kept]) -> bool
+fn are_same(kept: &[Held<'_, '_>], found: &[Kept]) -> bool
     ensures { result ≡ true → AreSame kept.now found.now }
 {
     if kept.len() != found.len() {
@@ -155,15 +154,15 @@ pub fn saved_text<E: Write>(
     ensures { IfOk result (λ text. IsTextOf (string_bytes tree.now.absolute) tree.now.choice entries.now (string_bytes text)) }
 {
     let words = tree.choice.words(alloc)?;
-    let snapshot = Snapshot {
-        head: Head {
-            root: tree.root.as_str(),
-            absolute: tree.absolute.as_str(),
-            words: texts_of(alloc, &words)?,
-        },
-        blocks: blocks_of(alloc, entries)?,
+    let words = texts_of(alloc, &words)?;
+    let head = Head {
+        root: tree.root.as_str(),
+        absolute: tree.absolute.as_str(),
+        words,
     };
-    let kept = held(alloc, &snapshot, true)?;
+    let blocks = blocks_of(alloc, entries)?;
+    let snapshot = Snapshot { head, blocks };
+    let kept = all_held(alloc, &snapshot, true)?;
     if !are_same(&kept, entries) {
         let _ = writeln!(err, "since: {file}: what was found can't be kept");
         return Err(Failure::Told);

@@ -57,7 +57,7 @@ fn folder_in(path: &str) -> &str
 }
 
 /// Returns what is behind the front, if the path begins with it.
-fn strip<'p>(front: &str, path: &'p str) -> Option<&'p str>
+pub(crate) fn strip<'p>(front: &str, path: &'p str) -> Option<&'p str>
     ensures { option_copied result ≡ strip front.now path.now }
 {
     path.strip_prefix(front)

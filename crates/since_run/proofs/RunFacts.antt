@@ -18,11 +18,10 @@ use Rattle.since_words.specs.declared.asked.Asked.{Asked}
 use Rattle.since_parts.specs.declared.choice.Choice.{Choice}
 use Rattle.since_parts.specs.declared.tree.Tree.{Tree}
 use Rattle.std.specs.Io.KnownBytes.{Appends}
-use Rattle.jwalk_changes.specs.declared.change.Change.{Change}
+use Rattle.since_parts.specs.Differences.{Difference}
 use Rattle.since_run.specs.declared.screen.Screen.{Screen}
-use Rattle.jwalk_snapshot.specs.Text.{Content, IsSnapshot, text_of}
 use Rattle.since_run.specs.declared.store.Store as Store
-use Rattle.since_run.specs.Done.{Begins, Compares, Lists, LooksAt, SavesAsked, Tells}
+use Rattle.since_run.specs.Done.{Begins, ComparesBytes, Lists, LooksAt, SavesAsked, Tells}
 use Rattle.program_walks.specs.Crew.{CrewCallsOf, IsCrewOf, threads_in}
 use Rattle.since_run.specs.Walks.{WalkYields}
 use Rattle.since_run.specs.Run.{HasTextAsked, IsLoaded, IsMissing, ReplacesBy, text_asked}
@@ -52,13 +51,18 @@ looks_at files texts calls disk reads crew file root other choice chosen tree ne
     subst (λ (c : Choice). LooksAt files texts calls disk reads crew file other c tree new) alike (subst (λ r. LooksAt files texts calls disk reads crew file r choice tree new) same looks)
 
 -- the lines of the same differences
-pub written_at : (asked : Asked) (screen : Screen) (before after : Option (List ℕ)) (these others : List (Change (Kept Global) (Kept Global))) → these ≡ others
+pub written_at : (asked : Asked) (screen : Screen) (before after : Option (List ℕ)) (these others : List Difference) → these ≡ others
     → Appends before after (text_asked asked screen these) → Appends before after (text_asked asked screen others)
 written_at asked screen before after these others same written = subst (λ l. Appends before after (text_asked asked screen l)) same written
 
 -- what is known of a value that is there
 pub ok_known : {X Y : Type 0} (r : Result X Y) (v : X) (P : X → Type 0) → r ≡ Ok v → IfOk r P → P v
 ok_known {X} {Y} r v P is said = subst (λ (o : Result X Y). IfOk o P) is said
+
+-- what is known of a status that says what was found, if it is low
+pub low_known : {X Y : Type 0} (r : Result X Y) (Low : X → Type 0) (C : Type 0) (P Q : X → Type 0) → IfOk r (λ x. Low x → C) → IfOk r (λ x. Low x → P x) → IfOk r (λ x. Low x → Q x) → IfOk r (λ x. Low x → C × (P x × Q x))
+low_known (Ok x) Low C P Q c p q = λ low. (c low, (p low, q low))
+low_known (Err e) Low C P Q c p q = tt
 
 module _ {T Z X K C N R E Y : Type 0} (files : FileSystem.Ghosts Z) (texts : Texts.Ghosts X) (store : Store.Ghosts K) (calls : CrewCallsOf T C (Arc Z Global) N Global R E)
     (disk shared : Z) (reads : X) (cores threads : ℕ) (crew : Option (Arc (Crew T) Global)) (asked : Asked) (screen : Screen) (before after : Option (List ℕ)) (old new : K) (found : Option (Vec ℕ Global)) (ended : Result ℕ Y) where
@@ -80,40 +84,41 @@ module _ {T Z X K C N R E Y : Type 0} (files : FileSystem.Ghosts Z) (texts : Tex
       })
 
   -- a snapshot in a file that is listed
-  pub tells_listed : (bytes : Vec ℕ Global) (snapshot : Content) → threads ≡ threads_in cores asked.threads → IsCrewOf threads crew → IsLoaded texts reads asked found → found ≡ Some bytes
-      → IsSnapshot snapshot → bytes.items ≡ text_of snapshot → asked.lists ≡ true → new ≡ old
-      → IfOk ended (Lists asked screen snapshot before after)
+  pub tells_listed : (bytes : Vec ℕ Global) → threads ≡ threads_in cores asked.threads → IsCrewOf threads crew → IsLoaded texts reads asked found → found ≡ Some bytes
+      → asked.lists ≡ true → new ≡ old → IfOk ended (Lists asked screen bytes.items before after)
       → IfOk ended (λ status. status ≤ 1 → Tells files texts store calls disk reads cores asked screen before after old new status)
-  tells_listed bytes snapshot many is_crew loaded some is_one has listed unsaved =
-      let read = subst (IsLoaded texts reads asked) some loaded in
+  tells_listed bytes many is_crew loaded some listed unsaved =
       IfOk-weaker ended _ _ (λ status lists. λ low. record {
         crew = crew;
         is_crew = subst (λ (n : ℕ). IsCrewOf n crew) many is_crew;
         either = inr (inl (record {
-          snapshot = snapshot;
-          is_one = is_one;
-          read = λ fixed. read fixed ∙ ap Ok has;
           listed = listed;
+          bytes = bytes.items;
+          read = subst (IsLoaded texts reads asked) some loaded;
           lists = lists;
           unsaved = unsaved;
         }));
       })
 
   -- a snapshot in a file that is compared
-  pub tells_compared : (bytes : Vec ℕ Global) (snapshot : Content) → shared ≡ disk → threads ≡ threads_in cores asked.threads → IsCrewOf threads crew → IsLoaded texts reads asked found → found ≡ Some bytes
-      → IsSnapshot snapshot → bytes.items ≡ text_of snapshot → asked.lists ≡ false
-      → IfOk ended (λ status. status ≤ 1 → Compares files texts store calls shared reads crew asked screen snapshot before after old new status)
+  pub tells_compared : (bytes : Vec ℕ Global) (tree : Tree) (entries : List (Kept Global)) (told : ℕ) (Clean : Type 0) → shared ≡ disk → threads ≡ threads_in cores asked.threads → IsCrewOf threads crew → IsLoaded texts reads asked found → found ≡ Some bytes
+      → asked.lists ≡ false → (Clean → ComparesBytes files texts calls shared reads crew asked screen bytes.items before after tree entries told)
+      → IfOk ended (λ status. status ≤ 1 → Clean × ((status ≡ told) × SavesAsked store.Replaces asked tree entries old new))
       → IfOk ended (λ status. status ≤ 1 → Tells files texts store calls disk reads cores asked screen before after old new status)
-  tells_compared bytes snapshot same many is_crew loaded some is_one has compared =
-      let read = subst (IsLoaded texts reads asked) some loaded in
-      IfOk-weaker ended _ _ (λ status done. λ low. record {
+  tells_compared bytes tree entries told Clean same many is_crew loaded some compared compares =
+      IfOk-weaker ended _ _ (λ status saved. λ low.
+      let done = saved low in
+      let by_told = subst (λ (d : Z). ComparesBytes files texts calls d reads crew asked screen bytes.items before after tree entries told) same (compares done.0) in
+      record {
         crew = crew;
         is_crew = subst (λ (n : ℕ). IsCrewOf n crew) many is_crew;
         either = inr (inr (record {
-          snapshot = snapshot;
-          is_one = is_one;
-          read = λ fixed. read fixed ∙ ap Ok has;
           compared = compared;
-          compares = subst (λ (d : Z). Compares files texts store calls d reads crew asked screen snapshot before after old new status) same (done low);
+          bytes = bytes.items;
+          read = subst (IsLoaded texts reads asked) some loaded;
+          tree = tree;
+          entries = entries;
+          compares = subst (λ (s : ℕ). ComparesBytes files texts calls disk reads crew asked screen bytes.items before after tree entries s) (sym done.1.0) by_told;
+          saves = done.1.1;
         }));
       })

@@ -6,12 +6,12 @@ use Rattle.std.specs.declared.io.Error.{Error}
 use Rattle.std.specs.declared.io.ErrorKind.TheVariants.{NotFound}
 use Rattle.std.specs.declared.string.String.{String}
 use Rattle.std.specs.declared.vec.Vec.{Vec}
-use Rattle.jwalk_changes.specs.declared.change.Change.{Change}
 use Rattle.jwalk_changes.specs.declared.entry.Kept.{Kept}
 use Rattle.jwalk_ignore_rules.specs.declared.rules.texts.Texts as Texts
 use Rattle.program_parts.specs.declared.paths.Style.{Style}
 use Rattle.jwalk_snapshot.specs.Text.{Content}
 use Rattle.since_parts.specs.Choice.{words_of}
+use Rattle.since_parts.specs.Differences.{Difference}
 use Rattle.since_parts.specs.Line.{lines_of}
 use Rattle.since_parts.specs.Row.{rows_of}
 use Rattle.since_words.specs.declared.asked.Asked.{Asked}
@@ -29,7 +29,7 @@ abbrev pub style_asked : Asked → Screen → Style
 style_asked asked screen = record { here = false; to_terminal = screen.is_terminal; separator = separator_of asked.print0 }
 
 -- the text of differences: none if no lines are asked for
-abbrev pub text_asked : Asked → Screen → List (Change (Kept Global) (Kept Global)) → List ℕ
+abbrev pub text_asked : Asked → Screen → List Difference → List ℕ
 text_asked asked screen changes = if asked.quiet then [] else lines_of (style_asked asked screen) asked.long changes
 
 -- the rows of what a snapshot holds: none if no lines are asked for
@@ -37,7 +37,7 @@ abbrev pub rows_asked : Asked → Screen → Content → List ℕ
 rows_asked asked screen snapshot = if asked.quiet then [] else rows_of (style_asked asked screen) snapshot.folders
 
 -- the status by differences
-abbrev pub status_for : List (Change (Kept Global) (Kept Global)) → ℕ
+abbrev pub status_for : List Difference → ℕ
 status_for changes = if length changes == 0 then 0 else 1
 
 -- the root that is asked for, or else another

@@ -7,6 +7,7 @@ use jwalk_changes::{Change, Kept};
 use program_parts::gathered::Gathered;
 use program_parts::halt::Halt;
 use program_parts::paths::Style;
+use since_parts::held::Held;
 use since_parts::line::push_line;
 use std::alloc::{AllocError, Global};
 use std::io::Write;
@@ -15,7 +16,7 @@ fn lines_of(
     alloc: Global,
     style: Style,
     long: bool,
-    changes: &[Change<Kept, Kept>],
+    changes: &[Change<Held<'_, '_>, &Kept>],
 ) -> Result<Vec<u8>, AllocError>
     ensures { IfOk result (λ text. text.items ≡ lines_of style long changes.now) }
 {
@@ -31,7 +32,7 @@ pub(crate) fn write_lines<W: Write>(
     alloc: Global,
     style: Style,
     long: bool,
-    changes: &[Change<Kept, Kept>],
+    changes: &[Change<Held<'_, '_>, &Kept>],
     out: &mut W,
 ) -> Result<(), Halt>
     ensures { OnOk result (Appends (W.contents out.old) (W.contents out.new) (lines_of style long changes.now)) }

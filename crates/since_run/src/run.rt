@@ -5,7 +5,7 @@ ghost use Rattle.std.specs.Io.KnownBytes.{Appends};
 ghost use Rattle.jwalk_model.specs.Paths.{dot};
 ghost use Rattle.jwalk_snapshot.specs.Text.{content_of, text_of, IsSnapshot};
 ghost use Rattle.since_run.specs.Run.{root_asked, rows_asked, separator_of, status_for, style_asked, text_asked, HasTextAsked, IsLoaded, IsMissing, ReplacesBy};
-ghost use Rattle.since_run.specs.Done.{Begins, Compares, IsDone, Lists, LooksAt, Tells};
+ghost use Rattle.since_run.specs.Done.{Begins, Compares, ComparesBytes, IsDone, Lists, LooksAt, SavesAsked, Tells};
 
 use crate::choice::{choice_asked, choice_for};
 use crate::find::{WholeWalk, find};
@@ -26,7 +26,7 @@ use since_parts::choice::Choice;
 use since_parts::differences::differences;
 use since_parts::failure::Failure;
 use since_parts::found::Found;
-use since_parts::held::held;
+use since_parts::held::{Held, all_held};
 use since_parts::saved::saved_text;
 use since_parts::tree::Tree;
 use since_words::asked::Asked;
@@ -34,6 +34,15 @@ use since_words::words::read_words;
 use std::alloc::Global;
 use std::io::{self, ErrorKind, Write};
 use std::sync::Arc;
+
+/// What a comparison found.
+#[derive(Drop)]
+struct Told {
+    tree: Tree,
+    found: Found,
+    /// 0 if nothing differs, and else 1.
+    status: u8,
+}
 
 fn separator_of(print0: bool) -> u8
     ensures { result ≡ separator_of print0 }
@@ -171,7 +180,7 @@ fn write_changes<W: Write>(
     alloc: Global,
     asked: &Asked<'_>,
     screen: Screen,
-    changes: &[Change<Kept, Kept>],
+    changes: &[Change<Held<'_, '_>, &Kept>],
     out: &mut W,
 ) -> Result<(), Halt>
     ensures { OnOk result (Appends (W.contents out.old) (W.contents out.new) (text_asked asked.now screen changes.now)) }
@@ -197,7 +206,7 @@ fn write_listed<W: Write>(
     write_rows(alloc, style_of(asked, screen), &snapshot.blocks, out)
 }
 
-fn status_for(changes: &[Change<Kept, Kept>]) -> u8
+fn status_for(changes: &[Change<Held<'_, '_>, &Kept>]) -> u8
     ensures { result ≡ status_for changes.now }
 {
     if changes.is_empty() { 0 } else { 1 }
@@ -223,6 +232,28 @@ fn root_or_here<'a>(asked: &Asked<'a>) -> &'a str
     }
 }
 
+/// Replaces the file by what was found, if that is asked for. Returns the status.
+fn save_told<K: Store, E: Write>(
+    alloc: Global,
+    store: &mut K,
+    asked: &Asked<'_>,
+    told: &Told,
+    err: &mut E,
+) -> Result<u8, Failure>
+    requires { told.now.status ≤ 1 }
+    ensures status { IfOk result (λ status. status ≤ 2) }
+    ensures clean { IfOk result (λ status. status ≤ 1 → told.now.found.clean ≡ true) }
+    ensures tells { IfOk result (λ status. status ≤ 1 → status ≡ told.now.status) }
+    ensures saves { IfOk result (λ status. status ≤ 1 → SavesAsked K.Replaces asked.now told.now.tree told.now.found.entries.items store.old store.new) }
+{
+    let text = text_to_save(alloc, asked, &told.tree, &told.found, err)?;
+    if !told.found.clean {
+        return Ok(2);
+    }
+    replace(store, asked.file, &text, err)?;
+    Ok(told.status)
+}
+
 /// Saves a first snapshot. Returns the status.
 fn begin<T: Host, S: FileSystem + Send + Sync + 'static, X: Texts, K: Store, E: Write>(
     alloc: Global,
@@ -240,65 +271,85 @@ fn begin<T: Host, S: FileSystem + Send + Sync + 'static, X: Texts, K: Store, E: 
     let root = root_or_here(asked);
     let choice = choice_asked(asked, Choice::ALL);
     let (tree, found) = look(alloc, disk, crew, texts, asked.file, root, choice, err)?;
-    let text = text_to_save(alloc, asked, &tree, &found, err)?;
-    let clean = found.clean;
-    if !clean {
-        return Ok(2);
-    }
-    replace(store, asked.file, &text, err)?;
-    Ok(0)
+    let status = 0;
+    let told = Told {
+        tree,
+        found,
+        status,
+    };
+    save_told(alloc, store, asked, &told, err)
 }
 
-/// Writes what differs from a snapshot. Returns the status.
-fn compare<T: Host, S: FileSystem + Send + Sync + 'static, X: Texts, K: Store, W: Write, E: Write>(
+/// Writes what differs from a snapshot.
+fn compare<T: Host, S: FileSystem + Send + Sync + 'static, X: Texts, W: Write, E: Write>(
     alloc: Global,
     disk: Arc<S>,
     crew: &Option<Arc<Crew<T>>>,
     texts: &X,
-    store: &mut K,
     asked: &Asked<'_>,
     screen: Screen,
     snapshot: &Snapshot<'_>,
     out: &mut W,
     err: &mut E,
-) -> Result<u8, Failure>
-    ensures status { IfOk result (λ status. status ≤ 2) }
-    ensures compares { IfOk result (λ status. status ≤ 1 → Compares S.FileSystem X.Texts K.Store ⟦<WholeWalk<T, S> as Iterator>⟧.next_gives
-        (arc_value disk) texts.now crew.now asked.now screen (content_of snapshot.now) (W.contents out.old) (W.contents out.new) store.old store.new status) }
+) -> Result<Told, Failure>
+    ensures status { IfOk result (λ told. told.status ≤ 1) }
+    ensures compares { IfOk result (λ told. told.found.clean ≡ true → Compares S.FileSystem X.Texts ⟦<WholeWalk<T, S> as Iterator>⟧.next_gives
+        (arc_value disk) texts.now crew.now asked.now screen (content_of snapshot.now) (W.contents out.old) (W.contents out.new) told.tree told.found.entries.items told.status) }
 {
     let choice = choice_for(alloc, asked, &snapshot.head.words, err)?;
     let root = root_asked(asked, snapshot.head.absolute);
     let (tree, found) = look(alloc, disk, crew, texts, asked.file, root, choice, err)?;
-    let text = text_to_save(alloc, asked, &tree, &found, err)?;
-    let clean = found.clean;
     let numbers = snapshot.head.absolute == tree.absolute.as_str();
-    let old = held(alloc, snapshot, numbers)?;
-    let changes = differences(alloc, old, found, err)?;
+    let old = all_held(alloc, snapshot, numbers)?;
+    let changes = differences(alloc, old, &found, err)?;
     write_changes(alloc, asked, screen, &changes, out)?;
-    if !clean {
-        return Ok(2);
-    }
-    replace(store, asked.file, &text, err)?;
-    Ok(status_for(&changes))
+    let status = status_for(&changes);
+    drop(changes);
+    Ok(Told {
+        tree,
+        found,
+        status,
+    })
 }
 
-/// Writes a row for each entry that a snapshot has. Returns the status.
+/// Writes what differs from the snapshot in a file, whose bytes are let go.
+fn compare_file<T: Host, S: FileSystem + Send + Sync + 'static, X: Texts, W: Write, E: Write>(
+    alloc: Global,
+    disk: Arc<S>,
+    crew: &Option<Arc<Crew<T>>>,
+    texts: &X,
+    asked: &Asked<'_>,
+    screen: Screen,
+    bytes: Vec<u8>,
+    out: &mut W,
+    err: &mut E,
+) -> Result<Told, Failure>
+    ensures status { IfOk result (λ told. told.status ≤ 1) }
+    ensures compares { IfOk result (λ told. told.found.clean ≡ true → ComparesBytes S.FileSystem X.Texts ⟦<WholeWalk<T, S> as Iterator>⟧.next_gives
+        (arc_value disk) texts.now crew.now asked.now screen bytes.items (W.contents out.old) (W.contents out.new) told.tree told.found.entries.items told.status) }
+{
+    let snapshot = read_snapshot(alloc, asked.file, &bytes, err)?;
+    compare(alloc, disk, crew, texts, asked, screen, &snapshot, out, err)
+}
+
+/// Writes a row for each entry that the snapshot in a file has. Returns the status.
 fn list<W: Write, E: Write>(
     alloc: Global,
     asked: &Asked<'_>,
     screen: Screen,
-    snapshot: &Snapshot<'_>,
+    bytes: &[u8],
     out: &mut W,
     err: &mut E,
 ) -> Result<u8, Failure>
     ensures status { IfOk result (λ status. status ≤ 2) }
-    ensures lists { IfOk result (Lists asked.now screen (content_of snapshot.now) (W.contents out.old) (W.contents out.new)) }
+    ensures lists { IfOk result (Lists asked.now screen bytes.now (W.contents out.old) (W.contents out.new)) }
 {
     if let Some(root) = asked.root {
         let _ = writeln!(err, "since: {root}: with --rows no root is read");
         return Err(Failure::Told);
     }
-    write_listed(alloc, asked, screen, snapshot, out)?;
+    let snapshot = read_snapshot(alloc, asked.file, bytes, err)?;
+    write_listed(alloc, asked, screen, &snapshot, out)?;
     Ok(0)
 }
 
@@ -324,13 +375,11 @@ fn since<T: Host, S: FileSystem + Send + Sync + 'static, X: Texts, K: Store, W: 
     let Some(bytes) = load(alloc, texts, asked, err)? else {
         return begin(alloc, disk, &crew, texts, store, asked, err);
     };
-    let snapshot = read_snapshot(alloc, asked.file, &bytes, err)?;
     if asked.lists {
-        return list(alloc, asked, screen, &snapshot, out, err);
+        return list(alloc, asked, screen, &bytes, out, err);
     }
-    compare(
-        alloc, disk, &crew, texts, store, asked, screen, &snapshot, out, err,
-    )
+    let told = compare_file(alloc, disk, &crew, texts, asked, screen, bytes, out, err)?;
+    save_told(alloc, store, asked, &told, err)
 }
 
 /// What ended the call before its end is reported.
