@@ -48,10 +48,7 @@ fn main(rt: HostRuntime) -> ExitCode {
             &mut err,
         ),
         Err(error) => {
-            err.tell(
-                "tally",
-                format_args!("words that can't be read: {error}"),
-            );
+            err.tell("tally", format_args!("words that can't be read: {error}"));
             2
         }
     };

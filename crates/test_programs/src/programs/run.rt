@@ -109,9 +109,7 @@ fn ran<
                 width: 80,
             };
             let mut err = Errors::new(err);
-            tally_run::run::run(
-                clock, alloc, 4, disk, texts, words, screen, out, &mut err,
-            )
+            tally_run::run::run(clock, alloc, 4, disk, texts, words, screen, out, &mut err)
         }
         Program::Walk => {
             let (mut input, mut err) = (row.input, Errors::new(err));
