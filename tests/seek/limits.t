@@ -24,6 +24,12 @@ $ seek --sort --max-results=2 . r
 $ seek --sort --max-results=2 --ignore-file=named -I . r
   r/a.o
   r/c.c
+$ seek --sort --max-results=1 --ignore-file=named . r
+  r/d.c
+$ seek --sort -1 --ignore-file=named -I [bc] r
+  r/c.c
+$ seek --sort -a1 --ignore-file=named . r
+  /r/d.c
 $ seek --sort -1 -I . r
   r/a.o
 $ seek --sort -1 -p r/[acd] r
@@ -46,4 +52,11 @@ $ seek -q ^c r
 $ seek -q -I ^[ac] r
 $ seek -q -p r/d r
 $ seek -q -p r/c r
+= 1
+$ seek -q -p --ignore-file=named r/b r
+= 1
+$ seek -qap ^/r/d r
+$ seek -qap ^/r/[ac] r
+= 1
+$ seek -qap --ignore-file=named ^/r/[bc] r
 = 1

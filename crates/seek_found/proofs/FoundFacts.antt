@@ -14,8 +14,8 @@ use Rattle.seek_words.specs.Layout.{Form}
 use Rattle.seek_words.specs.Paint.{asks}
 use Rattle.seek_found.specs.Found.{found_line, found_lines, is_clean, IfAsked, PrintsFound}
 use Rattle.seek_found.specs.Limit.{left_after, up_to}
-use Rattle.seek_found.specs.Prune.{unpruned, unpruned_behind}
-use Rattle.seek_found.proofs.LimitFacts.{left_as_before, left_then, never_full, up_to_more, up_to_none}
+use Rattle.seek_found.specs.Prune.{unpruned_behind}
+use Rattle.seek_found.proofs.LimitFacts.{left_as_before, left_then, up_to_more, up_to_none}
 use Rattle.seek_found.proofs.PruneFacts.{below_all, below_more, next_below, unpruned_is, unpruned_then, unpruned_within}
 
 -- the disk is asked only if this holds, by other names of what is looked for and of the form of lines
@@ -129,8 +129,3 @@ module _ {S C A R E : Type 0} (steps : S → Option (Result (DirEntry C A R E) (
   -- no further call, if the limit is reached
   pub enough_found : (now : S) (left' below : Option ℕ) (old new : Option (List ℕ)) (clean : Bool) → FoundSoFar now left' below old new clean → left' ≡ Some 0 → PrintsFound steps start sought form left left' old new clean
   enough_found now left' below old new clean so_far full = ended so_far (inr (full, (now, so_far.calls)))
-
--- without a limit none is reached
-pub found_unlimited : {S C A R E : Type 0} {steps : S → Option (Result (DirEntry C A R E) (Error A)) → S → Type 0} {start : S} {sought : Sought} {form : Form} {left left' : Option ℕ} {old new : Option (List ℕ)} {clean : Bool}
-    → PrintsFound steps start sought form left left' old new clean → left ≡ None → left' ≡ Some 0 → ⊥
-found_unlimited {sought} prints none full = never_full sought (unpruned sought (map item prints.answered)) none prints.limit full

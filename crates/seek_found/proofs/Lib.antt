@@ -7,6 +7,7 @@ pub mod PruneFacts
 pub mod FoundFacts
 pub mod WholeFacts
 pub mod CleanFacts
+pub mod FirstFacts
 pub mod ShownFacts
 mod SoughtFacts
 mod TestFacts

@@ -96,11 +96,6 @@ module _ {R E : Type 0} (sought : Sought) where
         | false ↦ none_left_behind xs
       ] found
 
--- without a limit, none is reached
-pub never_full : {R E : Type 0} (sought : Sought) (xs : List (Item R E)) {left left' : Option ℕ} → left ≡ None → left' ≡ left_after sought left xs → left' ≡ Some 0 → ⊥
-never_full sought xs {left} {left'} none limit full =
-    let no : ◌≡◌ {A = Option ℕ} None (Some 0) = sym (limit ∙ ap (λ l. left_after sought l xs) none) ∙ full in absurd (cc)
-
 -- if one may be found, and no further one after these answers, one of them is found
 pub one_of_one : {R E : Type 0} (sought : Sought) (xs : List (Item R E)) {left left' : Option ℕ} → left ≡ Some 1 → left' ≡ left_after sought left xs → left' ≡ Some 0 → list_any (is_hit sought) xs ≡ true
 one_of_one sought xs {left} {left'} one limit full =

@@ -1,11 +1,16 @@
 -- Answers without those below a find, one list after another.
-use Rattle.std.proofs.Common.{◌≡◌, ◌≢◌, ◌∙◌, ℕ, Bool, true, false, ◌&&◌, List, [], ◌∷◌, ◌++◌, Option, None, Some, Ok, Err, ap, refl, sym}
+use Rattle.std.proofs.Common.{◌≡◌, ◌≢◌, ◌∙◌, ℕ, Bool, true, false, ◌&&◌, ◌||◌, List, [], ◌∷◌, ◌++◌, Option, None, Some, Ok, Err, ap, refl, sym}
+use Rattle.std.specs.List.{list_any}
 use Rattle.std.specs.Prelude.{if◌then◌else◌}
 use Rattle.jwalk_model.specs.Entry.{Item}
 use Rattle.seek_words.specs.Sought.{Sought}
 use Rattle.seek_found.specs.Limit.{is_hit, up_to}
 use Rattle.seek_found.specs.Prune.{below_after, is_below, unpruned, unpruned_behind}
 use Rattle.seek_found.proofs.LimitFacts.{one_within, up_to_none}
+
+and_false : (b : Bool) → (b && false) ≡ false
+and_false true = refl
+and_false false = refl
 
 module _ {R E : Type 0} (sought : Sought) where
   -- the depth of the last find, with one more answer
@@ -52,6 +57,19 @@ module _ {R E : Type 0} (sought : Sought) where
   -- and any other
   pub kept : (below : Option ℕ) (x : Item R E) → is_below below x ≡ false → unpruned_behind sought below (x ∷ []) ≡ x ∷ []
   kept below x is = let kept : Bool → List (Item R E) = λ b. if b then [] else x ∷ [] in ap kept is
+
+  -- the first find is below none, so that one is found if and only if one is found among those that aren't below a find
+  found_behind : (xs : List (Item R E)) → list_any (is_hit sought) (unpruned_behind sought None xs) ≡ list_any (is_hit sought) xs
+  found_behind [] = refl
+  found_behind (Ok e ∷ xs) =
+      elim (is_hit sought (Ok e)) as (λ h. (h || list_any (is_hit sought) (unpruned_behind sought (if sought.prunes && h then Some e.depth else None) xs)) ≡ (h || list_any (is_hit sought) xs)) [
+        | true ↦ refl
+        | false ↦ ap (λ b. list_any (is_hit sought) (unpruned_behind sought (if b then Some e.depth else None) xs)) (and_false sought.prunes) ∙ found_behind xs
+      ]
+  found_behind (Err f ∷ xs) = found_behind xs
+
+  pub found_unpruned : (xs : List (Item R E)) → list_any (is_hit sought) (unpruned sought xs) ≡ list_any (is_hit sought) xs
+  found_unpruned xs = ap (list_any (is_hit sought)) (unpruned_is xs) ∙ found_behind xs
 
   -- one answer isn't beyond a limit that isn't reached
   pub unpruned_within : (left below : Option ℕ) (x : Item R E) → left ≢ Some 0 → up_to sought left (unpruned_behind sought below (x ∷ [])) ≡ unpruned_behind sought below (x ∷ [])

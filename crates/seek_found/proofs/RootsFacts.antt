@@ -1,5 +1,5 @@
 -- The text that is printed for the answers below roots, one root after another.
-use Rattle.std.proofs.Common.{◌≡◌, ◌⊎◌, ◌∙◌, ℕ, Bool, true, false, ◌≢◌, ◌&&◌, List, [], ◌∷◌, ◌++◌, map, Option, None, Some, Result, append_assoc, append-nil, inl, inr, ap, ap₂, refl, subst, sym}
+use Rattle.std.proofs.Common.{◌≡◌, ◌⊎◌, ◌∙◌, ℕ, Bool, true, false, ◌≢◌, ◌&&◌, List, [], ◌∷◌, ◌++◌, map, Option, Some, Result, append_assoc, append-nil, inl, inr, ap, ap₂, refl, subst, sym}
 use Rattle.std.specs.List.{list_all, list_any}
 use Rattle.std.specs.Io.KnownBytes.{Appends, append_known}
 use Rattle.std.proofs.lemmas.Grind.{flat_map-append}
@@ -17,7 +17,7 @@ use Rattle.seek_found.specs.Prune.{unpruned}
 use Rattle.seek_found.specs.Roots.{AreBelow, Below, PrintsSuch}
 use Rattle.program_parts.proofs.GatheredFacts.{gathered_written}
 use Rattle.seek_found.proofs.FoundFacts.{all_seam, appends_none, appends_then}
-use Rattle.seek_found.proofs.LimitFacts.{left_as_before, left_then, never_full, none_of_one, one_of_one, up_to_more, up_to_none}
+use Rattle.seek_found.proofs.LimitFacts.{left_as_before, left_then, none_of_one, one_of_one, up_to_more, up_to_none}
 use Rattle.seek_found.proofs.WholeFacts.{all_clean, same_after, same_lines, same_unpruned, same_up_to}
 
 module _ {sought : Sought} {form : Form} {left left' : Option ℕ} {old new : Option (List ℕ)} {clean : Bool} where
@@ -39,14 +39,6 @@ module _ {sought : Sought} {form : Form} {left left' : Option ℕ} {old new : Op
       (subst (λ (s : Form). PrintsSuch are sought' s left left' old new clean) form_is (subst (λ (s : Sought). PrintsSuch are s form left left' old new clean) sought_is printed))
 
 module _ {are : List (Item Worth Worth) → Type 0} {sought : Sought} {form : Form} {left left' : Option ℕ} {old new : Option (List ℕ)} {clean : Bool} where
-  -- without a limit none is reached
-  pub none_reached : PrintsSuch are sought form left left' old new clean → left ≡ None → left' ≡ Some 0 → ⊥
-  none_reached printed none full = never_full sought printed.answers none printed.limit full
-
-  -- and there is none after it
-  pub none_after : PrintsSuch are sought form left left' old new clean → left ≡ None → left' ≡ None
-  none_after printed none = printed.limit ∙ ap (λ l. left_after sought l printed.answers) none
-
   -- one was found if and only if a limit of one is reached
   pub found_if_full : (printed : PrintsSuch are sought form left left' old new clean) → left ≡ Some 1 → (full : Bool) → (full ≡ true → left' ≡ Some 0) → (full ≡ false → left' ≢ Some 0) → list_any (is_hit sought) printed.answers ≡ full
   found_if_full printed one true reached room = one_of_one sought printed.answers one printed.limit (reached refl)

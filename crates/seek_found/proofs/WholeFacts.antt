@@ -1,10 +1,8 @@
 -- The text that is printed for answers doesn't depend on their states.
-use Rattle.std.proofs.Common.{◌≡◌, ◌<◌, ◌∙◌, ℕ, zero, suc, Bool, true, false, ◌&&◌, List, [], ◌∷◌, ◌++◌, Option, Some, None, Result, Ok, Err, map, sym, ap, ap₂, arith, subst, refl}
+use Rattle.std.proofs.Common.{◌≡◌, ◌<◌, ◌∙◌, ℕ, zero, suc, Bool, true, false, ◌&&◌, ◌||◌, List, [], ◌∷◌, ◌++◌, Option, Some, None, Result, Ok, Err, map, sym, ap, ap₂, arith, refl}
 use Rattle.std.specs.Prelude.{nat_lt, if◌then◌else◌}
 use Rattle.std.proofs.lemmas.Bool.Decides.{nat_tests}
-use Rattle.std.specs.List.{list_all}
-use Rattle.std.specs.Io.KnownBytes.{Appends}
-use Rattle.jwalk_model.specs.Counted.{Worth}
+use Rattle.std.specs.List.{list_all, list_any}
 use Rattle.jwalk_model.specs.Entry.{Item}
 use Rattle.jwalk_job.specs.declared.dir_entry.DirEntry.{DirEntry}
 use Rattle.jwalk_job.specs.declared.error.Error.{Error}
@@ -15,7 +13,7 @@ use Rattle.seek_words.specs.Sought.{Sought}
 use Rattle.seek_words.specs.Layout.{Form}
 use Rattle.seek_found.specs.Limit.{is_hit, first_of, left_after, left_of, up_to}
 use Rattle.seek_found.specs.Prune.{below_after, is_below, unpruned, unpruned_behind}
-use Rattle.seek_found.specs.Found.{found_line, found_lines, is_clean, PrintsClean}
+use Rattle.seek_found.specs.Found.{found_line, found_lines, is_clean}
 use Rattle.seek_found.proofs.PruneFacts.{unpruned_is}
 
 module _ {R E : Type 0} (given : Given R E) where
@@ -33,6 +31,12 @@ module _ {R E : Type 0} (given : Given R E) where
   same_hit : (sought : Sought) (x : Item R E) → is_hit sought (counted_item given x) ≡ is_hit sought x
   same_hit sought (Ok e) = refl
   same_hit sought (Err f) = refl
+
+  -- nor does whether one is looked for
+  pub same_hits : (sought : Sought) (xs : List (Item R E)) → list_any (is_hit sought) (map (counted_item given) xs) ≡ list_any (is_hit sought) xs
+  same_hits sought [] = refl
+  same_hits sought (x ∷ xs) =
+      ap (λ b. b || list_any (is_hit sought) (map (counted_item given) xs)) (same_hit sought x) ∙ ap (λ b. is_hit sought x || b) (same_hits sought xs)
 
   same_left : (sought : Sought) (n : ℕ) (xs : List (Item R E)) → left_of sought n (map (counted_item given) xs) ≡ left_of sought n xs
   same_left sought zero xs = refl
@@ -95,18 +99,6 @@ module _ {R E : Type 0} (given : Given R E) where
   all_clean [] = refl
   all_clean (x ∷ xs) =
       ap (λ b. b && list_all is_clean (map (counted_item given) xs)) (same_clean x) ∙ ap (λ b. is_clean x && b) (all_clean xs)
-
-  -- the text that is printed for answers is printed for the whole walk that they count as
-  pub printed_whole : (sought : Sought) (form : Form) (old new : Option (List ℕ)) (clean : Bool) (xs : List (Item R E)) (whole : List (Item Worth Worth))
-      → clean ≡ true → clean ≡ list_all is_clean (unpruned sought xs) → Appends old new (found_lines sought form (unpruned sought xs)) → map (counted_item given) xs ≡ whole
-      → PrintsClean (unpruned sought whole) sought form old new
-  printed_whole sought form old new clean xs whole is all lines told =
-      let kept = unpruned sought xs in
-      let same : map (counted_item given) kept ≡ unpruned sought whole = sym (same_unpruned sought xs) ∙ ap (unpruned sought) told in
-      record {
-        lines = subst (λ l. Appends old new l) (sym (same_lines sought form kept) ∙ ap (found_lines sought form) same) lines;
-        clean = ap (list_all is_clean) (sym same) ∙ all_clean kept ∙ sym all ∙ is;
-      }
 
 rest_true : (a b : Bool) → (a && b) ≡ true → b ≡ true
 rest_true true b is = is

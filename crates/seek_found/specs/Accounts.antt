@@ -1,5 +1,5 @@
 -- Users and groups by name, as in `/etc/passwd` and `/etc/group`.
-use Rattle.std.specs.Prelude.{ℕ, ◌^◌, Bool, nat_lt, List, [], ◌∷◌, bytes_eq, option_and_then, Option, None, Some, if◌then◌else◌}
+use Rattle.std.specs.Prelude.{ℕ, ◌^◌, nat_lt, List, [], ◌∷◌, bytes_eq, option_and_then, Option, None, Some, if◌then◌else◌}
 use Rattle.std.specs.List.{after_first, before_first, filter_map}
 use Rattle.jwalk_ignore_rules.specs.Pattern.Pieces.{is_byte, pieces}
 use Rattle.seek_words.specs.Size.{digits_number}

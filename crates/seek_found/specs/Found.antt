@@ -1,6 +1,6 @@
 -- The text that is printed for a walk's answers.
 use Rattle.std.specs.Prelude.{◌≡◌, ◌⊎◌, ℕ, ◌==◌, Bool, true, false, not, ◌&&◌, List, [], Option, Some, Result, Ok, Err, map, flat_map, is_some, option_and_then, if◌then◌else◌}
-use Rattle.std.specs.List.{list_all}
+use Rattle.std.specs.List.{list_all, list_any}
 use Rattle.std.specs.Iterator.{Drains, Yields}
 use Rattle.std.specs.Io.KnownBytes.{Appends}
 use Rattle.jwalk_job.specs.declared.dir_entry.DirEntry.{DirEntry}
@@ -10,7 +10,7 @@ use Rattle.jwalk_model.specs.Entry.{Entry, Item}
 use Rattle.seek_words.specs.Sought.{Sought, is_found, IfEmpties}
 use Rattle.seek_words.specs.Layout.{Form, form_line}
 use Rattle.seek_words.specs.Paint.{IfAsksLinks}
-use Rattle.seek_found.specs.Limit.{left_after, up_to}
+use Rattle.seek_found.specs.Limit.{is_hit, left_after, up_to}
 use Rattle.seek_found.specs.Prune.{unpruned}
 
 -- The disk is asked about empty entries that are looked for, and where links lead, only if this holds.
@@ -45,6 +45,14 @@ module _ {R E : Type 0} where
 pub record PrintsClean {R E : Type 0} (answers : List (Item R E)) (sought : Sought) (form : Form) (old new : Option (List ℕ)) : Type 0 where
   pub lines : Appends old new (found_lines sought form answers)
   pub clean : list_all is_clean answers ≡ true
+
+-- If all answers that count are clean, the first of these answers count, up to the limit: they are clean, and the line of
+-- each that is looked for is printed. `left` is how many more may be found before, and `left'` after it. One of the
+-- answers is looked for, clean or not, if one more may be found before, and none after it.
+pub record PrintsFirst {R E : Type 0} (answers : List (Item R E)) (sought : Sought) (form : Form) (left left' : Option ℕ) (old new : Option (List ℕ)) (clean : Bool) : Type 0 where
+  pub first : clean ≡ true → PrintsClean (up_to sought left answers) sought form old new
+  pub limit : clean ≡ true → left' ≡ left_after sought left (up_to sought left answers)
+  pub one : left ≡ Some 1 → left' ≡ Some 0 → list_any (is_hit sought) answers ≡ true
 
 module _ {S C A R E : Type 0} (steps : S → Option (Result (DirEntry C A R E) (Error A)) → S → Type 0) (answers : S) where
   -- The iterator was called until it ended or the limit was reached. The line of each answer that is looked for was

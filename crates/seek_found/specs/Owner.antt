@@ -1,5 +1,5 @@
 -- The owner that a call names, by the files of users and groups.
-use Rattle.std.specs.Prelude.{◌≡◌, ℕ, ◌==◌, ◌||◌, Bool, is_some, List, [], ◌∷◌, codes, option_and_then, option_map, Option, None, Some, Result, Ok, Err, if◌then◌else◌}
+use Rattle.std.specs.Prelude.{◌≡◌, ℕ, ◌==◌, ◌||◌, is_some, List, [], ◌∷◌, codes, option_and_then, option_map, Option, None, Some, Result, Ok, Err, if◌then◌else◌}
 use Rattle.std.specs.List.{after_first, before_first}
 use Rattle.std.specs.Option.{option_or}
 use Rattle.std.specs.declared.io.ErrorKind.{ErrorKind}

@@ -1,4 +1,5 @@
 pub mod PaintingFacts
 pub mod OptionFacts
 pub mod SearchFacts
+pub mod BeginFacts
 pub mod RunFacts

@@ -1,5 +1,5 @@
 -- The colors of printed paths, where they have some.
-use Rattle.std.proofs.Common.{◌≡◌, Bool, true, false, not, ◌&&◌, Option, Some, None, ap, refl}
+use Rattle.std.proofs.Common.{◌≡◌, Bool, true, false, not, ◌&&◌, Some, None, ap, refl}
 use Rattle.std.specs.Prelude.{if◌then◌else◌}
 use Rattle.jwalk.specs.jwalk_model.FileSystem.{Functions}
 use Rattle.seek_colors.specs.Palette.{Colors}

@@ -16,11 +16,11 @@ use Rattle.seek_words.specs.Layout.{Form}
 use Rattle.seek_words.specs.Paint.{asks}
 use Rattle.seek_words.specs.Lines.{form_of}
 use Rattle.seek_words.specs.declared.lines.Lines.{Lines}
-use Rattle.seek_found.specs.Found.{found_lines, PrintsClean}
+use Rattle.seek_found.specs.Found.{found_lines, PrintsClean, PrintsFirst}
 use Rattle.seek_found.specs.Roots.{AreBelow, Below, PrintsSuch}
 use Rattle.seek_found.proofs.RootsFacts.{no_roots_printed}
 use Rattle.program_parts.proofs.GatheredFacts.{gathered_written}
-use Rattle.seek_found.proofs.CleanFacts.{clean_none, clean_then, printed_as}
+use Rattle.seek_found.proofs.FirstFacts.{first_as, first_none, first_stopped, first_then}
 use Rattle.program_parts.specs.Values.{texts_of}
 use Rattle.seek_words.specs.declared.asked.Asked.{Asked}
 use Rattle.jwalk.specs.jwalk_model.FileSystem.{Functions}
@@ -88,31 +88,53 @@ front_behind None wanted front is = is
 front_behind (Some own) wanted front is = record { wanted_so = is.wanted_so; found = is.found }
 
 -- the text is printed by the same, with other facts of it
-pub printed_by : {R E : Type 0} (answers : Sought → List (Item R E)) {sought sought' : Sought} {form form' : Form} {old new : Option (List ℕ)} → sought ≡ sought' → form ≡ form' → PrintsClean (answers sought) sought form old new → PrintsClean (answers sought') sought' form' old new
-printed_by answers {sought} {sought'} {form} {form'} {old} {new} sought_is form_is printed =
-    subst (λ (s : Form). PrintsClean (answers sought') sought' s old new) form_is (subst (λ (s : Sought). PrintsClean (answers s) s form old new) sought_is printed)
+pub printed_by : {R E : Type 0} (answers : Sought → List (Item R E)) {sought sought' : Sought} {form form' : Form} {left limit left' : Option ℕ} {old new : Option (List ℕ)} {clean : Bool} → sought ≡ sought' → form ≡ form' → left ≡ limit
+    → PrintsFirst (answers sought) sought form left left' old new clean → PrintsFirst (answers sought') sought' form' limit left' old new clean
+printed_by answers {sought} {sought'} {form} {form'} {left} {limit} {left'} {old} {new} {clean} sought_is form_is left_is printed =
+    subst (λ (l : Option ℕ). PrintsFirst (answers sought') sought' form' l left' old new clean) left_is
+    (subst (λ (s : Form). PrintsFirst (answers sought') sought' s left left' old new clean) form_is (subst (λ (s : Sought). PrintsFirst (answers s) s form left left' old new clean) sought_is printed))
 
 -- the text is printed over the same disk and texts
-pub printed_over : (lines : List ℕ) (asked : Asked) {fs fs' : Functions} {texts texts' : Texts} {sought sought' : Sought} {form form' : Form} {old new : Option (List ℕ)} → fs ≡ fs' → texts ≡ texts' → sought ≡ sought' → form ≡ form'
-    → PrintsClean (yielded_by fs texts lines asked sought) sought form old new → PrintsClean (yielded_by fs' texts' lines asked sought') sought' form' old new
-printed_over lines asked {fs} {fs'} {texts} {texts'} {sought} over from sought_is form_is printed =
-    printed_by (yielded_by fs' texts' lines asked) sought_is form_is (printed_as (ap₂ (λ f t. yielded_by f t lines asked sought) over from) printed)
+pub printed_over : (lines : List ℕ) (asked : Asked) {fs fs' : Functions} {texts texts' : Texts} {sought sought' : Sought} {form form' : Form} {left limit left' : Option ℕ} {old new : Option (List ℕ)} {clean : Bool} → fs ≡ fs' → texts ≡ texts' → sought ≡ sought' → form ≡ form' → left ≡ limit
+    → PrintsFirst (yielded_by fs texts lines asked sought) sought form left left' old new clean → PrintsFirst (yielded_by fs' texts' lines asked sought') sought' form' limit left' old new clean
+printed_over lines asked {fs} {fs'} {texts} {texts'} {sought} over from sought_is form_is left_is printed =
+    printed_by (yielded_by fs' texts' lines asked) sought_is form_is left_is (first_as (ap₂ (λ f t. yielded_by f t lines asked sought) over from) printed)
 
 -- gathered lines that are written at the end
-pub written_last : {R E : Type 0} {xs : List (Item R E)} {sought : Sought} {form : Form} (old mid new : Option (List ℕ)) (none last : List ℕ) → none ≡ []
+written_last : {R E : Type 0} {xs : List (Item R E)} {sought : Sought} {form : Form} (old mid new : Option (List ℕ)) (none last : List ℕ) → none ≡ []
     → PrintsClean xs sought form (append_known old none) (append_known mid last) → Appends mid new last → PrintsClean xs sought form old new
 written_last {xs} {sought} {form} old mid new none last empty printed rest = record {
   lines = gathered_written old mid new none last (found_lines sought form xs) empty printed.lines rest;
   clean = printed.clean;
 }
 
+pub first_written_last : {R E : Type 0} {xs : List (Item R E)} {sought : Sought} {form : Form} {left left' : Option ℕ} {clean : Bool} (old mid new : Option (List ℕ)) (none last : List ℕ) → none ≡ []
+    → PrintsFirst xs sought form left left' (append_known old none) (append_known mid last) clean → Appends mid new last → PrintsFirst xs sought form left left' old new clean
+first_written_last old mid new none last empty printed rest = record {
+  first = λ is. written_last old mid new none last empty (printed.first is) rest;
+  limit = printed.limit;
+  one = printed.one;
+}
+
+-- the answers below roots are those below the first of them, and then those below the others
+parted : {X : Type 0} (f : List ℕ → List X) (all first rest : List (Bor (List ℕ))) → all ≡ first ++ rest → flat_map f (texts_of first) ++ flat_map f (texts_of rest) ≡ flat_map f (texts_of all)
+parted f all first rest are = sym (ap (λ l. flat_map f (texts_of l)) are ∙ ap (flat_map f) (map-append (λ it. it.now) first rest) ∙ flat_map-append f (texts_of first) (texts_of rest))
+
 -- the text that is printed for roots, and then for other roots
 pub others_printed : {R E : Type 0} (f : Sought → List ℕ → List (Item R E)) (all first rest : List (Bor (List ℕ))) → all ≡ first ++ rest
-    → {sought sought' : Sought} {form form' : Form} {old mid new : Option (List ℕ)} → sought' ≡ sought → form' ≡ form
-    → PrintsClean (flat_map (f sought) (texts_of first)) sought form old mid → PrintsClean (flat_map (f sought') (texts_of rest)) sought' form' mid new → PrintsClean (flat_map (f sought) (texts_of all)) sought form old new
-others_printed f all first rest are {sought} {sought'} {form} {form'} {old} {mid} {new} sought_is form_is before more =
-    printed_as (sym (ap (λ l. flat_map (f sought) (texts_of l)) are ∙ ap (flat_map (f sought)) (map-append (λ it. it.now) first rest) ∙ flat_map-append (f sought) (texts_of first) (texts_of rest)))
-    (clean_then sought form (flat_map (f sought) (texts_of first)) (flat_map (f sought) (texts_of rest)) old mid new before (printed_by (λ s. flat_map (f s) (texts_of rest)) sought_is form_is more))
+    → {sought sought' : Sought} {form form' : Form} {left mid left' : Option ℕ} {old during new : Option (List ℕ)} {clean more : Bool} → sought' ≡ sought → form' ≡ form → (left ≡ Some 1 → mid ≡ Some 1)
+    → PrintsFirst (flat_map (f sought) (texts_of first)) sought form left mid old during clean → PrintsFirst (flat_map (f sought') (texts_of rest)) sought' form' mid left' during new more
+    → PrintsFirst (flat_map (f sought) (texts_of all)) sought form left left' old new (clean && more)
+others_printed f all first rest are {sought} {sought'} {form} {form'} {left} {mid} {left'} {old} {during} {new} {clean} {more} sought_is form_is still before after =
+    first_as (parted (f sought) all first rest are)
+    (first_then sought form (flat_map (f sought) (texts_of first)) (flat_map (f sought) (texts_of rest)) left mid left' old during new clean more before still
+    (printed_by (λ s. flat_map (f s) (texts_of rest)) sought_is form_is refl after))
+
+-- the text that is printed for roots, if the limit is reached there
+pub stopped_printed : {R E : Type 0} (f : List ℕ → List (Item R E)) (all first rest : List (Bor (List ℕ))) → all ≡ first ++ rest
+    → {sought : Sought} {form : Form} {left mid : Option ℕ} {old new : Option (List ℕ)} {clean : Bool} → mid ≡ Some 0 → PrintsFirst (flat_map f (texts_of first)) sought form left mid old new clean → PrintsFirst (flat_map f (texts_of all)) sought form left mid old new clean
+stopped_printed f all first rest are {sought} {form} {left} {mid} {old} {new} {clean} full before =
+    first_as (parted f all first rest are) (first_stopped sought form (flat_map f (texts_of first)) (flat_map f (texts_of rest)) left mid mid old new new clean clean before full)
 
 -- the texts of roots and then of others
 pub texts_then : (all first rest : List (Bor (List ℕ))) → all ≡ first ++ rest → texts_of first ++ texts_of rest ≡ texts_of all
@@ -135,29 +157,16 @@ no_element (x ∷ l) few = absurd (omega (arith, few))
 
 -- the text that is printed for one root
 pub one_printed : {R E : Type 0} (f : List ℕ → List (Item R E)) (all : List (Bor (List ℕ))) (root : Bor (List ℕ)) → all ≡ root ∷ []
-    → {sought : Sought} {form : Form} {old new : Option (List ℕ)} → PrintsClean (f root.now) sought form old new → PrintsClean (flat_map f (texts_of all)) sought form old new
-one_printed f all root is printed = printed_as (sym (ap (λ l. flat_map f (texts_of l)) is ∙ append-nil (f root.now))) printed
+    → {sought : Sought} {form : Form} {left left' : Option ℕ} {old new : Option (List ℕ)} {clean : Bool} → PrintsFirst (f root.now) sought form left left' old new clean → PrintsFirst (flat_map f (texts_of all)) sought form left left' old new clean
+one_printed f all root is printed = first_as (sym (ap (λ l. flat_map f (texts_of l)) is ∙ append-nil (f root.now))) printed
 
 -- and of none
-pub none_printed : {R E : Type 0} (f : List ℕ → List (Item R E)) (all : List (Bor (List ℕ))) → length all < 1 → (sought : Sought) (form : Form) (old : Option (List ℕ)) → PrintsClean (flat_map f (texts_of all)) sought form old old
-none_printed f all few sought form old = printed_as (sym (ap (λ l. flat_map f (texts_of l)) (no_element all few))) (clean_none sought form old)
+pub none_printed : {R E : Type 0} (f : List ℕ → List (Item R E)) (all : List (Bor (List ℕ))) → length all < 1 → (sought : Sought) (form : Form) (left : Option ℕ) (old : Option (List ℕ)) (clean : Bool) → PrintsFirst (flat_map f (texts_of all)) sought form left left old old clean
+none_printed f all few sought form left old clean = first_as (sym (ap (λ l. flat_map f (texts_of l)) (no_element all few))) (first_none sought form left old clean)
 
 pub none_yielded : (below : Below) (may_stop : Type 0) (roots : List (Bor (List ℕ))) → length roots < 1 → (sought : Sought) (form : Form) (left : Option ℕ) (old : Option (List ℕ)) → PrintsSuch (AreBelow below may_stop (texts_of roots)) sought form left left old old true
 none_yielded below may_stop [] few sought form left old = no_roots_printed below may_stop sought form left old
 none_yielded below may_stop (root ∷ roots) few sought form left old = absurd (omega (arith, few))
-
--- two answers are both true
-pub first_true : (a b : Bool) → (a && b) ≡ true → a ≡ true
-first_true true b is = refl
-first_true false b is = is
-
-pub second_true : (a b : Bool) → (a && b) ≡ true → b ≡ true
-second_true true b is = is
-second_true false b is = absurd (cc)
-
--- one isn't none
-pub one_not_none : {n : Option ℕ} → n ≡ Some 1 → n ≡ None → ⊥
-one_not_none {n} one none = let no : ◌≡◌ {A = Option ℕ} (Some 1) None = sym one ∙ none in absurd (cc)
 
 -- a list of no length
 pub no_items : {X : Type 0} (xs : List X) → nat_eq (length xs) 0 ≡ true → xs ≡ []
@@ -206,7 +215,8 @@ module _ {T C Z B X A E G H F : Type 0} (plain : CrewCallsOf T G (Arc (KeptLinks
         times = record { now = s.times.now; after = s.times.after; before = s.times.before; after_file = λ still'. s.times.after_file (stays still') };
         quiet = λ quiet. let found = s.quiet quiet in (found.0, λ empties. by_read tells refl (found_if plain honouring (front_as tells refl)) (found.1 (λ empty. stays (empties empty))));
         yielded = λ loud. by_read tells refl (printed_if plain honouring stays (front_as tells refl)) (s.yielded loud);
-        prints = λ still' told'. s.prints (stays still') (tells told');
+        finds = λ quiet still' told'. s.finds quiet (stays still') (tells told');
+        prints = λ loud still' told'. s.prints loud (stays still') (tells told');
       })))
 
 module _ {T C Z B X A E G H F : Type 0} (plain : CrewCallsOf T G (Arc (KeptLinks (Based Z)) B) LeavesOut A H F) (honouring : CrewCallsOf T C (Arc (KeptLinks (Based Z)) B) (Honours (UserTexts (Based X)) B) A RulesState E) {disk : Z} {reads : X} {still told : Type 0} {fs : Functions} {texts : Texts} {home : Home} {cores : ℕ} {screen : Screen} {old new : Option (List ℕ)} where

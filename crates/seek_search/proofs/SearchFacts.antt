@@ -1,5 +1,5 @@
 -- The walks of a search.
-use Rattle.std.proofs.Common.{◌≡◌, ◌≤◌, ◌<◌, ◌⊎◌, ℕ, Bool, true, false, List, [], ◌∷◌, length, slice_index_or, Option, Result, Ok, Err, inl, inr, ap, arith, subst, sym}
+use Rattle.std.proofs.Common.{◌≡◌, ◌≤◌, ◌<◌, ◌⊎◌, ◌∙◌, ℕ, Bool, true, false, List, [], ◌∷◌, length, slice_index_or, Option, Result, Ok, Err, inl, inr, ap, arith, subst, sym}
 use Rattle.std.specs.Prelude.{◌==◌, if◌then◌else◌, MatchBool}
 use Rattle.std.specs.Borrow.{Bor}
 use Rattle.std.specs.declared.sync.Arc.{Arc}
@@ -96,6 +96,10 @@ pub stops_sooner : {T C S B X A E G H F : Type 0} (plain : CrewCallsOf T G (Arc 
     → AreBelow (YieldedBelow plain honouring disk texts crew lines asked sought) may_stop roots answers → AreBelow (YieldedBelow plain honouring disk texts crew lines asked sought) other roots answers
 stops_sooner plain honouring disk texts crew lines asked sought may_stop other more =
     may_stop_sooner (YieldedBelow plain honouring disk texts crew lines asked sought) may_stop other more (λ root answers. below_may plain honouring disk texts crew lines asked sought may_stop root answers more)
+
+-- the roots that are named are those that are asked for
+pub named_roots : (asked : Asked) (roots : List (Bor (List ℕ))) → (length asked.roots.items == 0) ≡ false → roots ≡ asked.roots.items → texts_of roots ≡ roots_asked asked
+named_roots asked roots some are = ap texts_of are ∙ sym (ap (λ (b : Bool). if b then dot ∷ [] else texts_of asked.roots.items) some)
 
 module _ {T C S B X A E G H F : Type 0} (plain : CrewCallsOf T G (Arc S B) LeavesOut A H F) (honouring : CrewCallsOf T C (Arc S B) (Honours X B) A RulesState E) (disk : S) (texts : X) (crew : Option (Arc (Crew T) A)) (lines : List ℕ) (asked : Asked) (sought : Sought) (may_stop : Type 0) where
   -- the answers below the folder that the program runs in, if no root is named

@@ -1,5 +1,5 @@
 -- What a search prints, if there is no error.
-use Rattle.std.specs.Prelude.{◌≡◌, ℕ, Bool, true, List, [], Option, None, Some}
+use Rattle.std.specs.Prelude.{◌≡◌, ℕ, Bool, List, [], Option, Some}
 use Rattle.std.specs.Io.KnownBytes.{append_known}
 use Rattle.std.specs.declared.clone.Clone as Clone
 use Rattle.std.specs.declared.default.Default as Default
@@ -16,7 +16,7 @@ use Rattle.jwalk.specs.declared.walk_dir.WalkDirGeneric.{WalkDirGeneric}
 use Rattle.seek_words.specs.Filter.{sought_of}
 use Rattle.seek_words.specs.Sought.{Sought}
 use Rattle.seek_words.specs.Lines.{gathered_of, form_of}
-use Rattle.seek_found.specs.Found.{IfAsked, PrintsClean}
+use Rattle.seek_found.specs.Found.{IfAsked, PrintsFirst}
 use Rattle.seek_found.specs.Prune.{unpruned}
 use Rattle.seek_found.specs.Roots.{PrintsSuch}
 use Rattle.seek_found.specs.SoughtTest.{takes_of}
@@ -28,12 +28,12 @@ pub record StaysAs (fs : Functions) (old new : Printer SoughtTest) : Type 0 wher
   pub sought : sought_of takes_of fs new.filter ≡ sought_of takes_of fs old.filter
   pub form : form_of fs new.lines ≡ form_of fs old.lines
 
--- If there is no limit and was no error, the line of each of these answers that a printer looks for is written, or
--- gathered by it. `answers` says which they are, by what it looks for over a file system.
+-- If there was no error, the line of each of the first of these answers that a printer looks for is written, or gathered
+-- by it, up to its limit. `answers` says which they are, by what it looks for over a file system.
 abbrev pub PrintsAll : {R E : Type 0} → Functions → (Sought → List (Item R E)) → Printer SoughtTest → Printer SoughtTest → Option (List ℕ) → Option (List ℕ) → Bool → Type 0
 PrintsAll fs answers old new before after clean =
-    old.left ≡ None → clean ≡ true → PrintsClean (answers (sought_of takes_of fs old.filter)) (sought_of takes_of fs old.filter) (form_of fs old.lines)
-    (append_known before (gathered_of old.lines)) (append_known after (gathered_of new.lines))
+    PrintsFirst (answers (sought_of takes_of fs old.filter)) (sought_of takes_of fs old.filter) (form_of fs old.lines) old.left new.left
+    (append_known before (gathered_of old.lines)) (append_known after (gathered_of new.lines)) clean
 
 -- This holds of all that a walk yields, whatever its ghosts are, without what is below a find if that isn't looked for.
 -- The disk that is asked about directories and links always answers the same.
@@ -52,10 +52,10 @@ PrintsThose fixed fs are old new before after clean =
     (append_known before (gathered_of old.lines)) (append_known after (gathered_of new.lines)) clean
 
 -- The same two where a printer that had gathered nothing leaves nothing gathered: all its lines are written.
-abbrev pub WritesAll : {R E : Type 0} → Functions → (Sought → List (Item R E)) → Printer SoughtTest → Option (List ℕ) → Option (List ℕ) → Bool → Type 0
-WritesAll fs answers old before after clean =
-    gathered_of old.lines ≡ [] → old.left ≡ None → clean ≡ true
-    → PrintsClean (answers (sought_of takes_of fs old.filter)) (sought_of takes_of fs old.filter) (form_of fs old.lines) before after
+abbrev pub WritesAll : {R E : Type 0} → Functions → (Sought → List (Item R E)) → Printer SoughtTest → Printer SoughtTest → Option (List ℕ) → Option (List ℕ) → Bool → Type 0
+WritesAll fs answers old new before after clean =
+    gathered_of old.lines ≡ []
+    → PrintsFirst (answers (sought_of takes_of fs old.filter)) (sought_of takes_of fs old.filter) (form_of fs old.lines) old.left new.left before after clean
 
 abbrev pub WritesThose : Type 0 → Functions → (Sought → Type 0 → List (Item Worth Worth) → Type 0) → Printer SoughtTest → Printer SoughtTest → Option (List ℕ) → Option (List ℕ) → Bool → Type 0
 WritesThose fixed fs are old new before after clean =

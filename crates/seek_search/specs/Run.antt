@@ -1,6 +1,9 @@
 -- The text that a call of the program prints.
-use Rattle.std.specs.Prelude.{◌≡◌, ℕ, true, false, List, Option, None}
+use Rattle.std.specs.Prelude.{◌≡◌, ℕ, true, false, List, Option}
+use Rattle.std.specs.List.{list_any}
 use Rattle.std.specs.declared.sync.Arc.{Arc}
+use Rattle.jwalk.specs.jwalk_model.Counted.{Worth}
+use Rattle.jwalk.specs.jwalk_model.Entry.{Item}
 use Rattle.jwalk.specs.jwalk_model.FileSystem.{Functions}
 use Rattle.jwalk_ignore.specs.Rules.Texts.{Texts}
 use Rattle.seek_words.specs.AsksFor.{AskFor}
@@ -8,6 +11,7 @@ use Rattle.seek_words.specs.Screen.{is_colored}
 use Rattle.seek_words.specs.declared.asked.Asked.{Asked}
 use Rattle.seek_words.specs.declared.screen.Screen.{Screen}
 use Rattle.seek_found.specs.Found.{PrintsClean}
+use Rattle.seek_found.specs.Limit.{is_hit, up_to}
 use Rattle.seek_found.specs.Owner.{IsOwnerOf}
 use Rattle.seek_found.specs.Sought.{IsFor, takes_by}
 use Rattle.seek_found.specs.declared.sought.Sought.{Sought}
@@ -26,23 +30,33 @@ use Rattle.seek_search.specs.declared.based.Based.{Based}
 use Rattle.seek_search.specs.declared.kept_links.KeptLinks.{KeptLinks}
 use Rattle.jwalk_ignore.specs.declared.callback.states.RulesState.{RulesState}
 
--- Over a file system and texts that always answer the same, the line of each entry that is looked for is printed, of
--- all answers of the walks, and none of these is an error. If the search prunes, answers below a find don't count. A
--- link that leads nowhere isn't an error, but an entry.
+-- all answers of the walks of a search, over a file system and texts that always answer the same; if the search prunes,
+-- without those below a find; a link that leads nowhere isn't an error, but an entry
+abbrev pub answers_read : Functions → Texts → List ℕ → Asked → Sought → List (Item Worth Worth)
+answers_read fs texts lines asked sought = yielded_by (functions_kept asked.follow fs) texts lines asked (sought_asked fs texts asked (takes_by sought))
+
+-- The line of each entry that is looked for is printed, of these answers up to the limit, and none of them is an error.
 abbrev pub PrintsRead : Functions → Texts → List ℕ → Screen → Asked → Sought → Option (List ℕ) → Option (List ℕ) → Type 0
 PrintsRead fs texts lines screen asked sought =
-    PrintsClean (yielded_by (functions_kept asked.follow fs) texts lines asked (sought_asked fs texts asked (takes_by sought))) (sought_asked fs texts asked (takes_by sought)) (form_asked (functions_kept asked.follow fs) texts screen asked)
+    PrintsClean (up_to (sought_asked fs texts asked (takes_by sought)) (limit_asked asked) (answers_read fs texts lines asked sought)) (sought_asked fs texts asked (takes_by sought)) (form_asked (functions_kept asked.follow fs) texts screen asked)
 
--- The same, with the user's excludes and the ignore files that are asked for.
+-- One of these answers is looked for.
+abbrev pub FindsRead : Functions → Texts → List ℕ → Asked → Sought → Type 0
+FindsRead fs texts lines asked sought = list_any (is_hit (sought_asked fs texts asked (takes_by sought))) (answers_read fs texts lines asked sought) ≡ true
+
+-- The same two, with the user's excludes and the ignore files that are asked for.
 abbrev pub PrintsAsked : Functions → Texts → Home → Screen → Asked → Sought → Option (List ℕ) → Option (List ℕ) → Type 0
 PrintsAsked fs texts home screen asked sought =
     PrintsRead fs (with_user (home_asked (home_value home) asked) texts) (lines_asked texts asked) screen asked sought
 
+abbrev pub FindsAsked : Functions → Texts → Home → Asked → Sought → Type 0
+FindsAsked fs texts home asked sought = FindsRead fs (with_user (home_asked (home_value home) asked) texts) (lines_asked texts asked) asked sought
+
 module _ {T C Z B X A E G H F : Type 0} (plain : CrewCallsOf T G (Arc (KeptLinks Z) B) LeavesOut A H F) (honouring : CrewCallsOf T C (Arc (KeptLinks Z) B) (Honours (UserTexts X) B) A RulesState E) where
   -- This is searched over this disk, by the crew that is asked for. The times that are asked for are known. Paths are in
   -- colors if the words or the screen ask for it. A quiet search writes nothing, and finds one of the answers of its walks. Any other search prints
-  -- their lines in the way that is asked for, and all answers are clean. If there is no limit, and the file system and
-  -- the texts are fixed, as `still` and `told` say, the answers are those that are asked for. If empty entries are looked
+  -- their lines in the way that is asked for, and all answers are clean. If the file system and the texts are fixed, as
+  -- `still` and `told` say, the answers are those that are asked for, with a limit the first of them. If empty entries are looked
   -- for, or the color of a link tells whether it leads nowhere, the answers are told only if the file system is fixed. Of
   -- a quiet search colors tell nothing.
   pub record SearchesFor (disk : Z) (reads : X) (still told : Type 0) (fs : Functions) (texts : Texts) (home : Home) (cores : ℕ) (screen : Screen) (asked : Asked) (sought : Sought) (old new : Option (List ℕ)) : Type 0 where
@@ -50,7 +64,8 @@ module _ {T C Z B X A E G H F : Type 0} (plain : CrewCallsOf T G (Arc (KeptLinks
     pub times : AreTimes still fs asked asked.times
     pub quiet : asked.quiet ≡ true → (new ≡ old) × ((asked.kinds.empty ≡ true → still) → ByRead reads told texts home asked (λ reads lines. Finds plain honouring disk told fs texts cores reads lines asked (takes_by sought) true))
     pub yielded : asked.quiet ≡ false → ByRead reads told texts home asked (λ reads lines. PrintsYielded plain honouring disk still told fs texts cores reads lines screen asked (takes_by sought) old new true)
-    pub prints : still → told → limit_asked asked ≡ None → PrintsAsked fs texts home screen asked sought old new
+    pub finds : asked.quiet ≡ true → still → told → FindsAsked fs texts home asked sought
+    pub prints : asked.quiet ≡ false → still → told → PrintsAsked fs texts home screen asked sought old new
 
 module _ {T C Z B X A E G H F : Type 0} (plain : CrewCallsOf T G (Arc (KeptLinks (Based Z)) B) LeavesOut A H F) (honouring : CrewCallsOf T C (Arc (KeptLinks (Based Z)) B) (Honours (UserTexts (Based X)) B) A RulesState E) where
   -- The words ask for a search, the names that are looked for are those of the patterns, and the owner is the one that is

@@ -1,5 +1,5 @@
 //! A call of the program.
-ghost use Rattle.std.specs.Prelude.{◌≡◌, ◌≤◌, ◌⊎◌, Bool, None, true, map, string_bytes, IfOk};
+ghost use Rattle.std.specs.Prelude.{◌≡◌, ◌≤◌, ◌⊎◌, Bool, true, map, string_bytes, IfOk};
 ghost use Rattle.std.specs.Arc.{arc_value};
 ghost use Rattle.seek_words.specs.AsksFor.{AskForText};
 ghost use Rattle.seek_words.specs.Joined.{joined};
@@ -8,8 +8,8 @@ ghost use Rattle.seek_found.specs.Call.{AskForSearch, Ends};
 ghost use Rattle.seek_found.specs.Sought.{takes_by};
 ghost use Rattle.seek_search.specs.Based.{has_folder};
 ghost use Rattle.seek_search.specs.Goes.{ByRead, Finds, PrintsYielded};
-ghost use Rattle.seek_search.specs.Run.{PrintsAsked, PrintsRead, Searches, SearchesFor};
-ghost use Rattle.seek_search.specs.Search.{limit_asked, threads_asked};
+ghost use Rattle.seek_search.specs.Run.{FindsAsked, FindsRead, PrintsAsked, PrintsRead, Searches, SearchesFor};
+ghost use Rattle.seek_search.specs.Search.{threads_asked};
 
 use crate::based::Based;
 use crate::kept_links::KeptLinks;
@@ -112,9 +112,11 @@ impl<
             → Finds ⟦<PlainWalk<T, KeptLinks<S>> as Iterator>⟧.next_gives
             ⟦<HonouringWalk<T, KeptLinks<S>, X> as Iterator>⟧.next_gives self.entry.disk (X.IsFixed self.entry.texts)
             (S.functions self.entry.disk) (X.functions self.entry.texts) self.entry.cores self.entry.texts given.now asked.now (takes_by sought.now) ended.full) }
-        ensures whole { IfOk result (λ ended. limit_asked asked.now ≡ None → ended.clean ≡ true → S.IsFixed self.entry.disk → X.IsFixed self.entry.texts
+        ensures whole { IfOk result (λ ended. ended.clean ≡ true → S.IsFixed self.entry.disk → X.IsFixed self.entry.texts
             → PrintsRead (S.functions self.entry.disk) (X.functions self.entry.texts) given.now self.entry.screen asked.now sought.now
             (W.contents out.old) (W.contents out.new)) }
+        ensures one { IfOk result (λ ended. asked.now.quiet ≡ true → ended.full ≡ true → S.IsFixed self.entry.disk → X.IsFixed self.entry.texts
+            → FindsRead (S.functions self.entry.disk) (X.functions self.entry.texts) given.now asked.now sought.now) }
     {
         let Seek {
             rt,
@@ -162,9 +164,11 @@ impl<
             ⟦<PlainWalk<T, KeptLinks<S>> as Iterator>⟧.next_gives
             ⟦<HonouringWalk<T, KeptLinks<S>, UserTexts<X>> as Iterator>⟧.next_gives self.entry.disk (X.IsFixed self.entry.texts)
             (S.functions self.entry.disk) (X.functions self.entry.texts) self.entry.cores reads lines asked.now (takes_by sought.now) ended.full)) }
-        ensures whole { IfOk result (λ ended. limit_asked asked.now ≡ None → ended.clean ≡ true → S.IsFixed self.entry.disk → X.IsFixed self.entry.texts
+        ensures whole { IfOk result (λ ended. ended.clean ≡ true → S.IsFixed self.entry.disk → X.IsFixed self.entry.texts
             → PrintsAsked (S.functions self.entry.disk) (X.functions self.entry.texts) self.entry.home self.entry.screen asked.now sought.now
             (W.contents out.old) (W.contents out.new)) }
+        ensures one { IfOk result (λ ended. asked.now.quiet ≡ true → ended.full ≡ true → S.IsFixed self.entry.disk → X.IsFixed self.entry.texts
+            → FindsAsked (S.functions self.entry.disk) (X.functions self.entry.texts) self.entry.home asked.now sought.now) }
     {
         let Seek {
             rt,

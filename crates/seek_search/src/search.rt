@@ -339,7 +339,7 @@ impl<
         ensures whole { IfOk result (λ ended. S.IsFixed (arc_value self.now.disk) → X.IsFixed (arc_value self.now.texts)
             → WritesAll (S.functions (arc_value self.now.disk))
             (yielded_by (S.functions (arc_value self.now.disk)) (X.functions (arc_value self.now.texts)) self.now.lines.now self.now.asked.now)
-            printer.old (W.contents out.old) (W.contents out.new) ended.clean) }
+            printer.old printer.new (W.contents out.old) (W.contents out.new) ended.clean) }
         ensures full { IfOk result (λ ended. ended.full ≡ true → printer.new.left ≡ Some 0) }
         ensures room { IfOk result (λ ended. ended.full ≡ false → printer.new.left ≢ Some 0) }
     {

@@ -1,14 +1,17 @@
-use Rattle.std.proofs.Common.{◌∙◌, map, inl, inr, refl, subst, sym}
+use Rattle.std.proofs.Common.{◌∙◌, [], append-nil, map, inl, inr, refl, subst, sym}
 use Rattle.std.proofs.lemmas.Result.{IfOk-weaker}
 use Rattle.jwalk.specs.jwalk_job.Entry.{item}
+use Rattle.jwalk.specs.jwalk_job.Given.{counted_list}
 use Rattle.jwalk.specs.WalkDir.{stateless}
 use Rattle.jwalk.proofs.CleanFacts.{whole_unless_busy}
 use Rattle.jwalk.proofs.WholeFacts.{steady_begun}
 use Rattle.seek_words.specs.Filter.{sought_of}
+use Rattle.seek_found.specs.Limit.{is_hit}
 use Rattle.seek_found.specs.SoughtTest.{takes_of}
-use Rattle.seek_found.proofs.FoundFacts.{found_unlimited}
+use Rattle.seek_found.proofs.FirstFacts.{first_printed}
 use Rattle.seek_found.proofs.RootsFacts.{counted_printed}
-use Rattle.seek_found.proofs.WholeFacts.{deep_errors, printed_whole}
+use Rattle.seek_found.proofs.WholeFacts.{deep_errors}
+use Rattle.seek_search.proofs.BeginFacts.{begins_whole, found_in_whole}
 use Rattle.seek_search.proofs.SearchFacts.{none_busy, none_refused}
 use Rattle.seek_search.proofs.search.print_begun.Goals as goal
 
@@ -21,17 +24,30 @@ returns-clause-whole g c =
     let it = c.into_iter-answers.result in
     let begun = c.into_iter-answers.ensures in
     IfOk-weaker c.print_found.result _ _
-    (λ clean printed. λ fixed given steady none is.
+    (λ clean printed. λ fixed given steady.
     let prints = printed (λ empty. fixed, λ links. fixed) in
+    let xs = prints.answered in
     let steadily = steady_begun _ _ _ _ _ given walk it begun.steady begun.starts steady in
+    let holds = begun.begins.1.holds in
+    let sought = sought_of takes_of (g.S.FileSystem.functions c.args.disk.now) c.args.printer.now.filter in
+    first_printed given sought _ _ (map item xs) _ _ _ _ clean prints.within prints.limit prints.lines prints.all
+    (λ is.
+    let deep = deep_errors sought xs (sym prints.all ∙ is) in
     elim prints.calls [
-      | inl drains ↦
-          let sought = sought_of takes_of (g.S.FileSystem.functions c.args.disk.now) c.args.printer.now.filter in
-          let deep = deep_errors sought prints.answered (sym prints.all ∙ is) in
-          printed_whole given sought _ _ _ clean (map item prints.answered) _ is prints.all prints.lines
-          (whole_unless_busy _ _ _ _ _ given walk it prints.answered begun.begins.0 begun.begins.1.holds steadily begun.starts steady drains (none_refused prints.answered deep) (none_busy prints.answered deep))
-      | inr stopped ↦ absurd (found_unlimited prints none stopped.0)
+      | inl drains ↦ record {
+        rest = [];
+        begins = append-nil (counted_list given xs)
+            ∙ whole_unless_busy _ _ _ _ _ given walk it xs begun.begins.0 holds steadily begun.starts steady drains (none_refused xs deep) (none_busy xs deep);
+        last = inl refl;
+      }
+      | inr stopped ↦
+          let begins = begins_whole _ _ _ _ _ given walk it begun.starts steady begun.begins.0 holds steadily xs stopped.1.0 stopped.1.1 (none_refused xs deep) (none_busy xs deep) in
+          record { rest = begins.0; begins = begins.1; last = inr stopped.0 }
     ])
+    (elim prints.calls [
+      | inl drains ↦ found_in_whole _ _ _ _ _ given walk it begun.starts steady (is_hit sought) (λ k. refl) begun.begins.0 holds steadily xs drains.1.0 drains.1.1
+      | inr stopped ↦ found_in_whole _ _ _ _ _ given walk it begun.starts steady (is_hit sought) (λ k. refl) begun.begins.0 holds steadily xs stopped.1.0 stopped.1.1
+    ]))
     c.print_found.ensures.printed
 
 pub returns-clause-yielded : goal.returns-clause-yielded

@@ -12,7 +12,7 @@ use Rattle.jwalk_ignore.specs.Callback.States.{nothing_beside, rules_held}
 use Rattle.seek_words.specs.Filter.{sought_of}
 use Rattle.seek_found.specs.Prune.{unpruned}
 use Rattle.seek_found.specs.SoughtTest.{takes_of}
-use Rattle.seek_found.proofs.CleanFacts.{printed_as}
+use Rattle.seek_found.proofs.FirstFacts.{first_as}
 use Rattle.jwalk_ignore.proofs.KeptFacts.{ignores_kept, whole_of}
 use Rattle.seek_found.proofs.RootsFacts.{printed_such}
 use Rattle.seek_search.proofs.SearchFacts.{yielded_so}
@@ -29,7 +29,7 @@ returns-clause-whole g c =
     let over : arc_value (file_system_of walk) ≡ arc_value (file_system_of c.args.walk) = ap arc_value set.file_system in
     let from : arc_value (texts_of (callback_of walk)) ≡ arc_value (texts_of rules) = ap (λ x. arc_value (texts_of x)) set.callback in
     IfOk-weaker c.print_begun.result _ _
-    (λ clean whole. λ still fixed told state none is.
+    (λ clean whole. λ still fixed told state.
     let steady : IsSteady _ _ _ _ (file_system_of walk) (callback_of walk) given
     = record {
       file_system = subst g.S.FileSystem.IsFixed (sym over) fixed;
@@ -37,7 +37,7 @@ returns-clause-whole g c =
       clones = λ x y h. ap (λ chain. both (chain_worth chain) blank) h;
       default = λ x h. refl;
     } in
-    printed_as (ap (unpruned (sought_of takes_of (g.S.FileSystem.functions (arc_value c.args.disk.now)) c.args.printer.now.filter)) (whole_of made (ap g.S.FileSystem.functions over) set.options set.root (ap (λ chain. both (chain_worth chain) blank) (ap rules_held set.state ∙ state)))) (whole still given steady none is))
+    first_as (ap (unpruned (sought_of takes_of (g.S.FileSystem.functions (arc_value c.args.disk.now)) c.args.printer.now.filter)) (whole_of made (ap g.S.FileSystem.functions over) set.options set.root (ap (λ chain. both (chain_worth chain) blank) (ap rules_held set.state ∙ state)))) (whole still given steady))
     c.print_begun.ensures.whole
 
 pub returns-clause-yielded : goal.returns-clause-yielded

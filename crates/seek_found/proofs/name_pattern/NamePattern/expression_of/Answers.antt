@@ -1,4 +1,4 @@
-use Rattle.std.proofs.Common.{◌≡◌, ◌∙◌, ℕ, List, ap, rules, string_bytes, subst, sym}
+use Rattle.std.proofs.Common.{◌≡◌, ◌∙◌, ℕ, List, rules, string_bytes, subst, sym}
 use Rattle.regex.specs.Patterns.{ReadsAsText}
 use Rattle.seek_found.proofs.name_pattern.NamePattern.expression_of.Goals as goal
 

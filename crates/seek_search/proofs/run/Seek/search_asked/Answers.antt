@@ -36,13 +36,30 @@ returns-clause-whole g c =
     let looked = sought_over (λ (d : KeptLinks _). functions_kept d.follow (g.S.FileSystem.functions d.disk)) c.in_ok-printer.printer.filter asked disk made.filter.sought in
     let formed = form_over (λ (d : KeptLinks _). functions_kept d.follow (g.S.FileSystem.functions d.disk)) c.in_ok-printer.printer.lines c.args.self.screen asked disk made.form in
     IfOk-weaker c.print.result _ _
-    (λ ended whole. λ none is fixed told.
+    (λ ended whole. λ is fixed told.
     let told_so = subst g.X.Texts.IsFixed (sym texts) told in
-    printed_over c.args.given.now asked (ap (λ (d : KeptLinks _). functions_kept d.follow (g.S.FileSystem.functions d.disk)) disk) (ap g.X.Texts.functions texts)
+    (printed_over c.args.given.now asked (ap (λ (d : KeptLinks _). functions_kept d.follow (g.S.FileSystem.functions d.disk)) disk) (ap g.X.Texts.functions texts)
     (looked ∙ ap (λ front. sought_before (g.S.FileSystem.functions c.args.self.disk) front asked (takes_by c.args.sought.now)) (made.filter.is_front.found told_so ∙ ap (λ x. front_if asked.full_path (g.X.Texts.functions x)) texts))
     (formed ∙ ap (λ front. form_before (functions_kept asked.follow (g.S.FileSystem.functions c.args.self.disk)) front c.args.self.screen asked) (made.is_shown.found told_so ∙ ap (λ x. front_if asked.absolute (g.X.Texts.functions x)) texts))
-    (whole (subst (λ (d : KeptLinks _). g.S.FileSystem.IsFixed d.disk) (sym disk) fixed) told_so made.empty (made.limit ∙ none) is))
+    made.limit (whole (subst (λ (d : KeptLinks _). g.S.FileSystem.IsFixed d.disk) (sym disk) fixed) told_so made.empty)).first is)
     c.print.ensures.whole
+
+pub returns-clause-one : goal.returns-clause-one
+returns-clause-one g c =
+    let asked = c.args.asked.now in
+    let made = c.in_ok-printer.ensures in
+    let disk = c.in_ok-shared.ensures in
+    let texts = c.in_ok-shared-2.ensures in
+    let looked = sought_over (λ (d : KeptLinks _). functions_kept d.follow (g.S.FileSystem.functions d.disk)) c.in_ok-printer.printer.filter asked disk made.filter.sought in
+    let formed = form_over (λ (d : KeptLinks _). functions_kept d.follow (g.S.FileSystem.functions d.disk)) c.in_ok-printer.printer.lines c.args.self.screen asked disk made.form in
+    from_three c.print.result _ _ _ _
+    (λ ended whole filled room. λ quiet is fixed told.
+    let told_so = subst g.X.Texts.IsFixed (sym texts) told in
+    (printed_over c.args.given.now asked (ap (λ (d : KeptLinks _). functions_kept d.follow (g.S.FileSystem.functions d.disk)) disk) (ap g.X.Texts.functions texts)
+    (looked ∙ ap (λ front. sought_before (g.S.FileSystem.functions c.args.self.disk) front asked (takes_by c.args.sought.now)) (made.filter.is_front.found told_so ∙ ap (λ x. front_if asked.full_path (g.X.Texts.functions x)) texts))
+    (formed ∙ ap (λ front. form_before (functions_kept asked.follow (g.S.FileSystem.functions c.args.self.disk)) front c.args.self.screen asked) (made.is_shown.found told_so ∙ ap (λ x. front_if asked.absolute (g.X.Texts.functions x)) texts))
+    made.limit (whole (subst (λ (d : KeptLinks _). g.S.FileSystem.IsFixed d.disk) (sym disk) fixed) told_so made.empty)).one (ap (λ b. if b then Some 1 else positive asked.max_results) quiet) (filled is))
+    c.print.ensures.whole c.print.ensures.full c.print.ensures.room
 
 pub returns-clause-yielded : goal.returns-clause-yielded
 returns-clause-yielded g c =

@@ -2,12 +2,13 @@ use Rattle.std.proofs.Common.{refl}
 use Rattle.std.proofs.lemmas.Result.{IfOk-weaker}
 use Rattle.std.specs.Arc.{arc_value}
 use Rattle.program_parts.specs.Values.{texts_of}
-use Rattle.seek_found.proofs.RootsFacts.{none_after, none_reached, printed_such, roots_printed, roots_stopped}
+use Rattle.seek_found.proofs.FirstFacts.{one_still}
+use Rattle.seek_found.proofs.RootsFacts.{printed_such, roots_printed, roots_stopped}
 use Rattle.seek_words.specs.Filter.{sought_of}
 use Rattle.seek_found.specs.SoughtTest.{takes_of}
 use Rattle.seek_search.specs.Search.{unpruned_below}
 use Rattle.seek_found.proofs.FoundFacts.{asked_if}
-use Rattle.seek_search.proofs.RunFacts.{first_true, none_printed, none_yielded, one_element, one_printed, others_printed, second_true, texts_then}
+use Rattle.seek_search.proofs.RunFacts.{none_printed, none_yielded, one_element, one_printed, others_printed, stopped_printed, texts_then}
 use Rattle.seek_search.proofs.SearchFacts.{below_one, below_same, same_below}
 use Rattle.seek_search.proofs.search.Search.+below_each.Goals as goal
 
@@ -15,9 +16,9 @@ pub returns-in-empty-clause-yielded : goal.returns-in-empty-clause-yielded
 returns-in-empty-clause-yielded g t c = λ known. none_yielded _ _ c.args.roots.now c.in-empty.len_below _ _ _ _
 
 pub returns-in-empty-clause-whole : goal.returns-in-empty-clause-whole
-returns-in-empty-clause-whole g t c = λ fixed told none is.
+returns-in-empty-clause-whole g t c = λ fixed told.
     let f = unpruned_below (g.S.FileSystem.functions (arc_value c.args.self.now.disk)) (g.X.Texts.functions (arc_value c.args.self.now.texts)) c.args.self.now.lines.now c.args.self.now.asked.now in
-    none_printed (f (sought_of takes_of (g.S.FileSystem.functions (arc_value c.args.self.now.disk)) c.args.printer.now.filter)) c.args.roots.now c.in-empty.len_below _ _ _
+    none_printed (f (sought_of takes_of (g.S.FileSystem.functions (arc_value c.args.self.now.disk)) c.args.printer.now.filter)) c.args.roots.now c.in-empty.len_below _ _ _ _ _
 
 pub returns-in-len1-clause-yielded : goal.returns-in-len1-clause-yielded
 returns-in-len1-clause-yielded g t c =
@@ -27,7 +28,7 @@ pub returns-in-len1-clause-whole : goal.returns-in-len1-clause-whole
 returns-in-len1-clause-whole g t c =
     let f = unpruned_below (g.S.FileSystem.functions (arc_value c.args.self.now.disk)) (g.X.Texts.functions (arc_value c.args.self.now.texts)) c.args.self.now.lines.now c.args.self.now.asked.now in
     IfOk-weaker c.below.result _ _
-    (λ clean whole. λ fixed told none is. one_printed (f (sought_of takes_of (g.S.FileSystem.functions (arc_value c.args.self.now.disk)) c.args.printer.now.filter)) c.args.roots.now _ (one_element c.args.roots.now _ c.in-len1.len_at_least c.in-len1.len_below) (whole fixed told none is))
+    (λ clean whole. λ fixed told. one_printed (f (sought_of takes_of (g.S.FileSystem.functions (arc_value c.args.self.now.disk)) c.args.printer.now.filter)) c.args.roots.now _ (one_element c.args.roots.now _ c.in-len1.len_at_least c.in-len1.len_below) (whole fixed told))
     c.below.ensures.whole
 
 pub returns-then-is_full-clause-yielded : goal.returns-then-is_full-clause-yielded
@@ -37,8 +38,11 @@ returns-then-is_full-clause-yielded g t c = λ known.
     (roots_stopped _ _ (texts_of parts.0.now) (texts_of parts.1.now) (c.is_full.ensures.full c.if-is_full.true) (c.in_ok-clean-in_default.ensures.yielded known))
 
 pub returns-then-is_full-clause-whole : goal.returns-then-is_full-clause-whole
-returns-then-is_full-clause-whole g t c = λ fixed told none is.
-    absurd (none_reached (c.in_ok-clean-in_default.ensures.yielded (λ empty. fixed, λ links. fixed)) none (c.is_full.ensures.full c.if-is_full.true))
+returns-then-is_full-clause-whole g t c = λ fixed told.
+    let f = unpruned_below (g.S.FileSystem.functions (arc_value c.args.self.now.disk)) (g.X.Texts.functions (arc_value c.args.self.now.texts)) c.args.self.now.lines.now c.args.self.now.asked.now in
+    let parts = c.split_at.result in
+    stopped_printed (f (sought_of takes_of (g.S.FileSystem.functions (arc_value c.args.self.now.disk)) c.args.printer.now.filter)) c.args.roots.now parts.0.now parts.1.now c.split_at.ensures.by_index.0
+    (c.is_full.ensures.full c.if-is_full.true) (c.in_ok-clean-in_default.ensures.whole fixed told)
 
 pub returns-in_ok-below_each-in_default-clause-yielded : goal.returns-in_ok-below_each-in_default-clause-yielded
 returns-in_ok-below_each-in_default-clause-yielded g t c = λ known.
@@ -49,12 +53,11 @@ returns-in_ok-below_each-in_default-clause-yielded g t c = λ known.
     (printed_such (same_below _ _ _ _ c.args.self.now.asked.now _ (texts_of parts.1.now) refl refl c.below_each.ensures.stays.sought) (c.in_ok-below_each-in_default.ensures.yielded (asked_if c.below_each.ensures.stays.sought c.below_each.ensures.stays.form (λ fixed. fixed) known))))
 
 pub returns-in_ok-below_each-in_default-clause-whole : goal.returns-in_ok-below_each-in_default-clause-whole
-returns-in_ok-below_each-in_default-clause-whole g t c = λ fixed told none is.
+returns-in_ok-below_each-in_default-clause-whole g t c = λ fixed told.
     let f = unpruned_below (g.S.FileSystem.functions (arc_value c.args.self.now.disk)) (g.X.Texts.functions (arc_value c.args.self.now.texts)) c.args.self.now.lines.now c.args.self.now.asked.now in
     let parts = c.split_at.result in
     let first = c.in_ok-clean-in_default.ensures in
-    let clean = c.in_ok-clean-in_default.clean in
-    let more = c.in_ok-below_each-in_default.field-0 in
+    let such = first.yielded (λ empty. fixed, λ links. fixed) in
     others_printed f c.args.roots.now parts.0.now parts.1.now c.split_at.ensures.by_index.0 c.below_each.ensures.stays.sought c.below_each.ensures.stays.form
-    (first.whole fixed told none (first_true clean more is))
-    (c.in_ok-below_each-in_default.ensures.whole fixed told (none_after (first.yielded (λ empty. fixed, λ links. fixed)) none) (second_true clean more is))
+    (λ one. one_still (sought_of takes_of (g.S.FileSystem.functions (arc_value c.args.self.now.disk)) c.args.printer.now.filter) such.answers one such.limit (c.is_full.ensures.room c.if-is_full.false))
+    (first.whole fixed told) (c.in_ok-below_each-in_default.ensures.whole fixed told)

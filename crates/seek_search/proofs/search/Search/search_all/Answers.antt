@@ -14,7 +14,7 @@ use Rattle.seek_search.specs.Search.{excluded_asked, leaving_out, named_below, o
 use Rattle.seek_words.specs.Filter.{sought_of}
 use Rattle.seek_found.specs.Prune.{unpruned}
 use Rattle.seek_found.specs.SoughtTest.{takes_of}
-use Rattle.seek_found.proofs.CleanFacts.{printed_as}
+use Rattle.seek_found.proofs.FirstFacts.{first_as}
 use Rattle.jwalk_ignore.proofs.KeptFacts.{whole_of}
 use Rattle.seek_search.proofs.SearchFacts.{yielded_so}
 use Rattle.seek_found.proofs.RootsFacts.{printed_such}
@@ -40,7 +40,7 @@ returns-clause-whole g c =
     = set.options ∙ built.options ∙ ap (with_crew (is_some self.crew)) c.options.ensures in
     let root : root_of walk ≡ c.args.root.now = set.root ∙ built.root ∙ c.in_ok-root.ensures.ok in
     IfOk-weaker c.print_begun.result _ _
-    (λ clean whole. λ fixed none is.
+    (λ clean whole. λ fixed.
     let steady : IsSteady _ _ _ _ (file_system_of walk) (callback_of walk) given
     = record {
       file_system = subst g.S.FileSystem.IsFixed (sym over) fixed;
@@ -56,10 +56,10 @@ returns-clause-whole g c =
       clones = λ x y h. refl;
       default = λ x h. refl;
     } in
-    printed_as (ap (unpruned (sought_of takes_of (g.S.FileSystem.functions (arc_value self.disk)) c.args.printer.now.filter))
+    first_as (ap (unpruned (sought_of takes_of (g.S.FileSystem.functions (arc_value self.disk)) c.args.printer.now.filter))
     (whole_of (leaving_out named excluded) (ap g.S.FileSystem.functions over) options root refl
     ∙ same_by_crew (leaving_out named excluded) (is_some self.crew) (g.S.FileSystem.functions (arc_value self.disk)) (options_asked asked) c.args.root.now blank))
-    (whole fixed given steady none is))
+    (whole fixed given steady))
     c.print_begun.ensures.whole
 
 pub returns-clause-yielded : goal.returns-clause-yielded

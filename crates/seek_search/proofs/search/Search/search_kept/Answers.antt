@@ -12,7 +12,7 @@ use Rattle.program_walks.proofs.CrewFacts.{hidden_by_crew}
 use Rattle.seek_words.specs.Filter.{sought_of}
 use Rattle.seek_found.specs.Prune.{unpruned}
 use Rattle.seek_found.specs.SoughtTest.{takes_of}
-use Rattle.seek_found.proofs.CleanFacts.{printed_as}
+use Rattle.seek_found.proofs.FirstFacts.{first_as}
 use Rattle.seek_found.proofs.RootsFacts.{printed_such}
 use Rattle.jwalk_ignore.specs.Callback.Excluding.{excluded_of, excluding}
 use Rattle.seek_search.specs.Search.{excluded_asked, options_asked, settings_asked}
@@ -39,11 +39,11 @@ returns-clause-whole g c =
     let options : options_of walk ≡ with_crew (is_some self.crew) (options_asked asked)
     = built.options ∙ ap (with_crew (is_some self.crew)) c.options.ensures in
     IfOk-weaker c.search_walk.result _ _
-    (λ clean whole. λ fixed told none is.
-    printed_as (ap (unpruned (sought_of takes_of (g.S.FileSystem.functions (arc_value self.disk)) c.args.printer.now.filter))
+    (λ clean whole. λ fixed told.
+    first_as (ap (unpruned (sought_of takes_of (g.S.FileSystem.functions (arc_value self.disk)) c.args.printer.now.filter))
     (ignoring_same (ap g.S.FileSystem.functions over) (ap g.X.Texts.functions from) settings lines options (built.root ∙ c.in_ok-root.ensures.ok)
     ∙ hidden_by_crew (ignoring (settings_asked self.lines.now asked) texts (excluding excluded)) (is_some self.crew) (g.S.FileSystem.functions (arc_value self.disk)) (options_asked asked) c.args.root.now no_rules_yet))
-    (whole fixed (subst g.S.FileSystem.IsFixed (sym over) fixed) (subst g.X.Texts.IsFixed (sym from) told) built.state none is))
+    (whole fixed (subst g.S.FileSystem.IsFixed (sym over) fixed) (subst g.X.Texts.IsFixed (sym from) told) built.state))
     c.search_walk.ensures.whole
 
 pub returns-clause-yielded : goal.returns-clause-yielded
