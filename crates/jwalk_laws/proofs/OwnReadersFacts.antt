@@ -1,12 +1,12 @@
 -- What readers that read when they are asked keep of where their readings come from.
-use Rattle.std.proofs.Common.{◌≡◌, ◌≢◌, ◌∙◌, ℕ, suc, ◌+◌, List, [], ◌∷◌, ◌++◌, map, length, append-nil, nil_from_length, All, Option, Some, None, option_map, option_to_list, slice_get, Bool, true, false, Result, Ok, Err, is_err, IfOk, OnOk, MatchResult, inl, inr, refl, sym, ap, ap₂, subst, arith}
+use Rattle.std.proofs.Common.{◌≡◌, ◌≢◌, ◌∙◌, ℕ, suc, ◌+◌, List, [], ◌∷◌, ◌++◌, map, length, append-nil, All, Option, Some, None, option_map, option_to_list, slice_get, Bool, true, false, Result, Ok, Err, is_err, IfOk, OnOk, MatchResult, inl, inr, refl, sym, ap, ap₂, subst, arith}
 use Rattle.std.specs.Prelude.{MatchOption}
 use Rattle.std.specs.Iterator.{Yields}
 use Rattle.std.specs.List.{AllZip}
 use Rattle.std.specs.declared.alloc.AllocError.{AllocError}
 use Rattle.std.specs.declared.clone.Clone as Clone
 use Rattle.std.specs.declared.default.Default as Default
-use Rattle.std.proofs.lemmas.List.{reverse-append, map-append, length-map}
+use Rattle.std.proofs.lemmas.List.{nil_from_length, reverse-append, map-append, length-map}
 use Rattle.std.proofs.lemmas.List.Elements.{All-nil, All-cons, All-head, All-tail, All-append}
 use Rattle.std.proofs.lemmas.Option.{slice_get-map}
 use Rattle.jwalk.specs.jwalk_model.Counted.{Worth}

@@ -22,7 +22,7 @@ module _ {C A B R E : Type 0} (readings : Readings.Ghosts B C A R E) (given : Gi
   -- What was yielded, and then what is still to come, is a part of what was to come before.
   pub in_order : {old new : Entries C A B R E} {found : List (Item Worth Worth)} → YieldsSkipping readings given old found new → IsPartOf (found ++ to_come readings given new) (to_come readings given old)
   in_order (over {it}) = part_itself (to_come readings given it)
-  in_order (one_yielded {old} {mid} {new} {x} {found} first rest) =
+  in_order (one_yielded {old} {mid} {new} x {found} first rest) =
       subst (IsPartOf (counted_item given x ∷ (found ++ to_come readings given new))) (sym first) (one_kept (in_order rest))
   in_order (some_skipped {old} {mid} {new} {found} drops rest) =
       subst (IsPartOf (found ++ to_come readings given new)) (sym (drops.coming given))

@@ -15,6 +15,6 @@ pub data IsPartOf {X : Type 0} : List X → List X → Type 0 where
 
 -- A walk yields these answers, and parts of it are skipped before, between and behind them.
 pub data YieldsSkipping {C A B R E : Type 0} (readings : Readings.Ghosts B C A R E) (given : Given R E) : Entries C A B R E → List (Item Worth Worth) → Entries C A B R E → Type 0 where
-  over : {it : Entries C A B R E} → YieldsSkipping it [] it
-  one_yielded : {old mid new : Entries C A B R E} {x : Item R E} {found : List (Item Worth Worth)} → ComesFirst readings given old (x ∷ []) mid → YieldsSkipping mid found new → YieldsSkipping old (counted_item given x ∷ found) new
-  some_skipped : {old mid new : Entries C A B R E} {found : List (Item Worth Worth)} → Drops readings old mid → YieldsSkipping mid found new → YieldsSkipping old found new
+  over : {it : Entries C A B R E} → YieldsSkipping readings given it [] it
+  one_yielded : {old mid new : Entries C A B R E} (x : Item R E) {found : List (Item Worth Worth)} → ComesFirst readings given old (x ∷ []) mid → YieldsSkipping readings given mid found new → YieldsSkipping readings given old (counted_item given x ∷ found) new
+  some_skipped : {old mid new : Entries C A B R E} {found : List (Item Worth Worth)} → Drops readings old mid → YieldsSkipping readings given mid found new → YieldsSkipping readings given old found new
