@@ -4,7 +4,7 @@ use Rattle.tally_run.proofs.RootFacts.{first_makes, ok_known}
 use Rattle.tally_run.proofs.run.run.Goals as goal
 
 pub returns-in-Ok-clause-ends : goal.returns-in-Ok-clause-ends
-returns-in-Ok-clause-ends g c = inl (_, c.in-Ok.ensures.asked, c.status_of.ensures.status)
+returns-in-Ok-clause-ends g c = inl (_, c.in-Ok.ensures.asked, search (arith, c.status_of.ensures.status))
 
 pub returns-in-Ok-clause-done : goal.returns-in-Ok-clause-done
 returns-in-Ok-clause-done g c = λ none. inr (_, c.in-Ok.ensures.asked, ok_known c.tally-ended.result true _ (c.status_of.ensures.clean none) c.tally-ended.ensures)
