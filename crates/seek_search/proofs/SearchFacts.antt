@@ -32,6 +32,7 @@ module _ {T C S P A R E : Type 0} (calls : CrewCallsOf T C S P A R E) {is : Walk
     is_so = more y.walk y.is_so;
     it = y.it;
     starts = y.starts;
+    begins = y.begins;
     yielded = y.yielded;
     called = y.called;
     counted = y.counted;
@@ -45,6 +46,7 @@ module _ {T C S P A R E : Type 0} (calls : CrewCallsOf T C S P A R E) {is : Walk
       is_so = y.is_so;
       it = y.it;
       starts = y.starts;
+      begins = y.begins;
       yielded = y.yielded;
       called = inl drains;
       counted = y.counted;
@@ -59,6 +61,7 @@ module _ {T C S P A R E : Type 0} (calls : CrewCallsOf T C S P A R E) {is : Walk
     is_so = y.is_so;
     it = y.it;
     starts = y.starts;
+    begins = y.begins;
     yielded = y.yielded;
     called = elim y.called [ inl drains ↦ inl drains | inr stopped ↦ inr (more stopped.0, stopped.1) ];
     counted = y.counted;

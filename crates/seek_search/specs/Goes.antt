@@ -11,7 +11,7 @@ use Rattle.jwalk.specs.jwalk_model.Options.{with_skip_hidden}
 use Rattle.jwalk.specs.jwalk_job.Given.{counted_list}
 use Rattle.jwalk_job.specs.declared.dir_entry.DirEntry.{DirEntry}
 use Rattle.jwalk_job.specs.declared.error.Error.{Error}
-use Rattle.jwalk.specs.WalkDir.{callback_of, described, file_system_of, options_of, root_of, state_of, stateless, Starts}
+use Rattle.jwalk.specs.WalkDir.{callback_of, described, file_system_of, options_of, root_of, state_of, stateless, BeginsAtRoot, Starts}
 use Rattle.jwalk.specs.declared.crew.Crew.{Crew}
 use Rattle.jwalk.specs.declared.crew.Session.{Session}
 use Rattle.jwalk.specs.DirEntryIter.{DirEntryIter}
@@ -44,13 +44,15 @@ use Rattle.seek_search.specs.declared.kept_links.KeptLinks.{KeptLinks}
 use Rattle.jwalk_ignore.specs.declared.callback.ignore_files.IgnoreFiles.{IgnoreFiles}
 use Rattle.jwalk_ignore.specs.declared.callback.states.RulesState.{RulesState}
 
--- A walk with these facts was begun and called until it ended, or some calls were made if the search may stop. These
--- are its answers, whatever the states are, without those below a find if these aren't looked for.
+-- A walk with these facts was begun, with the root's entry or an error, and called until it ended, or some calls were made
+-- if the search may stop. These are its answers, whatever the states are, without those below a find if these aren't
+-- looked for.
 pub record Yielded {T C S P A R E : Type 0} (calls : CrewCallsOf T C S P A R E) (is : WalkDirGeneric C S P A (Crew T) R E → Type 0) (sought : Sought) (may_stop : Type 0) (answers : List (Item Worth Worth)) : Type 0 where
   pub walk : WalkDirGeneric C S P A (Crew T) R E
   pub is_so : is walk
   pub it : DirEntryIter C S P A (Session T C S P A R E) R E
   pub starts : Starts walk it
+  pub begins : BeginsAtRoot it
   pub yielded : List (Result (DirEntry C A R E) (Error A))
   pub called : Drains calls it yielded ⊎ (may_stop × ((end : DirEntryIter C S P A (Session T C S P A R E) R E) × Yields calls it yielded end))
   pub counted : unpruned sought (counted_list stateless yielded) ≡ answers

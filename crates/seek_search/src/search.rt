@@ -73,7 +73,8 @@ fn print_begun<
 where
     C::ReadDirState: Send + 'static,
     C::DirEntryState: Send + 'static,
-    requires { P.IsLawful (callback_of walk) }
+    requires lawful { P.IsLawful (callback_of walk) }
+    requires keeps { P.KeepsRoot (callback_of walk) }
     ensures whole { IfOk result (PrintsWalk S.FileSystem P.ProcessReadDir C.ReadDirState.Clone C.DirEntryState.Default disk.now walk
         printer.old printer.new (W.contents out.old) (W.contents out.new)) }
     ensures yielded { IfOk result (PrintsThose (S.IsFixed disk.now) (S.functions disk.now) (Yielded ⟦<CrewWalk<T, C, S, P> as Iterator>⟧.next_gives (λ it. it ≡ walk))

@@ -16,7 +16,7 @@ use Rattle.seek_search.proofs.SearchFacts.{none_busy, none_refused}
 use Rattle.seek_search.proofs.search.print_begun.Goals as goal
 
 pub print_found-requires-clause-can : goal.print_found-requires-clause-can
-print_found-requires-clause-can g c = subst g.P.ProcessReadDir.IsLawful (sym c.into_iter-answers.ensures.starts.callback) c.requires
+print_found-requires-clause-can g c = subst g.P.ProcessReadDir.IsLawful (sym c.into_iter-answers.ensures.starts.callback) c.requires.lawful
 
 pub returns-clause-whole : goal.returns-clause-whole
 returns-clause-whole g c =
@@ -58,6 +58,7 @@ returns-clause-yielded g c =
       is_so = refl;
       it = c.into_iter-answers.result;
       starts = c.into_iter-answers.ensures.starts;
+      begins = c.into_iter-answers.ensures.root c.requires.keeps;
       yielded = prints.answered;
       called = prints.calls;
       counted = refl;
