@@ -55,13 +55,22 @@ impl<'a> Blocks<'a> {
         }
     }
 
+    /// Closes the last directory, to which no name comes any more.
+    fn close_last(&mut self) {
+        if let Some(last) = self.open.pop()
+            && let Some(block) = self.all.get_mut(last)
+        {
+            block.names.shrink_to_fit();
+        }
+    }
+
     /// Closes directories until the last has this path.
     fn close_up_to(&mut self, path: &str) {
         for _ in 0..self.open.len() {
             if self.last_at(path).is_some() {
                 return;
             }
-            self.open.pop();
+            self.close_last();
         }
     }
 

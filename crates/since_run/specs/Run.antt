@@ -1,5 +1,5 @@
 -- The steps of a call.
-use Rattle.std.specs.Prelude.{◌≡◌, ℕ, Bool, true, false, ◌==◌, ◌||◌, List, [], length, is_some, Option, None, Some, option_map, unwrap_or, Ok, Err, string_bytes, if◌then◌else◌}
+use Rattle.std.specs.Prelude.{◌≡◌, ℕ, Bool, true, false, ◌==◌, ◌||◌, List, [], length, is_some, Option, None, Some, option_map, unwrap_or, Result, Ok, Err, string_bytes, if◌then◌else◌}
 use Rattle.std.specs.IoError.{error_kind}
 use Rattle.std.specs.declared.alloc.Global.{Global}
 use Rattle.std.specs.declared.io.Error.{Error}
@@ -18,6 +18,7 @@ use Rattle.since_words.specs.declared.asked.Asked.{Asked}
 use Rattle.since_parts.specs.Saved.{IsTextOf}
 use Rattle.since_run.specs.declared.screen.Screen.{Screen}
 use Rattle.since_parts.specs.declared.choice.Choice.{Choice}
+use Rattle.since_parts.specs.declared.failure.Failure.{Failure}
 use Rattle.since_parts.specs.declared.tree.Tree.{Tree}
 
 -- what ends a line
@@ -84,3 +85,8 @@ HasTextAsked asked tree entries (Some text) = (asked.save ≡ true) × IsTextOf 
 abbrev pub ReplacesBy : {K : Type 0} → (K → List ℕ → List ℕ → K → Type 0) → List ℕ → K → Option (String Global) → K → Type 0
 ReplacesBy replaces file old None new = new ≡ old
 ReplacesBy replaces file old (Some text) new = replaces old file (string_bytes text) new
+
+-- A call that ended with 2, or with an error, saved nothing.
+abbrev pub IsUnsaved : {K : Type 0} → Result ℕ Failure → K → K → Type 0
+IsUnsaved (Ok status) old new = status ≡ 2 → new ≡ old
+IsUnsaved (Err failure) old new = new ≡ old

@@ -1,10 +1,10 @@
 //! A call of the program.
-ghost use Rattle.std.specs.Prelude.{◌≡◌, ◌≤◌, true, map, string_bytes, Ok, IfOk, OnOk};
+ghost use Rattle.std.specs.Prelude.{◌≡◌, ◌≤◌, true, map, string_bytes, Ok, IfOk, OnErr, OnOk};
 ghost use Rattle.std.specs.Arc.{arc_value};
 ghost use Rattle.std.specs.Io.KnownBytes.{Appends};
 ghost use Rattle.jwalk_model.specs.Paths.{dot};
 ghost use Rattle.jwalk_snapshot.specs.Text.{content_of, text_of, IsSnapshot};
-ghost use Rattle.since_run.specs.Run.{root_asked, rows_asked, separator_of, status_for, style_asked, text_asked, HasTextAsked, IsLoaded, IsMissing, ReplacesBy};
+ghost use Rattle.since_run.specs.Run.{root_asked, rows_asked, separator_of, status_for, style_asked, text_asked, HasTextAsked, IsLoaded, IsMissing, IsUnsaved, ReplacesBy};
 ghost use Rattle.since_run.specs.Done.{Begins, Compares, ComparesBytes, IsDone, Lists, LooksAt, SavesAsked, Tells};
 
 use crate::choice::{choice_asked, choice_for};
@@ -162,7 +162,8 @@ fn replace<K: Store, E: Write>(
     text: &Option<String>,
     err: &mut E,
 ) -> Result<(), Failure>
-    ensures { OnOk result (ReplacesBy K.Replaces file.now store.old text.now store.new) }
+    ensures replaces { OnOk result (ReplacesBy K.Replaces file.now store.old text.now store.new) }
+    ensures kept { OnErr result (store.new ≡ store.old) }
 {
     let Some(text) = text else {
         return Ok(());
@@ -245,6 +246,7 @@ fn save_told<K: Store, E: Write>(
     ensures clean { IfOk result (λ status. status ≤ 1 → told.now.found.clean ≡ true) }
     ensures tells { IfOk result (λ status. status ≤ 1 → status ≡ told.now.status) }
     ensures saves { IfOk result (λ status. status ≤ 1 → SavesAsked K.Replaces asked.now told.now.tree told.now.found.entries.items store.old store.new) }
+    ensures unsaved { IsUnsaved result store.old store.new }
 {
     let text = text_to_save(alloc, asked, &told.tree, &told.found, err)?;
     if !told.found.clean {
@@ -267,6 +269,7 @@ fn begin<T: Host, S: FileSystem + Send + Sync + 'static, X: Texts, K: Store, E: 
     ensures status { IfOk result (λ status. status ≤ 2) }
     ensures begins { IfOk result (λ status. status ≤ 1 → Begins S.FileSystem X.Texts K.Store ⟦<WholeWalk<T, S> as Iterator>⟧.next_gives
         (arc_value disk) texts.now crew.now asked.now store.old store.new status) }
+    ensures unsaved { IsUnsaved result store.old store.new }
 {
     let root = root_or_here(asked);
     let choice = choice_asked(asked, Choice::ALL);
@@ -369,6 +372,7 @@ fn since<T: Host, S: FileSystem + Send + Sync + 'static, X: Texts, K: Store, W: 
     ensures status { IfOk result (λ status. status ≤ 2) }
     ensures tells { IfOk result (λ status. status ≤ 1 → Tells S.FileSystem X.Texts K.Store ⟦<WholeWalk<T, S> as Iterator>⟧.next_gives
         disk texts.now cores asked.now screen (W.contents out.old) (W.contents out.new) store.old store.new status) }
+    ensures unsaved { IsUnsaved result store.old store.new }
 {
     let disk = Arc::new(alloc, disk)?;
     let crew = crew_with(rt, alloc, threads_in(cores, asked.threads))?;
@@ -384,7 +388,8 @@ fn since<T: Host, S: FileSystem + Send + Sync + 'static, X: Texts, K: Store, W: 
 
 /// What ended the call before its end is reported.
 fn status_of<E: Write>(ended: Result<u8, Failure>, err: &mut E) -> u8
-    ensures { result ≤ 1 → ended ≡ Ok result }
+    ensures low { result ≤ 1 → ended ≡ Ok result }
+    ensures ended { IfOk ended (λ status. result ≡ status) }
 {
     match ended {
         Ok(status) => status,
@@ -414,6 +419,8 @@ pub fn run<T: Host, S: FileSystem + Send + Sync + 'static, X: Texts, K: Store, W
 ) -> u8
     ensures done { result ≤ 1 → IsDone S.FileSystem X.Texts K.Store ⟦<WholeWalk<T, S> as Iterator>⟧.next_gives
         disk texts.now cores (map string_bytes words.now) screen (W.contents out.old) (W.contents out.new) store.old store.new result }
+    // Where the status is 2, nothing was saved.
+    ensures unsaved { result ≡ 2 → store.new ≡ store.old }
 {
     match read_words(alloc, words) {
         Ok(asked) => {

@@ -1,5 +1,5 @@
 //! What snapshots are written to.
-ghost use Rattle.std.specs.Prelude.{ℕ, List, OnOk};
+ghost use Rattle.std.specs.Prelude.{◌≡◌, ℕ, List, OnErr, OnOk};
 
 use jwalk_snapshot::replace;
 use std::alloc::Global;
@@ -17,7 +17,8 @@ pub trait Store {
     ///
     /// If the file can't be written. It is then as it was.
     fn replace(&mut self, path: &str, text: &str) -> io::Result<()>
-        ensures { OnOk result (Replaces self.old path.now text.now self.new) };
+        ensures replaces { OnOk result (Replaces self.old path.now text.now self.new) }
+        ensures kept { OnErr result (self.new ≡ self.old) };
 }
 
 /// The files that a runtime reaches.
