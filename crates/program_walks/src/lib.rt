@@ -2,3 +2,4 @@
 #![tactic(auto)]
 
 pub mod crew;
+pub mod folders;

@@ -1,5 +1,5 @@
 //! A search below roots.
-ghost use Rattle.std.specs.Prelude.{◌≡◌, ◌≢◌, [], Some, false, flat_map, true, IfOk};
+ghost use Rattle.std.specs.Prelude.{◌≡◌, ◌≢◌, [], None, Some, false, flat_map, true, if◌then◌else◌, IfOk};
 ghost use Rattle.std.specs.Arc.{arc_value};
 ghost use Rattle.program_parts.specs.Values.{texts_of as texts_now};
 ghost use Rattle.jwalk.specs.jwalk_model.Options.{with_skip_hidden};
@@ -10,7 +10,8 @@ ghost use Rattle.jwalk_ignore.specs.Rules.Chain.{no_rules};
 ghost use Rattle.jwalk_ignore.specs.Callback.IgnoreViews.{next_of, settings_of, texts_of};
 ghost use Rattle.jwalk_ignore.specs.Callback.Excluding.{excluded_of};
 ghost use Rattle.jwalk_ignore.specs.Callback.Kept.{ignoring_walk};
-ghost use Rattle.seek_search.specs.Goes.{IsHonouring, IsPlain, Yielded, YieldedBelow};
+ghost use Rattle.program_walks.specs.Folders.{crew_at};
+ghost use Rattle.seek_search.specs.Goes.{IsHonouring, IsPlain, Yielded, YieldedBelow, YieldedBy};
 ghost use Rattle.seek_search.specs.Printed.{PrintsAll, PrintsThose, PrintsWalk, StaysAs, WritesAll, WritesThose};
 ghost use Rattle.seek_search.specs.Search.{all_below, excluded_asked, kept_below, options_asked, roots_asked, settings_asked, unpruned_below, yielded_by};
 ghost use Rattle.seek_found.specs.Prune.{unpruned};
@@ -28,6 +29,7 @@ use jwalk_ignore::states::OnlyRules;
 use jwalk_ignore::texts::Texts;
 use program_parts::halt::Halt;
 use program_walks::crew::{CrewWalk, Plain, walk_below};
+use program_walks::folders::{has_folders, look_at};
 use seek_found::call::Ended;
 use seek_found::found::print_found;
 use seek_found::printer::Printer;
@@ -187,6 +189,7 @@ impl<
     fn search_all<W: Write, E: Write>(
         &self,
         alloc: Global,
+        crew: &Option<Arc<Crew<T>>>,
         root: &str,
         printer: &mut Printer<'_, SoughtTest<'_>>,
         out: &mut W,
@@ -197,7 +200,7 @@ impl<
             (excluded_asked self.now.asked.now root.now) root.now))
             printer.old printer.new (W.contents out.old) (W.contents out.new) clean) }
         ensures yielded { IfOk result (PrintsThose (S.IsFixed (arc_value self.now.disk)) (S.functions (arc_value self.now.disk)) (Yielded ⟦<PlainWalk<T, S> as Iterator>⟧.next_gives
-            (IsPlain (arc_value self.now.disk) self.now.crew self.now.lines.now self.now.asked.now root.now))
+            (IsPlain (arc_value self.now.disk) crew.now self.now.lines.now self.now.asked.now root.now))
             printer.old printer.new (W.contents out.old) (W.contents out.new)) }
         ensures stays { StaysAs (S.functions (arc_value self.now.disk)) printer.old printer.new }
     {
@@ -205,7 +208,7 @@ impl<
         let excluding = excluding_of(alloc, self.asked, root)?;
         let root = String::from_str(alloc, root)?;
         let disk = self.disk.clone()?;
-        let walk = walk_below::<((), ()), _, _, _>(disk, root, self.options(), &self.crew)?;
+        let walk = walk_below::<((), ()), _, _, _>(disk, root, self.options(), crew)?;
         print_begun(
             walk.process_read_dir(Both::new(naming, excluding)),
             &self.disk,
@@ -220,6 +223,7 @@ impl<
     fn search_kept<W: Write, E: Write>(
         &self,
         alloc: Global,
+        crew: &Option<Arc<Crew<T>>>,
         root: &str,
         printer: &mut Printer<'_, SoughtTest<'_>>,
         out: &mut W,
@@ -231,7 +235,7 @@ impl<
             (excluded_asked self.now.asked.now root.now) root.now))
             printer.old printer.new (W.contents out.old) (W.contents out.new) clean) }
         ensures yielded { IfOk result (PrintsThose (S.IsFixed (arc_value self.now.disk)) (S.functions (arc_value self.now.disk)) (Yielded ⟦<HonouringWalk<T, S, X> as Iterator>⟧.next_gives
-            (IsHonouring (arc_value self.now.disk) (arc_value self.now.texts) self.now.crew self.now.lines.now self.now.asked.now root.now))
+            (IsHonouring (arc_value self.now.disk) (arc_value self.now.texts) crew.now self.now.lines.now self.now.asked.now root.now))
             printer.old printer.new (W.contents out.old) (W.contents out.new)) }
         ensures stays { StaysAs (S.functions (arc_value self.now.disk)) printer.old printer.new }
     {
@@ -240,11 +244,48 @@ impl<
         let rules = rules_of(alloc, self.asked, self.lines, texts)?.then(excluding);
         let root = String::from_str(alloc, root)?;
         let disk = self.disk.clone()?;
-        let walk = walk_below::<OnlyRules, _, _, _>(disk, root, self.options(), &self.crew)?;
+        let walk = walk_below::<OnlyRules, _, _, _>(disk, root, self.options(), crew)?;
         search_walk(walk, &self.disk, rules, printer, self.clock, out, err)
     }
 
-    /// Prints what is found, and reports errors. Returns whether there was none.
+    /// This crew reads, if there is one.
+    fn below_by<W: Write, E: Write>(
+        &self,
+        alloc: Global,
+        crew: &Option<Arc<Crew<T>>>,
+        root: &str,
+        printer: &mut Printer<'_, SoughtTest<'_>>,
+        out: &mut W,
+        err: &mut E,
+    ) -> Result<bool, Halt>
+        ensures whole { IfOk result (λ clean. S.IsFixed (arc_value self.now.disk) → X.IsFixed (arc_value self.now.texts)
+            → PrintsAll (S.functions (arc_value self.now.disk)) (λ sought. unpruned_below (S.functions (arc_value self.now.disk)) (X.functions (arc_value self.now.texts))
+            self.now.lines.now self.now.asked.now sought root.now)
+            printer.old printer.new (W.contents out.old) (W.contents out.new) clean) }
+        ensures yielded { IfOk result (PrintsThose (S.IsFixed (arc_value self.now.disk)) (S.functions (arc_value self.now.disk)) (λ sought may_stop. YieldedBy ⟦<PlainWalk<T, S> as Iterator>⟧.next_gives
+            ⟦<HonouringWalk<T, S, X> as Iterator>⟧.next_gives (arc_value self.now.disk) (arc_value self.now.texts)
+            crew.now self.now.lines.now self.now.asked.now sought may_stop root.now) printer.old printer.new (W.contents out.old) (W.contents out.new)) }
+        ensures stays { StaysAs (S.functions (arc_value self.now.disk)) printer.old printer.new }
+    {
+        if self.asked.no_ignore {
+            return self.search_all(alloc, crew, root, printer, out, err);
+        }
+        self.search_kept(alloc, crew, root, printer, out, err)
+    }
+
+    /// Returns whether directories may be in a root, so that a crew is needed, if there is one.
+    fn needs_crew(&self, root: &str) -> Result<bool, AllocError>
+        ensures { S.IsFixed (arc_value self.now.disk) → IfOk result (λ needed. (if needed then self.now.crew else None)
+            ≡ crew_at (S.functions (arc_value self.now.disk)) self.now.asked.now.follow root.now self.now.crew) }
+    {
+        if self.crew.is_none() {
+            return Ok(false);
+        }
+        Ok(has_folders(look_at(&self.disk, root)?, self.asked.follow))
+    }
+
+    /// Prints what is found, and reports errors. Returns whether there was none. A root that no directory is in needs no
+    /// crew.
     fn below<W: Write, E: Write>(
         &self,
         alloc: Global,
@@ -258,14 +299,14 @@ impl<
             self.now.lines.now self.now.asked.now sought root.now)
             printer.old printer.new (W.contents out.old) (W.contents out.new) clean) }
         ensures yielded { IfOk result (PrintsThose (S.IsFixed (arc_value self.now.disk)) (S.functions (arc_value self.now.disk)) (λ sought may_stop. YieldedBelow ⟦<PlainWalk<T, S> as Iterator>⟧.next_gives
-            ⟦<HonouringWalk<T, S, X> as Iterator>⟧.next_gives (arc_value self.now.disk) (arc_value self.now.texts)
+            ⟦<HonouringWalk<T, S, X> as Iterator>⟧.next_gives (S.IsFixed (arc_value self.now.disk)) (S.functions (arc_value self.now.disk)) (arc_value self.now.disk) (arc_value self.now.texts)
             self.now.crew self.now.lines.now self.now.asked.now sought may_stop root.now) printer.old printer.new (W.contents out.old) (W.contents out.new)) }
         ensures stays { StaysAs (S.functions (arc_value self.now.disk)) printer.old printer.new }
     {
-        if self.asked.no_ignore {
-            return self.search_all(alloc, root, printer, out, err);
+        if self.needs_crew(root)? {
+            return self.below_by(alloc, &self.crew, root, printer, out, err);
         }
-        self.search_kept(alloc, root, printer, out, err)
+        self.below_by(alloc, &None, root, printer, out, err)
     }
 
     /// Searches the two halves of the roots in turn. Returns whether there was no error.
@@ -278,7 +319,7 @@ impl<
         err: &mut E,
     ) -> Result<bool, Halt>
         ensures yielded { IfOk result (PrintsThose (S.IsFixed (arc_value self.now.disk)) (S.functions (arc_value self.now.disk)) (λ sought may_stop. AreBelow (YieldedBelow ⟦<PlainWalk<T, S> as Iterator>⟧.next_gives
-            ⟦<HonouringWalk<T, S, X> as Iterator>⟧.next_gives (arc_value self.now.disk) (arc_value self.now.texts)
+            ⟦<HonouringWalk<T, S, X> as Iterator>⟧.next_gives (S.IsFixed (arc_value self.now.disk)) (S.functions (arc_value self.now.disk)) (arc_value self.now.disk) (arc_value self.now.texts)
             self.now.crew self.now.lines.now self.now.asked.now sought) may_stop (texts_now roots.now)) printer.old printer.new (W.contents out.old) (W.contents out.new)) }
         ensures whole { IfOk result (λ clean. S.IsFixed (arc_value self.now.disk) → X.IsFixed (arc_value self.now.texts)
             → PrintsAll (S.functions (arc_value self.now.disk)) (λ sought. flat_map (unpruned_below (S.functions (arc_value self.now.disk))
@@ -309,7 +350,7 @@ impl<
         err: &mut E,
     ) -> Result<bool, Halt>
         ensures yielded { IfOk result (PrintsThose (S.IsFixed (arc_value self.now.disk)) (S.functions (arc_value self.now.disk)) (λ sought may_stop. AreBelow (YieldedBelow ⟦<PlainWalk<T, S> as Iterator>⟧.next_gives
-            ⟦<HonouringWalk<T, S, X> as Iterator>⟧.next_gives (arc_value self.now.disk) (arc_value self.now.texts)
+            ⟦<HonouringWalk<T, S, X> as Iterator>⟧.next_gives (S.IsFixed (arc_value self.now.disk)) (S.functions (arc_value self.now.disk)) (arc_value self.now.disk) (arc_value self.now.texts)
             self.now.crew self.now.lines.now self.now.asked.now sought) may_stop (roots_asked self.now.asked.now)) printer.old printer.new
             (W.contents out.old) (W.contents out.new)) }
         ensures whole { IfOk result (λ clean. S.IsFixed (arc_value self.now.disk) → X.IsFixed (arc_value self.now.texts)
@@ -334,7 +375,7 @@ impl<
         err: &mut E,
     ) -> Result<Ended, Halt>
         ensures yielded { IfOk result (λ ended. WritesThose (S.IsFixed (arc_value self.now.disk)) (S.functions (arc_value self.now.disk)) (λ sought may_stop. AreBelow (YieldedBelow ⟦<PlainWalk<T, S> as Iterator>⟧.next_gives
-            ⟦<HonouringWalk<T, S, X> as Iterator>⟧.next_gives (arc_value self.now.disk) (arc_value self.now.texts)
+            ⟦<HonouringWalk<T, S, X> as Iterator>⟧.next_gives (S.IsFixed (arc_value self.now.disk)) (S.functions (arc_value self.now.disk)) (arc_value self.now.disk) (arc_value self.now.texts)
             self.now.crew self.now.lines.now self.now.asked.now sought) may_stop (roots_asked self.now.asked.now)) printer.old printer.new
             (W.contents out.old) (W.contents out.new) ended.clean) }
         ensures whole { IfOk result (λ ended. S.IsFixed (arc_value self.now.disk) → X.IsFixed (arc_value self.now.texts)

@@ -79,7 +79,7 @@ returns-clause-yielded g c =
       is_shown = subst (λ x. IsFront (g.X.Texts.IsFixed x) (g.X.Texts.functions x) asked.absolute made.shown) c.in_ok-shared-2.ensures made.is_shown;
       left = c.print.new.printer.left;
       printed = λ known. such_printed_by looked formed made.limit
-          (printed_such (same_below _ _ _ _ asked _ (roots_asked asked) c.in_ok-shared.ensures c.in_ok-shared-2.ensures looked) (prints made.empty (asked_if looked formed stays known)));
+          (printed_such (same_below _ _ _ _ asked _ (roots_asked asked) stays (ap (λ (d : KeptLinks _). functions_kept d.follow (g.S.FileSystem.functions d.disk)) c.in_ok-shared.ensures) c.in_ok-shared.ensures c.in_ok-shared-2.ensures looked) (prints made.empty (asked_if looked formed stays known)));
     })
     c.print.ensures.yielded
 
@@ -102,7 +102,7 @@ returns-clause-found g c =
       front = made.filter.front;
       in_front = subst (λ x. IsFront (g.X.Texts.IsFixed x) (g.X.Texts.functions x) asked.full_path made.filter.front) c.in_ok-shared-2.ensures made.filter.is_front;
       answers = yielded.answers;
-      yielded = stops_sooner _ _ _ _ _ _ asked _ _ _ (reached ended.full room) (roots_asked asked) yielded.answers (same_below _ _ _ _ asked _ (roots_asked asked) c.in_ok-shared.ensures c.in_ok-shared-2.ensures looked yielded.answers yielded.such);
+      yielded = stops_sooner _ _ _ _ _ _ _ _ asked _ _ _ (reached ended.full room) (roots_asked asked) yielded.answers (same_below _ _ _ _ asked _ (roots_asked asked) stays (ap (λ (d : KeptLinks _). functions_kept d.follow (g.S.FileSystem.functions d.disk)) c.in_ok-shared.ensures) c.in_ok-shared.ensures c.in_ok-shared-2.ensures looked yielded.answers yielded.such);
       one = subst (λ (s : Sought). list_any (is_hit s) yielded.answers ≡ ended.full) looked (found_if_full yielded limited ended.full filled room);
     })
     c.print.ensures.yielded c.print.ensures.full c.print.ensures.room

@@ -22,7 +22,7 @@ returns-in-empty-clause-whole g t c = λ fixed told.
 
 pub returns-in-len1-clause-yielded : goal.returns-in-len1-clause-yielded
 returns-in-len1-clause-yielded g t c =
-    IfOk-weaker c.below.result _ _ (λ clean prints. λ known. printed_such (below_one _ _ _ _ _ _ c.args.self.now.asked.now _ _ c.args.roots.now _ c.in-len1.len_at_least c.in-len1.len_below) (prints known)) c.below.ensures.yielded
+    IfOk-weaker c.below.result _ _ (λ clean prints. λ known. printed_such (below_one _ _ _ _ _ _ _ _ c.args.self.now.asked.now _ _ c.args.roots.now _ c.in-len1.len_at_least c.in-len1.len_below) (prints known)) c.below.ensures.yielded
 
 pub returns-in-len1-clause-whole : goal.returns-in-len1-clause-whole
 returns-in-len1-clause-whole g t c =
@@ -34,7 +34,7 @@ returns-in-len1-clause-whole g t c =
 pub returns-then-is_full-clause-yielded : goal.returns-then-is_full-clause-yielded
 returns-then-is_full-clause-yielded g t c = λ known.
     let parts = c.split_at.result in
-    printed_such (below_same _ _ _ _ _ _ c.args.self.now.asked.now _ _ (texts_then c.args.roots.now parts.0.now parts.1.now c.split_at.ensures.by_index.0))
+    printed_such (below_same _ _ _ _ _ _ _ _ c.args.self.now.asked.now _ _ (texts_then c.args.roots.now parts.0.now parts.1.now c.split_at.ensures.by_index.0))
     (roots_stopped _ _ (texts_of parts.0.now) (texts_of parts.1.now) (c.is_full.ensures.full c.if-is_full.true) (c.in_ok-clean-in_default.ensures.yielded known))
 
 pub returns-then-is_full-clause-whole : goal.returns-then-is_full-clause-whole
@@ -47,10 +47,10 @@ returns-then-is_full-clause-whole g t c = λ fixed told.
 pub returns-in_ok-below_each-in_default-clause-yielded : goal.returns-in_ok-below_each-in_default-clause-yielded
 returns-in_ok-below_each-in_default-clause-yielded g t c = λ known.
     let parts = c.split_at.result in
-    printed_such (below_same _ _ _ _ _ _ c.args.self.now.asked.now _ _ (texts_then c.args.roots.now parts.0.now parts.1.now c.split_at.ensures.by_index.0))
+    printed_such (below_same _ _ _ _ _ _ _ _ c.args.self.now.asked.now _ _ (texts_then c.args.roots.now parts.0.now parts.1.now c.split_at.ensures.by_index.0))
     (roots_printed _ _ (texts_of parts.0.now) (texts_of parts.1.now) _ _ _ _ _ _ c.in_ok-clean-in_default.clean c.in_ok-below_each-in_default.field-0 (c.is_full.ensures.room c.if-is_full.false) c.below_each.ensures.stays.sought c.below_each.ensures.stays.form
     (c.in_ok-clean-in_default.ensures.yielded known)
-    (printed_such (same_below _ _ _ _ c.args.self.now.asked.now _ (texts_of parts.1.now) refl refl c.below_each.ensures.stays.sought) (c.in_ok-below_each-in_default.ensures.yielded (asked_if c.below_each.ensures.stays.sought c.below_each.ensures.stays.form (λ fixed. fixed) known))))
+    (printed_such (same_below _ _ _ _ c.args.self.now.asked.now _ (texts_of parts.1.now) (λ fixed. fixed) refl refl refl c.below_each.ensures.stays.sought) (c.in_ok-below_each-in_default.ensures.yielded (asked_if c.below_each.ensures.stays.sought c.below_each.ensures.stays.form (λ fixed. fixed) known))))
 
 pub returns-in_ok-below_each-in_default-clause-whole : goal.returns-in_ok-below_each-in_default-clause-whole
 returns-in_ok-below_each-in_default-clause-whole g t c = λ fixed told.
