@@ -1,4 +1,4 @@
-//! What comes of walks of which parts are skipped, by rows of `walkdir`'s tests and of what differs from it.
+//! What walks yield where parts are skipped, by rows of `walkdir`'s tests and of what differs from it.
 ghost use Rattle.jwalk.specs.DirEntryIter.{reads_of};
 
 use crate::three_ways::{READERS, Reader};
