@@ -3,7 +3,7 @@
 
     python3 bench/edits.py [--check] [CRATE | CRATE/NAME ..]
     python3 bench/edits.py [--kept] --since COMMIT
-    python3 bench/edits.py --kept [CRATE | CRATE/NAME ..]
+    python3 bench/edits.py --kept [--jobs N] [CRATE | CRATE/NAME ..]
     python3 bench/edits.py --twins [CRATE | CRATE/NAME ..]
 
 An edit is the file bench/edits/CRATE/NAME.edit. All are tried where none is named, of a crate that is named all of its
@@ -15,7 +15,10 @@ TRIED. The script ends with 1 if one isn't refused.
 
 With --kept each is tried on a copy of its crate, over what `rt lib` or `rt check` keeps there and in the crates below:
 run `rt check` in the crate first. An edit then takes some 20 seconds and not a whole check. The gate's edits are tried
-too. The gate itself takes nothing from kept work.
+too. The gate itself takes nothing from kept work. With --jobs N the edits of N crates are tried side by side.
+
+An edit is "refused at a name" if no contract refuses it: a proof file names what the edit took away. It is to be written
+anew, so that the names stay and a value changes. It counts as refused, and the last line says how many there are.
 
 With --since it tries those of each crate whose text, or that of a library below it, changed since a commit: the files in
 src/, specs/ and proofs/, the line of crates.txt, and the crate's own edits. What isn't committed yet counts too. Who
@@ -36,12 +39,18 @@ import signal
 import subprocess
 import sys
 import tempfile
+from concurrent.futures import ThreadPoolExecutor
 
 TOP = os.path.dirname(os.path.dirname(os.path.abspath(__file__)))
 
 ASIDE = "must-fail-aside"
 
+AT_A_NAME = "refused at a name"
+
 VERDICTS = ["NOT REFUSED", "NOT TRIED", "BAD EDIT", "refused"]
+
+# how an error begins that is no more than a name in a proof file, which the edit took away
+NAMING = re.compile(r"(\./)?proofs/.*(has no field|is not in scope|has no `|was not admitted)")
 
 
 def read(path):
@@ -190,7 +199,9 @@ def run_on(crate):
                 _, found, said = line.partition(f"must-fail {crate}/")
                 name, _, said = said.partition(".edit: ")
                 if found:
-                    verdicts[name] = next((it for it in VERDICTS if said.startswith(it)), "NOT TRIED")
+                    verdict = next((it for it in VERDICTS if said.startswith(it)), "NOT TRIED")
+                    is_naming = verdict == "refused" and "only because a proof file names" in said
+                    verdicts[name] = AT_A_NAME if is_naming else verdict
         except BaseException:
             child.terminate()
             raise
@@ -272,10 +283,13 @@ def verdict_over(folder, texts):
                 out.write(text)
     told = re.compile(r"(note: )?\S+:\d+:\d+: (error|it is not proved)")
     errors = [line for line in done.stdout.splitlines() if told.match(line)]
-    first = errors[0] if errors else done.stdout.strip().rpartition("\n")[2]
+    others = [line for line in errors if not NAMING.match(line)]
+    first = (others or errors or [done.stdout.strip().rpartition("\n")[2]])[0]
     if done.returncode == 0:
         return "NOT REFUSED", ""
-    return "refused" if re.search(r"^logic=not-proved", done.stdout, re.M) else "BAD EDIT", first
+    if not re.search(r"^logic=not-proved", done.stdout, re.M):
+        return "BAD EDIT", first
+    return AT_A_NAME if errors and not others else "refused", first
 
 
 def tried_over_kept(crate, names):
@@ -320,9 +334,23 @@ def texts_of(crate, names, twins):
     return {name: read(f"{own_edits(crate)}/{name}.edit") for name in names}
 
 
+def number_behind(words, word, default):
+    """The number behind a word, which both go; `default` where the word isn't there."""
+    if word not in words:
+        return default
+    at = words.index(word)
+    if not words[at + 1 : at + 2] or not words[at + 1].isdigit() or words[at + 1] == "0":
+        sys.exit(f"{word} takes a number above 0")
+    number = int(words[at + 1])
+    del words[at : at + 2]
+    return number
+
+
 def main():
-    twins, kept = "--twins" in sys.argv, "--kept" in sys.argv
-    words = [word for word in sys.argv[1:] if word not in ("--check", "--twins", "--kept")]
+    words = sys.argv[1:]
+    jobs = number_behind(words, "--jobs", 1)
+    twins, kept = "--twins" in words, "--kept" in words
+    words = [word for word in words if word not in ("--check", "--twins", "--kept")]
     names_of = gate_names if twins else all_names if kept else own_names
     if words[:1] == ["--since"] and len(words) == 2:
         asked = edits_since(words[1], names_of)
@@ -333,18 +361,24 @@ def main():
     # so that an end by one of these signals puts the folder back
     for number in (signal.SIGTERM, signal.SIGHUP):
         signal.signal(number, lambda number, frame: sys.exit(128 + number))
-    results = []
-    for crate, names in asked.items():
+
+    def results_of(asked_of):
+        crate, names = asked_of
         texts = {name: "" for name in names} if kept else texts_of(crate, names, twins)
         verdicts = {}
         if texts:
             verdicts = tried_over_kept(crate, names) if kept else tried(crate, texts)
-        results += [(f"{crate}/{name}", verdicts.get(name, "NOT TRIED")) for name in texts]
+        return [(f"{crate}/{name}", verdicts.get(name, "NOT TRIED")) for name in texts]
+
+    with ThreadPoolExecutor(jobs if kept else 1) as pool:
+        results = [it for found in pool.map(results_of, asked.items()) for it in found]
     for name, verdict in results:
         print(f"{name}: {verdict}")
-    wanted = "NOT REFUSED" if twins else "refused"
-    right = sum(verdict == wanted for _, verdict in results)
-    print(f"{right} of {len(results)} {'twins are accepted' if twins else 'edits are refused'}")
+    wanted = ["NOT REFUSED"] if twins else ["refused", AT_A_NAME]
+    right = sum(verdict in wanted for _, verdict in results)
+    naming = sum(verdict == AT_A_NAME for _, verdict in results)
+    told = "twins are accepted" if twins else f"edits are refused, {naming} of them at a name"
+    print(f"{right} of {len(results)} {told}")
     sys.exit(0 if right == len(results) else 1)
 
 
