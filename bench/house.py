@@ -6,6 +6,7 @@
     python3 bench/house.py reach CRATE/FILE/NAME ..
                                               the definitions that each of these leads to
     python3 bench/house.py twice [CRATE ..]   lines that are there twice
+    python3 bench/house.py --check            fails if one of the figures is above its bound (BOUNDS)
 
 A clause is what stands in the braces of `requires` or `ensures` of a function, with one space for each run of spaces.
 Its length is also given with each definition of its own crate that has no other user in its place. A definition leads
@@ -22,6 +23,19 @@ import sys
 TOP = os.path.dirname(os.path.dirname(os.path.abspath(__file__)))
 
 LEAST_RUN = 6
+
+# What no change may make worse: the figures as they are, or less. The aims are in brackets.
+BOUNDS = {
+    "words of the documents": 26_000,
+    "lines of README": 90,
+    "clauses of the library over 260 characters (0)": 16,
+    "clauses of programs over 260 characters (0)": 41,
+    "characters of nine tenths of the library's clauses (110)": 116,
+    "characters of nine tenths of the programs' clauses (110)": 128,
+    "the same, unfolded (110)": 140,
+    "pairs of places with equal lines": 359,
+    "definitions that DirEntryIter/Answers leads to (200)": 324,
+}
 
 Clause = collections.namedtuple("Clause", "crate function text")
 Definition = collections.namedtuple("Definition", "crate file name text")
@@ -204,32 +218,69 @@ def say_clauses(names):
         print(f"{length} ({whole} unfolded)  {clause.crate} {clause.function}: {clause.text[:90]}")
 
 
+def reach_of(word, every):
+    """How many definitions one leads to, which is named by its crate, its file and its name."""
+    crate, _, path = word.partition("/")
+    file, _, name = path.rpartition("/")
+    if (crate, file, name) not in every:
+        sys.exit(f"{word} is no definition")
+    return len(reached(every[crate, file, name], every))
+
+
 def say_reach(words):
     every = every_definition()
     for word in words:
-        crate, _, path = word.partition("/")
-        file, _, name = path.rpartition("/")
-        if (crate, file, name) not in every:
-            sys.exit(f"{word} is no definition")
-        print(f"{word}: {len(reached(every[crate, file, name], every))} definitions")
+        print(f"{word}: {reach_of(word, every)} definitions")
+
+
+def sizes_of(of_programs):
+    """The lengths of all clauses of programs or of the library, and their lengths unfolded."""
+    names = [it for it in crates() if is_program(it) == of_programs and not it.startswith(("test_", "example"))]
+    sizes = [(length, whole) for crate in names for length, whole, _ in measured(crate)]
+    return [it[0] for it in sizes], [it[1] for it in sizes]
+
+
+def readme_lines():
+    return len(read(f"{TOP}/README.md").splitlines())
 
 
 def say_all():
-    library = [crate for crate in crates() if not crate.startswith(("test_", "example")) and not is_program(crate)]
-    for title, names in (("library", library), ("programs", [crate for crate in crates() if is_program(crate)])):
-        sizes = [(length, whole) for crate in names for length, whole, _ in measured(crate)]
-        plain, whole = [it[0] for it in sizes], [it[1] for it in sizes]
-        print(f"{title}: {len(sizes)} clauses; characters: half at most {part(plain, 0.5)}, nine tenths {part(plain, 0.9)},", end="")
+    for title, of_programs in (("library", False), ("programs", True)):
+        plain, whole = sizes_of(of_programs)
+        print(f"{title}: {len(plain)} clauses; characters: half at most {part(plain, 0.5)}, nine tenths {part(plain, 0.9)},", end="")
         print(f" longest {max(plain)}, over 260: {sum(it > 260 for it in plain)}; unfolded, nine tenths {part(whole, 0.9)}")
     found = runs(crates())
     print(f"{len(found)} pairs of places with {LEAST_RUN} equal lines or more, {sum(it[0] for it in found)} lines")
     say_reach(["jwalk_iter/DirEntryIter/Answers"])
-    print(f"documents: {document_words()} words; README: {len(read(f'{TOP}/README.md').splitlines())} lines")
+    print(f"documents: {document_words()} words; README: {readme_lines()} lines")
+
+
+def check():
+    """Compares the figures with their bounds, says which are above, and returns how many."""
+    (library, _), (programs, unfolded_programs) = sizes_of(False), sizes_of(True)
+    figures = {
+        "words of the documents": document_words(),
+        "lines of README": readme_lines(),
+        "clauses of the library over 260 characters (0)": sum(it > 260 for it in library),
+        "clauses of programs over 260 characters (0)": sum(it > 260 for it in programs),
+        "characters of nine tenths of the library's clauses (110)": part(library, 0.9),
+        "characters of nine tenths of the programs' clauses (110)": part(programs, 0.9),
+        "the same, unfolded (110)": part(unfolded_programs, 0.9),
+        "pairs of places with equal lines": len(runs(crates())),
+        "definitions that DirEntryIter/Answers leads to (200)": reach_of("jwalk_iter/DirEntryIter/Answers", every_definition()),
+    }
+    above = [title for title, bound in BOUNDS.items() if figures[title] > bound]
+    for title in above:
+        print(f"{title}: {figures[title]}, and the bound is {BOUNDS[title]}")
+    print(f"{len(BOUNDS) - len(above)} of {len(BOUNDS)} figures are within their bounds")
+    return len(above)
 
 
 def main():
     verb, words = (sys.argv[1:] or [""])[0], sys.argv[2:]
-    if verb == "clauses":
+    if verb == "--check":
+        sys.exit(1 if check() else 0)
+    elif verb == "clauses":
         say_clauses(words or crates())
     elif verb == "reach":
         say_reach(words)
