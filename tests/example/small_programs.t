@@ -200,3 +200,24 @@ $ example sources p .c
   p/lib/b.c
   p/lib/long_name.c
   p/main.c
+
+# what differs between two folders
+tree
+  d old
+  f 1 old/a.txt
+  f 2 old/b.txt
+  f 3 old/lib/c.txt
+  f 4 old/lib-2
+  f 5 old/x
+  d new
+  f 1 new/a.txt
+  f 9 new/b.txt
+  f 3 new/lib/.d
+  f 4 new/lib-2
+  d new/x
+$ example changed old new
+  ~ b.txt
+  + lib/.d
+  - lib/c.txt
+  ~ x
+$ example changed old old

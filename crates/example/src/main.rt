@@ -2,7 +2,7 @@
 #![tactic(auto)]
 
 use examples::{
-    all_errors, archive, batch_walk, branches, crew_walk, finder, ignore_walk, newest,
+    all_errors, archive, batch_walk, branches, changed, crew_walk, finder, ignore_walk, newest,
     newest_first, one_disk, remove_tree, sources, to_csv, totals, unmarked, usage_walk,
 };
 use jwalk::file_system::{FileSystem, RealFs};
@@ -14,7 +14,7 @@ use std::{env, io};
 /// The names that there are.
 const NAMES: &str =
     "usage_walk ignore_walk batch_walk crew_walk totals finder unmarked newest newest_first one_disk to_csv \
-                     archive remove_tree branches sources all_errors";
+                     archive remove_tree branches changed sources all_errors";
 
 /// Runs an example that is given a walk.
 fn run<R: Host + AllocGlobal, S: FileSystem + Send + Sync + 'static, W: Write>(
@@ -60,6 +60,7 @@ fn main(rt: HostRuntime) -> anyhow::Result<()> {
             )
         }
         "branches" => branches::run(rt.alloc(), disk, root, out),
+        "changed" => changed::run(rt.alloc(), &disk, root, word, out),
         "crew_walk" => crew_walk::run(&rt, disk, root, out),
         "finder" => finder::run(&rt, disk, root, &word, out),
         "archive" => archive::run(rt.alloc(), rt.reader(), root, out),

@@ -6,6 +6,7 @@ pub mod all_errors;
 pub mod archive;
 pub mod batch_walk;
 pub mod branches;
+pub mod changed;
 pub mod crew_walk;
 pub mod finder;
 pub mod ignore_walk;

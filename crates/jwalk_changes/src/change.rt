@@ -3,6 +3,7 @@ ghost use Rattle.std.specs.Prelude.{◌≡◌};
 
 use crate::facts::Which;
 use std::alloc::{AllocError, AllocFailed};
+use std::error::Error;
 use std::fmt::{self, Display, Formatter};
 
 /// What differs at a path.
@@ -42,6 +43,8 @@ impl Display for NotAscending {
         f.write_str(self.message())
     }
 }
+
+impl Error for NotAscending {}
 
 /// Why not all changes were found.
 #[derive(Clone, Copy, Debug, PartialEq, Eq)]
@@ -90,3 +93,5 @@ impl Display for ChangesError {
         }
     }
 }
+
+impl Error for ChangesError {}

@@ -6,6 +6,7 @@ ghost use Rattle.jwalk_subtotals.specs.Error.{ends_walk, is_last};
 use jwalk::Error;
 use jwalk_usage::UsageFault;
 use std::alloc::{AllocError, Allocator, Global};
+use std::{error, fmt};
 
 /// What is yielded beside subtotals: an error of the walk, or why no more subtotals come.
 #[derive(Drop)]
@@ -60,3 +61,15 @@ impl<A: Allocator + Copy> From<UsageFault> for SubtotalError<A> {
         }
     }
 }
+
+impl<A: Allocator + Copy> fmt::Display for SubtotalError<A> {
+    fn fmt<W: fmt::Write>(&self, f: &mut fmt::Formatter<W>) -> fmt::Result {
+        match self {
+            SubtotalError::Walk(error) => write!(f, "{error}"),
+            SubtotalError::TooMany => f.write_str("a subtotal passes the greatest number"),
+            SubtotalError::Memory => f.write_str("memory refused for the subtotals"),
+        }
+    }
+}
+
+impl<A: Allocator + Copy> error::Error for SubtotalError<A> {}
