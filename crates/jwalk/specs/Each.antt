@@ -10,7 +10,8 @@ use Rattle.jwalk_job.specs.declared.process_read_dir.ProcessReadDir as ProcessRe
 use Rattle.jwalk_readings.specs.declared.readers.Readers as Readers
 use Rattle.jwalk_iter.specs.DirEntryIter.{DirEntryIter, by_crew, IsRefused, StartsSteady}
 use Rattle.jwalk.specs.declared.walk_dir.WalkDirGeneric.{WalkDirGeneric}
-use Rattle.jwalk.specs.WalkDir.{Starts, Holds, Begins}
+use Rattle.tree_crew.specs.declared.crew.Crew.{Crew}
+use Rattle.jwalk.specs.WalkDir.{Starts, Holds, HoldsOne, HoldsRoot, KeepsBound, Begins}
 
 module _ {C S P A W L R E : Type 0} (files : FileSystem.Ghosts S) (process : ProcessReadDir.Ghosts P C A R E) (clone : Clone.Ghosts R) (defaults : Default.Ghosts E) where
   -- The walk of a builder that has no crew, as `into_iter` begins it.
@@ -18,11 +19,17 @@ module _ {C S P A W L R E : Type 0} (files : FileSystem.Ghosts S) (process : Pro
     pub own : by_crew it ≡ false
     pub starts : Starts walk it
     pub holds : IsRefused it ⊎ Holds files process clone defaults walk it
+    pub one : HoldsOne process walk it
+    pub root : HoldsRoot process walk it
 
+module _ {C S P A H L R E : Type 0} (files : FileSystem.Ghosts S) (process : ProcessReadDir.Ghosts P C A R E) (clone : Clone.Ghosts R) (defaults : Default.Ghosts E) where
   -- The walk of a builder over a crew, as `into_iter` begins it.
-  pub record BeginsOver (readers : Readers.Ghosts L C S P A R E) (walk : WalkDirGeneric C S P A W R E) (it : DirEntryIter C S P A L R E) : Type 0 where
+  pub record BeginsOver (readers : Readers.Ghosts L C S P A R E) (walk : WalkDirGeneric C S P A (Crew H) R E) (it : DirEntryIter C S P A L R E) : Type 0 where
     pub starts : Starts walk it
     pub begins : (why_not : _) × Begins files process clone defaults walk why_not it
+    pub one : HoldsOne process walk it
+    pub root : HoldsRoot process walk it
+    pub most : KeepsBound readers walk it
     pub steady : StartsSteady files process clone defaults readers it
 
 module _ {I X : Type 0} (begins : I → Type 0) (next : I → Option X → I → Type 0) where

@@ -430,11 +430,10 @@ impl<C: ClientState, S: FileSystem, A: Allocator + Copy> IntoIterator
 
     type IntoIter = DirEntryIter<C, S, NoProcess, A>;
 
-    ghost use Rattle.jwalk.specs.WalkDir.{Starts, Holds};
-    ghost use Rattle.jwalk_iter.specs.DirEntryIter.{by_crew, IsRefused};
+    ghost use Rattle.jwalk.specs.Each.{BeginsAlone};
 
-    ghost into_iter_gives = { λ walk it. (by_crew it ≡ false) × Starts walk it × (IsRefused it ⊎ Holds S.FileSystem
-        ⟦<NoProcess as ProcessReadDir<C, A>>⟧ C.ReadDirState.Clone C.DirEntryState.Default walk it) };
+    ghost into_iter_gives = { BeginsAlone S.FileSystem ⟦<NoProcess as ProcessReadDir<C, A>>⟧ C.ReadDirState.Clone
+        C.DirEntryState.Default };
 
     fn into_iter(self) -> DirEntryIter<C, S, NoProcess, A> {
         WalkDirGeneric::<C, S, NoProcess, A, NoCrew>::into_iter(self)

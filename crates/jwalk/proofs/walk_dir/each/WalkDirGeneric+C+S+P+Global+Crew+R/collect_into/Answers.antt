@@ -5,7 +5,7 @@ returns g c =
     let ran = c.append_to.ensures in
     record {
       walk = ran.walk;
-      begun = rw ran.begun (record { starts = c.into_iter.ensures.starts; begins = c.into_iter.ensures.begins; steady = c.into_iter.ensures.steady });
+      begun = rw ran.begun (record { starts = c.into_iter.ensures.starts; begins = c.into_iter.ensures.begins; one = c.into_iter.ensures.one; root = c.into_iter.ensures.root; most = c.into_iter.ensures.most; steady = c.into_iter.ensures.steady });
       answered = ran.answered;
       appended = ran.appended;
       calls = ran.calls;
