@@ -57,3 +57,7 @@ pub record AreRead (bytes : List ℕ) (items : List value.Listed) : Type 0 where
 -- the same of a directory whose bytes may be known
 abbrev pub AreReadOf : Option (List ℕ) → List value.Listed → Type 0
 AreReadOf known items = IfSome known (λ bytes. AreRead bytes items)
+
+-- A directory was opened, and the items are those of what reads of it gave. `remaining` says which bytes an open one gives.
+abbrev pub IsListing : {D : Type 0} → (D → Option (List ℕ)) → List value.Listed → Type 0
+IsListing {D} remaining items = (opened : D) × AreReadOf (remaining opened) items

@@ -3,7 +3,7 @@ ghost use Rattle.std.specs.Prelude.{◌≡◌, ◌≤◌, ◌+◌, List, [], ◌
 ghost use Rattle.std.specs.IoError.{error_kind};
 ghost use Rattle.jwalk_model.specs.FileSystem as value;
 ghost use Rattle.jwalk_fs.specs.Views.{IfIo, TakesAll};
-ghost use Rattle.jwalk_real_fs.specs.Listing.{is_interrupted, AreReadOf};
+ghost use Rattle.jwalk_real_fs.specs.Listing.{is_interrupted, AreReadOf, IsListing};
 ghost use Rattle.jwalk_real_fs.specs.Texts.{children};
 
 use crate::seen::{fault, listed};
@@ -162,8 +162,8 @@ pub fn read_dir_into<R: Files, A: Allocator + Copy, K: Sink>(
     path: &str,
     sink: &mut K,
 ) -> Result<(), Fault>
-    ensures taken { OnOk result ((opened : R.Dir) × (items : List value.Listed)
-        × AreReadOf (R.Dir.remaining opened) items × TakesAll K.Took items sink.old sink.new) }
+    ensures taken { OnOk result ((items : List value.Listed) × TakesAll K.Took items sink.old sink.new
+        × IsListing R.Dir.remaining items) }
     ensures unchanged { IfErr result (λ fault. IfIo fault (sink.new ≡ sink.old)) }
 {
     let dir = slash_ended(alloc, path)?;

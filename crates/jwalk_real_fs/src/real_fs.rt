@@ -32,10 +32,13 @@ impl<R: Files + Drop> RealFs<R> {
 
 impl<R: Files + Drop> FileSystem for RealFs<R> {
     ghost use Rattle.jwalk_model.specs.Tree.{functions_of, only_root};
+    ghost use Rattle.jwalk_real_fs.specs.Listing.{IsListing};
 
     ghost IsFixed = { λ _. ⊥ };
 
     ghost functions = { λ _. functions_of only_root };
+
+    ghost read_dir_gives = { λ _ _ items. IsListing R.Dir.remaining items };
 
     fn read_dir<A: Allocator + Copy>(
         &self,
