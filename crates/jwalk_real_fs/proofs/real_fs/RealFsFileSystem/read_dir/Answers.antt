@@ -7,4 +7,4 @@ returns-clause-gives g c =
     let taken = c.in_ok-read_dir_into.ensures.taken in
     let begun = c.new-kept.result in
     let kept = taken.1 begun [] (sym (append-nil (map listed begun.items.items))) in
-    rw (kept, ap (λ l. map listed l ++ taken.0) c.new-kept.ensures) taken.3
+    rw (kept, ap (λ l. map listed l ++ taken.0) c.new-kept.ensures) taken.2
