@@ -5,15 +5,15 @@ ghost use Rattle.std.specs.declared.io.Error.{Error};
 ghost use Rattle.jwalk_real_fs.specs.DiskCalls.{link_text};
 
 use std::alloc::Allocator;
-use std::fs::Metadata;
+use std::fs;
 use std::io::{self, Read};
 use std::path::PathBuf;
 use std::rt::Files;
 
 /// The calls of a disk that a walk makes, those of `std::rt::Files`. Every runtime with files has them.
 ///
-/// The ghost members relate a path to what a call returned there. By them the contracts of `RealFs` say which call an
-/// answer comes from, and at which path. They hold whatever is known of the calls; of those of a runtime nothing is.
+/// The ghost members say what a call at a path returned. Contracts of `RealFs` name them, and so say which calls make up
+/// an answer, and at which paths. That holds of any disk. A runtime says nothing of what its calls return.
 pub trait DiskCalls: Drop {
     /// An open directory. It is read as its names, each ended by a NUL, and no read ends inside a name.
     type Dir: Read + Drop;
@@ -43,7 +43,7 @@ pub trait DiskCalls: Drop {
     /// # Errors
     ///
     /// Those of the system.
-    fn metadata(&self, path: &str) -> io::Result<Metadata>
+    fn metadata(&self, path: &str) -> io::Result<fs::Metadata>
         ensures { metadata_gives self.now path.now result };
 
     /// Returns the same without following the last component (`std::fs::symlink_metadata`).
@@ -51,7 +51,7 @@ pub trait DiskCalls: Drop {
     /// # Errors
     ///
     /// Those of the system.
-    fn symlink_metadata(&self, path: &str) -> io::Result<Metadata>
+    fn symlink_metadata(&self, path: &str) -> io::Result<fs::Metadata>
         ensures { symlink_metadata_gives self.now path.now result };
 
     /// Returns the target of a symbolic link (`std::fs::read_link`).
@@ -70,11 +70,11 @@ impl<R: Files + Drop> DiskCalls for R {
         Files::open_dir(self, path)
     }
 
-    fn metadata(&self, path: &str) -> io::Result<Metadata> {
+    fn metadata(&self, path: &str) -> io::Result<fs::Metadata> {
         Files::metadata(self, path)
     }
 
-    fn symlink_metadata(&self, path: &str) -> io::Result<Metadata> {
+    fn symlink_metadata(&self, path: &str) -> io::Result<fs::Metadata> {
         Files::symlink_metadata(self, path)
     }
 
