@@ -8,5 +8,6 @@ pub use jwalk_memory_fs::memory_fs::MemoryFs;
 pub use jwalk_model::file_type::FileType;
 pub use jwalk_model::metadata::{Details, Identity, Metadata, Moment};
 pub use jwalk_model::seen::Seen;
+pub use jwalk_real_fs::disk_calls::DiskCalls;
 pub use jwalk_real_fs::patient::Patient;
 pub use jwalk_real_fs::real_fs::RealFs;

@@ -2,7 +2,7 @@
 use Rattle.std.proofs.Common.{◌≡◌, ◌++◌, ℕ, Bool, true, false, List, [], ◌∷◌, Result, Ok, Err, map, filter, ap, sym, ◌∙◌, append-nil, refl, nat_lt, length, if◌then◌else◌, not, arith, ◌≤◌, ◌+◌}
 use Rattle.std.proofs.Math.ListN.{drop_of_length-le}
 use Rattle.std.proofs.lemmas.List.{map-append, append_assoc, take_all}
-use Rattle.std.proofs.lemmas.List.Elements.{filter-append}
+use Rattle.std.proofs.lemmas.List.Elements.{All-append, All-cons, All-nil, filter-append}
 use Rattle.std.proofs.lemmas.Bool.{ltb-true, ltb-false}
 use Rattle.std.proofs.lemmas.List.Splits.{slice_split_first, slice_split-cons_no}
 use Rattle.std.proofs.lemmas.Str.{IsUtf8-from_is_utf8, is_utf8-from_IsUtf8}
@@ -11,10 +11,10 @@ use Rattle.std.specs.List.{before_first, after_first, position_or_len, slice_spl
 use Rattle.std.specs.Result.{OnOk}
 use Rattle.std.specs.declared.io.ErrorKind.TheVariants.{InvalidFilename}
 use Rattle.jwalk_model.specs.FileSystem.{Listed}
-use Rattle.jwalk_fs.proofs.SinkFacts.{takes_on}
+use Rattle.jwalk_fs.proofs.SinkFacts.{takes_none, takes_on}
 use Rattle.jwalk_fs.specs.Views.{TakesAll}
 use Rattle.jwalk_real_fs.specs.Texts.{is_child, is_nul, children}
-use Rattle.jwalk_real_fs.specs.Listing.{name_in, told, Adds}
+use Rattle.jwalk_real_fs.specs.Listing.{name_in, told, Adds, TakesEach}
 
 -- a name that is UTF-8 is itself
 pub told_is : (name : List ℕ) → IsUtf8 name → told name ≡ Ok name
@@ -39,17 +39,30 @@ module _ {K : Type 0} (took : K → List Listed → K → Type 0) where
   takes_on_if (Ok _) items others x y z some rest = (items ++ others, takes_on took items others x y z some rest)
   takes_on_if (Err _) items others x y z some rest = tt
 
+module _ {K : Type 0} (holds : Listed → Type 0) (took : K → List Listed → K → Type 0) where
+  -- a sink that was given nothing
+  pub each_none : (s : K) → TakesEach holds took [] s s
+  each_none s = (All-nil holds, takes_none took s)
+
+  -- one item
+  pub one_each : (item : Listed) (x y : K) → holds item → TakesAll took (item ∷ []) x y → TakesEach holds took (item ∷ []) x y
+  one_each item x y it took_it = (All-cons holds item [] it (All-nil holds), took_it)
+
+  -- some items and then others, of each of which it holds
+  pub each_on : (items others : List Listed) (x y z : K) → TakesEach holds took items x y → TakesEach holds took others y z → TakesEach holds took (items ++ others) x z
+  each_on items others x y z some rest = (All-append holds items others some.0 rest.0, takes_on took items others x y z some.1 rest.1)
+
   -- one more item, for a name, where it may fail
-  pub adds_one_if : {T E : Type 0} (r : Result T E) (name : List ℕ) (x y : K) (item : Listed) → name_in item ≡ told name → OnOk r (TakesAll took (item ∷ []) x y) → OnOk r (Adds took (name ∷ []) x y)
-  adds_one_if (Ok _) name x y item is more = (item ∷ [], ap (λ n. n ∷ []) is, more)
-  adds_one_if (Err _) name x y item is more = tt
+  pub adds_one_if : {T E : Type 0} (r : Result T E) (name : List ℕ) (x y : K) (item : Listed) → name_in item ≡ told name → holds item → OnOk r (TakesAll took (item ∷ []) x y) → OnOk r (Adds holds took (name ∷ []) x y)
+  adds_one_if (Ok _) name x y item is it more = (item ∷ [], ap (λ n. n ∷ []) is, one_each item x y it more)
+  adds_one_if (Err _) name x y item is it more = tt
 
   -- items for some names and then for others
-  pub adds_on : (names others : List (List ℕ)) (x y z : K) → Adds took names x y → Adds took others y z → Adds took (names ++ others) x z
+  pub adds_on : (names others : List (List ℕ)) (x y z : K) → Adds holds took names x y → Adds holds took others y z → Adds holds took (names ++ others) x z
   adds_on names others x y z some rest = (
     some.0 ++ rest.0,
     map-append name_in some.0 rest.0 ∙ ap (λ l. l ++ map name_in rest.0) some.1 ∙ ap (λ l. map told names ++ l) rest.1 ∙ sym (map-append told names others),
-    takes_on took some.0 rest.0 x y z some.2 rest.2,
+    each_on some.0 rest.0 x y z some.2 rest.2,
   )
 
 by_byte : (b : Bool) (c : ℕ) (cs : List ℕ) → is_nul c ≡ b → length (c ∷ cs) ≤ position_or_len is_nul (c ∷ cs) → (length cs ≤ position_or_len is_nul cs → slice_split is_nul cs ≡ cs ∷ []) → slice_split is_nul (c ∷ cs) ≡ (c ∷ cs) ∷ []

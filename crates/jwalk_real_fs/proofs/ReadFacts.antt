@@ -8,10 +8,10 @@ use Rattle.std.specs.List.{concat}
 use Rattle.std.specs.declared.io.Error.{Error}
 use Rattle.std.specs.declared.io.ErrorKind.{ErrorKind}
 use Rattle.jwalk_model.specs.FileSystem.{Listed}
-use Rattle.jwalk_fs.proofs.SinkFacts.{takes_on}
 use Rattle.jwalk_fs.specs.Views.{TakesAll}
 use Rattle.jwalk_real_fs.specs.Texts.{children}
-use Rattle.jwalk_real_fs.specs.Listing.{is_interrupted, name_in, told, AreNamed, AreReadOf, AreReadUpTo, IsRead}
+use Rattle.jwalk_real_fs.specs.Listing.{is_interrupted, name_in, told, AreNamed, AreReadOf, AreReadUpTo, IsRead, TakesEach}
+use Rattle.jwalk_real_fs.proofs.ListingFacts.{each_on, one_each}
 
 concat_on : (pieces : List (List ℕ)) (piece rest : List ℕ) → concat pieces ++ (piece ++ rest) ≡ concat (pieces ++ piece ∷ []) ++ rest
 concat_on [] piece rest = ap (λ l. l ++ rest) (sym (append-nil piece))
@@ -97,9 +97,9 @@ ended None left items kind so_far = tt
 ended (Some bytes) None items kind so_far = absurd so_far
 ended (Some bytes) (Some left) items kind so_far = record { left = left; read = items; front = so_far; end = inr (kind, refl) }
 
-module _ {K : Type 0} (took : K → List Listed → K → Type 0) where
+module _ {K : Type 0} (holds : Listed → Type 0) (took : K → List Listed → K → Type 0) where
   -- the same where taking the error may fail
-  pub ends_if : {T E : Type 0} (r : Result T E) (known left : Option (List ℕ)) (items : List Listed) (kind : ErrorKind) (x y z : K) → SoFar known left items → TakesAll took items x y → OnOk r (TakesAll took (Err kind ∷ []) y z)
-      → OnOk r ((all : List Listed) × AreReadOf known all × TakesAll took all x z)
-  ends_if (Ok _) known left items kind x y z so_far some rest = (items ++ Err kind ∷ [], ended known left items kind so_far, takes_on took items (Err kind ∷ []) x y z some rest)
-  ends_if (Err _) known left items kind x y z so_far some rest = tt
+  pub ends_if : {T E : Type 0} (r : Result T E) (known left : Option (List ℕ)) (items : List Listed) (kind : ErrorKind) (x y z : K) → SoFar known left items → TakesEach holds took items x y → holds (Err kind) → OnOk r (TakesAll took (Err kind ∷ []) y z)
+      → OnOk r ((all : List Listed) × AreReadOf known all × TakesEach holds took all x z)
+  ends_if (Ok _) known left items kind x y z so_far some it rest = (items ++ Err kind ∷ [], ended known left items kind so_far, each_on holds took items (Err kind ∷ []) x y z some (one_each holds took (Err kind) y z it rest))
+  ends_if (Err _) known left items kind x y z so_far some it rest = tt

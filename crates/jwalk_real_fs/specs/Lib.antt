@@ -1,3 +1,4 @@
+pub mod DiskCalls
 pub mod Texts
 pub mod Seen
 pub mod Listing

@@ -1,5 +1,5 @@
 -- What the standard library returns, as a walk sees it.
-use Rattle.std.specs.Prelude.{◌≡◌, ◌≢◌, ◌==◌, Result, Ok, Err, if◌then◌else◌}
+use Rattle.std.specs.Prelude.{◌≡◌, ◌≢◌, ◌==◌, ℕ, List, Result, Ok, Err, if◌then◌else◌, String, string_bytes}
 use Rattle.std.specs.Fs as fs
 use Rattle.std.specs.IoError.{error_kind}
 use Rattle.std.specs.declared.fs.attrs.Metadata as found
@@ -36,6 +36,15 @@ abbrev pub IsSeen : Result found.Metadata Error → Result Metadata Fault → Ty
 IsSeen (Ok m) (Ok seen) = IsFound m seen
 IsSeen (Err e) (Err f) = IsFault e f
 IsSeen _ _ = ⊥
+
+-- A call gave something, and it is that, or the error is the fault.
+abbrev pub IsGiven : (Result found.Metadata Error → Type 0) → Result Metadata Fault → Type 0
+IsGiven gives result = (found : Result found.Metadata Error) × gives found × IsSeen found result
+
+-- A call gave a link's text, and it is that, or the error is the fault.
+abbrev pub IsTarget : {A : Type 0} → (Result (List ℕ) Error → Type 0) → Result (String A) Fault → Type 0
+IsTarget gives (Ok text) = gives (Ok (string_bytes text))
+IsTarget gives (Err f) = (e : Error) × gives (Err e) × IsFault e f
 
 -- A listing has what was found, whole, or the error itself.
 abbrev pub IsListed : Result found.Metadata Error → Result Seen Error → Type 0

@@ -3,16 +3,16 @@ ghost use Rattle.std.specs.Prelude.{◌≡◌, ◌≤◌, ◌+◌, List, [], ◌
 ghost use Rattle.std.specs.IoError.{error_kind};
 ghost use Rattle.jwalk_model.specs.FileSystem as value;
 ghost use Rattle.jwalk_fs.specs.Views.{IfIo, TakesAll};
-ghost use Rattle.jwalk_real_fs.specs.Listing.{is_interrupted, AreReadOf};
+ghost use Rattle.jwalk_real_fs.specs.Listing.{is_interrupted, AreReadOf, IsAsked, IsListing, IsUnopened, TakesEach};
 ghost use Rattle.jwalk_real_fs.specs.Texts.{children};
 
+use crate::disk_calls::DiskCalls;
 use crate::seen::{fault, listed};
 use crate::texts::{is_child, slash_ended, split_name};
 use jwalk_fs::fault::Fault;
 use jwalk_fs::sink::Sink;
 use std::alloc::{AllocError, Allocator};
 use std::io::{ErrorKind, Read};
-use std::rt::Files;
 use std::{io, str};
 
 /// How often one directory is opened at most, if each time before was interrupted.
@@ -54,14 +54,15 @@ impl<A: Allocator + Copy> Listing<A> {
     }
 
     /// Gives the item of a name in a directory: an error with the name's bytes if it isn't UTF-8.
-    fn add<R: Files, K: Sink>(
+    fn add<R: DiskCalls, K: Sink>(
         &mut self,
         rt: &R,
         sink: &mut K,
         dir: &str,
         name: &[u8],
     ) -> Result<(), AllocError>
-        ensures { OnOk result (Adds K.Took (name.now ∷ []) sink.old sink.new) }
+        ensures { OnOk result (Adds (IsAsked R.DiskCalls rt.now dir.now) K.Took (name.now ∷ [])
+            sink.old sink.new) }
     {
         let Ok(name) = str::from_utf8(name) else {
             return sink.take_bad_name(name);
@@ -74,14 +75,15 @@ impl<A: Allocator + Copy> Listing<A> {
     }
 
     /// Gives the items of names that were read together, each ended by a NUL.
-    fn add_all<R: Files, K: Sink>(
+    fn add_all<R: DiskCalls, K: Sink>(
         &mut self,
         rt: &R,
         sink: &mut K,
         dir: &str,
         names: &[u8],
     ) -> Result<(), AllocError>
-        ensures { OnOk result (Adds K.Took (children names.now) sink.old sink.new) }
+        ensures { OnOk result (Adds (IsAsked R.DiskCalls rt.now dir.now) K.Took (children names.now)
+            sink.old sink.new) }
     {
         let mut left = names;
         while !left.is_empty() {
@@ -96,7 +98,7 @@ impl<A: Allocator + Copy> Listing<A> {
 
     /// Gives what one read of a directory's names gave, and returns whether there may be more. An error ends the reading
     /// and is its last item. A read that was interrupted gave nothing and doesn't end it.
-    fn add_read<R: Files, K: Sink>(
+    fn add_read<R: DiskCalls, K: Sink>(
         &mut self,
         rt: &R,
         sink: &mut K,
@@ -106,7 +108,7 @@ impl<A: Allocator + Copy> Listing<A> {
     ) -> Result<bool, AllocError>
         requires { ReadsAtMost read names.now }
         ensures { IfOk result (λ more. (items : List value.Listed) × IsRead read names.now more items
-            × TakesAll K.Took items sink.old sink.new) }
+            × TakesEach (IsAsked R.DiskCalls rt.now dir.now) K.Took items sink.old sink.new) }
     {
         match read {
             Ok(count) => {
@@ -123,7 +125,7 @@ impl<A: Allocator + Copy> Listing<A> {
 
     /// Gives the items of all names of an open directory. No read ends inside a name: the standard library says so of
     /// what `open_dir` opens. So names need not be put together.
-    fn add_rest<R: Files, K: Sink>(
+    fn add_rest<R: DiskCalls, K: Sink>(
         &mut self,
         rt: &R,
         sink: &mut K,
@@ -131,7 +133,8 @@ impl<A: Allocator + Copy> Listing<A> {
         names: &mut R::Dir,
     ) -> Result<(), AllocError>
         ensures { OnOk result ((items : List value.Listed)
-            × AreReadOf (R.Dir.remaining names.old) items × TakesAll K.Took items sink.old sink.new) }
+            × AreReadOf (R.Dir.remaining names.old) items
+            × TakesEach (IsAsked R.DiskCalls rt.now dir.now) K.Took items sink.old sink.new) }
     {
         let mut buffer = [0; BUFFER];
         for _ in 0..u64::MAX {
@@ -145,7 +148,9 @@ impl<A: Allocator + Copy> Listing<A> {
 }
 
 /// An open that was interrupted is made again.
-fn open<R: Files>(rt: &R, dir: &str) -> io::Result<R::Dir> {
+fn open<R: DiskCalls>(rt: &R, dir: &str) -> io::Result<R::Dir>
+    ensures { R.open_dir_gives rt.now dir.now result }
+{
     for _ in 1..MOST_OPENS {
         match rt.open_dir(dir) {
             Err(error) if is_interrupted(&error) => {}
@@ -156,14 +161,15 @@ fn open<R: Files>(rt: &R, dir: &str) -> io::Result<R::Dir> {
 }
 
 /// Gives the items of a directory to `sink`, in the order in which it reads.
-pub fn read_dir_into<R: Files, A: Allocator + Copy, K: Sink>(
+pub fn read_dir_into<R: DiskCalls, A: Allocator + Copy, K: Sink>(
     rt: &R,
     alloc: A,
     path: &str,
     sink: &mut K,
 ) -> Result<(), Fault>
-    ensures taken { OnOk result ((opened : R.Dir) × (items : List value.Listed)
-        × AreReadOf (R.Dir.remaining opened) items × TakesAll K.Took items sink.old sink.new) }
+    ensures taken { OnOk result ((items : List value.Listed) × TakesAll K.Took items sink.old sink.new
+        × IsListing R.DiskCalls rt.now R.Dir.remaining path.now items) }
+    ensures unopened { IfErr result (λ fault. IfIo fault (IsUnopened R.DiskCalls rt.now path.now fault)) }
     ensures unchanged { IfErr result (λ fault. IfIo fault (sink.new ≡ sink.old)) }
 {
     let dir = slash_ended(alloc, path)?;

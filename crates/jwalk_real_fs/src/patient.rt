@@ -90,6 +90,8 @@ impl<S: FileSystem, R: Clock + Drop> FileSystem for Patient<S, R> {
 
     ghost functions = { λ fs. S.functions (behind fs) };
 
+    ghost read_dir_gives = { λ fs. S.read_dir_gives (behind fs) };
+
     fn read_dir<A: Allocator + Copy>(
         &self,
         alloc: A,

@@ -1,11 +1,11 @@
 use Rattle.std.proofs.Common.{◌++◌, [], ◌∷◌, sym, ◌∙◌, refl}
-use Rattle.jwalk_fs.proofs.SinkFacts.{takes_none}
+use Rattle.jwalk_real_fs.specs.Listing.{IsAsked}
 use Rattle.jwalk_real_fs.proofs.FaultFacts.{on_ok_at_err}
-use Rattle.jwalk_real_fs.proofs.ListingFacts.{adds_on, gone_child, gone_other}
+use Rattle.jwalk_real_fs.proofs.ListingFacts.{adds_on, each_none, gone_child, gone_other}
 use Rattle.jwalk_real_fs.proofs.listing.Listing.add_all.Goals as goal
 
 pub loop-left-init : goal.loop-left-init
-loop-left-init g c = ([], (([], refl, takes_none g.K.Sink.Took c.args.sink.now), refl))
+loop-left-init g c = ([], (([], refl, each_none (IsAsked g.R.DiskCalls c.args.rt.now c.args.dir.now) g.K.Sink.Took c.args.sink.now), refl))
 
 pub loop-left-preserved-in_ok-add : goal.loop-left-preserved-in_ok-add
 loop-left-preserved-in_ok-add g c =
@@ -14,7 +14,7 @@ loop-left-preserved-in_ok-add g c =
     let test = sym c.is_child.ensures ∙ c.if-is_child.true in (
       so_far.0 ++ name ∷ [],
       (
-        adds_on g.K.Sink.Took so_far.0 (name ∷ []) c.args.sink.now c.loop-left.sink c.add.new.sink so_far.1.0 c.in_ok-add.ensures,
+        adds_on (IsAsked g.R.DiskCalls c.args.rt.now c.args.dir.now) g.K.Sink.Took so_far.0 (name ∷ []) c.args.sink.now c.loop-left.sink c.add.new.sink so_far.1.0 c.in_ok-add.ensures,
         gone_child so_far.0 c.args.names.now c.loop-left.left.now name c.split_name.result.1.now so_far.1.1 c.split_name.ensures.name c.split_name.ensures.rest test,
       ),
     )

@@ -1,9 +1,9 @@
 use Rattle.std.proofs.Common.{◌≡◌, ◌==◌, ℕ, Bool, true, false, not, nat_lt, [], ◌∷◌, refl, arith, eqb-true, rules}
 use Rattle.std.proofs.lemmas.Bool.{ltb-true, ltb-false, eqb-false}
 use Rattle.std.specs.IoError.{error_kind}
-use Rattle.jwalk_fs.proofs.SinkFacts.{takes_none}
-use Rattle.jwalk_real_fs.specs.Listing.{is_interrupted}
+use Rattle.jwalk_real_fs.specs.Listing.{is_interrupted, IsAsked}
 use Rattle.jwalk_real_fs.proofs.FaultFacts.{if_ok_at_err}
+use Rattle.jwalk_real_fs.proofs.ListingFacts.{each_none, one_each}
 use Rattle.jwalk_real_fs.proofs.ReadFacts.{failed_read, interrupted_read}
 use Rattle.jwalk_real_fs.proofs.listing.Listing.add_read.Goals as goal
 
@@ -28,12 +28,12 @@ returns-in_err-add_all-in-Ok g c = if_ok_at_err c.from_residual.result _ _ c.fro
 pub returns-in-Err : goal.returns-in-Err
 returns-in-Err g c =
     let interrupted : is_interrupted (error_kind c.in-Err.error) ≡ true = search rules in
-    ([], rw c.in-Err.is (interrupted_read c.in-Err.error c.args.names.now interrupted), takes_none g.K.Sink.Took c.args.sink.now)
+    ([], rw c.in-Err.is (interrupted_read c.in-Err.error c.args.names.now interrupted), each_none (IsAsked g.R.DiskCalls c.args.rt.now c.args.dir.now) g.K.Sink.Took c.args.sink.now)
 
 pub returns-in_ok-end-in-Err-2 : goal.returns-in_ok-end-in-Err-2
 returns-in_ok-end-in-Err-2 g c =
     let other : is_interrupted (error_kind c.in-Err-2.error) ≡ false = search rules in
-    (_ ∷ [], rw c.in-Err-2.is (failed_read c.in-Err-2.error c.args.names.now other), c.in_ok-end-in-Err-2.ensures)
+    (_ ∷ [], rw c.in-Err-2.is (failed_read c.in-Err-2.error c.args.names.now other), one_each (IsAsked g.R.DiskCalls c.args.rt.now c.args.dir.now) g.K.Sink.Took _ c.args.sink.now c.end.new.sink tt c.in_ok-end-in-Err-2.ensures)
 
 pub returns-in_err-end-in-Err-2 : goal.returns-in_err-end-in-Err-2
 returns-in_err-end-in-Err-2 g c =
