@@ -1,17 +1,30 @@
 -- What is yielded where entries are held back.
-use Rattle.std.proofs.Common.{◌≡◌, ◌≤◌, ◌<◌, ◌+◌, ℕ, zero, suc, true, false, List, [], ◌∷◌, ◌++◌, length, Option, Some, None, Ok, Err, inl, inr, refl, sym, ap, ap₂, ◌∙◌, append_assoc, arith}
-use Rattle.std.specs.Prelude.{nat_lt}
+use Rattle.std.proofs.Common.{◌≡◌, ◌≤◌, ◌<◌, ◌+◌, ℕ, zero, suc, Bool, true, false, List, [], ◌∷◌, ◌++◌, length, Option, Some, None, Ok, Err, inl, inr, refl, sym, ap, ap₂, ◌∙◌, append_assoc, arith}
+use Rattle.std.specs.Prelude.{nat_lt, not, ◌&&◌}
 use Rattle.std.proofs.lemmas.Bool.Decides.{leb_tells, nat_tests}
 use Rattle.jwalk_model.specs.Entry.{Entry, Item}
 use Rattle.jwalk_model.specs.Error.{Failure}
 use Rattle.jwalk_contents_first.specs.ContentsFirst.{depth_at, below, beyond, each_behind, contents_first}
-use Rattle.jwalk_contents_first.specs.Coming.{is_above, last_of, left_of, let_out_of, Ascends, closing}
+use Rattle.jwalk_contents_first.specs.Coming.{is_above, last_of, left_of, let_out_of, takes_last, Ascends, SwapsLast, closing}
 
 pub deeper : (d c : ℕ) → nat_lt d c ≡ true → d < c
 deeper d c is = grind (arith, nat_tests)
 
 seam : {X : Type 0} (a : List X) (x : X) (b : List X) (y : X) (c : List X) → (a ++ (x ∷ b)) ++ (y ∷ c) ≡ a ++ (x ∷ (b ++ (y ∷ c)))
 seam a x b y c = append_assoc a (x ∷ b) (y ∷ c)
+
+and_not : (a b : Bool) → (a && not b) ≡ true → (a ≡ true) × (b ≡ false)
+and_not true true is = absurd (cc is)
+and_not true false is = (refl, refl)
+and_not false b is = absurd (cc is)
+
+pub and_not_true : (a b : Bool) → b ≡ true → (a && not b) ≡ false
+and_not_true true b is = ap not is
+and_not_true false b is = refl
+
+pub and_not_false : (a b : Bool) → b ≡ false → (a && not b) ≡ a
+and_not_false true b is = ap not is
+and_not_false false b is = refl
 
 module _ {R E : Type 0} where
   pub length_below : (d : ℕ) (l : List (Item R E)) → length (below d l) ≤ length l
@@ -160,3 +173,14 @@ module _ {R E : Type 0} where
   pub more_ascends : (e : Entry R E) (es : List (Entry R E)) → is_above e.depth es ≡ true → Ascends es → Ascends (e ∷ es)
   more_ascends e [] above h = tt
   more_ascends e (d ∷ es) above h = (deeper d.depth e.depth above, h)
+
+  -- what can take the place of the last is below the one before, and not below the last
+  pub fits_last : (depth : ℕ) (es : List (Entry R E)) → takes_last depth es ≡ true → (is_above depth (left_of es) ≡ true) × (is_above depth es ≡ false)
+  fits_last depth es takes = and_not (is_above depth (left_of es)) (is_above depth es) takes
+
+  -- an entry takes the place of the last, which is let out for it
+  pub swapped_first : (found out : Entry R E) (es new : List (Entry R E)) (l : List (Item R E)) → takes_last found.depth es ≡ true → SwapsLast found es out new → closing es (Ok found ∷ l) ≡ Ok out ∷ closing new l
+  swapped_first found out es new l takes c =
+      let fits = fits_last found.depth es takes in
+      let_out_for es (Ok found) l fits.1
+      ∙ ap₂ (λ a b. a ++ b) (sym (yields_popped out es (sym c.last))) (held_back found (left_of es) l fits.0 ∙ ap (λ m. closing m l) (sym c.taken))

@@ -1,6 +1,7 @@
 -- One turn, by what it is made of.
 use Rattle.std.proofs.Common.{◌≡◌, ◌<◌, ◌+◌, ℕ, Bool, true, false, cond, ◌||◌, List, [], ◌∷◌, ◌++◌, length, Option, Some, None, Result, Ok, Err, inl, inr, refl, sym, ap, ap₂, ◌∙◌, subst, arith}
-use Rattle.std.specs.Iterator.{Count, IsFinite, size}
+use Rattle.std.specs.Prelude.{not, ◌&&◌}
+use Rattle.std.specs.Iterator.{Count, IsFinite, MakesProgress, size}
 use Rattle.jwalk_model.specs.Entry.{Entry, Item}
 use Rattle.jwalk_job.specs.declared.dir_entry.DirEntry.{DirEntry}
 use Rattle.jwalk_job.specs.declared.error.Error.{Error}
@@ -13,9 +14,9 @@ use Rattle.jwalk_contents_first.specs.declared.iter.Ahead.TheVariants.{Unasked, 
 use Rattle.jwalk_contents_first.specs.declared.iter.Turn.{Turn}
 use Rattle.jwalk_contents_first.specs.declared.iter.Turn.TheVariants.{Yields as TurnYields, GoesOn, Ends}
 use Rattle.jwalk_contents_first.specs.ContentsFirst.{depth_at, ends_walk}
-use Rattle.jwalk_contents_first.specs.Coming.{Ascends, closing, coming, answers_of, entries_of, held, is_above, is_over, is_over_in, is_stopped, left_of, let_out_of, waiting_in, turns_in, weight, CanGoOn, MayAsk, Takes}
-use Rattle.jwalk_contents_first.specs.Turns.{LetsOut, Turns}
-use Rattle.jwalk_contents_first.proofs.ClosingFacts.{let_out_for, let_out_last, error_first, held_back, one_less, some_held, left_ascends, more_ascends}
+use Rattle.jwalk_contents_first.specs.Coming.{Ascends, closing, coming, answers_of, entries_of, held, is_above, is_over, is_over_in, is_unasked_in, is_stopped, left_of, let_out_of, takes_last, waiting_in, turns_in, weight, CanGoOn, MayAsk, SwapsLast, Takes}
+use Rattle.jwalk_contents_first.specs.Turns.{ahead_of, LetsOut, Turns}
+use Rattle.jwalk_contents_first.proofs.ClosingFacts.{let_out_for, let_out_last, error_first, held_back, one_less, some_held, left_ascends, more_ascends, fits_last, swapped_first}
 
 -- no answer is taken
 pub takes_nothing : {I X : Type 0} (next : I → Option X → I → Type 0) (b : Bool) (s t : I) → s ≡ t → Takes next b b s [] t
@@ -96,6 +97,28 @@ module _ {C A I R E : Type 0} (next : I → Option (Result (DirEntry C A R E) (E
     falls = λ _. omega arith;
   }
 
+  -- an answer is taken that takes the place of the last entry held back, which is yielded
+  pub swapped_turn : (t : I) (found out : DirEntry C A R E) (new : HeldBack C A R E) → next (answers_of s) (Some (Ok found)) t → can t → IsFinite (left t) → size (left t) < size (left (answers_of s))
+      → takes_last (entry found).depth (entries_of s.held) ≡ true → SwapsLast (entry found) (entries_of s.held) (entry out) (entries_of new)
+      → Turns next can left (record s { ahead = Unasked; stopped = false }) (TurnYields (Ok out)) (record s { answers = t; held = new; ahead = Unasked; stopped = false })
+  swapped_turn t found out new step may ends fewer takes c =
+      let es = entries_of s.held in
+      let fits = fits_last (entry found).depth es takes in
+      record {
+        goes = record {
+          taken = Ok found ∷ [];
+          takes = (t, step, refl);
+          stays_over = λ is. absurd (cc is);
+          first = λ _ l _. swapped_first (entry found) (entry out) es (entries_of new) l takes c;
+          ascends = λ h. subst Ascends (sym c.taken) (more_ascends (entry found) (left_of es) fits.0 (left_ascends es h));
+        };
+        stops = refl;
+        silent = λ is. absurd (cc is);
+        ends = λ is. absurd (cc is);
+        can_go_on = (may, ends);
+        falls = λ _. omega (arith, fewer, ap length c.taken, one_less es (some_held (entry found).depth es fits.1));
+      }
+
   -- the walk has ended
   pub over_turn : (t : I) → next (answers_of s) None t → Turns next can left (record s { ahead = Unasked; stopped = false }) GoesOn (record s { answers = t; ahead = Over; stopped = false })
   over_turn t step = record {
@@ -106,6 +129,12 @@ module _ {C A I R E : Type 0} (next : I → Option (Result (DirEntry C A R E) (E
     can_go_on = tt;
     falls = λ _. omega arith;
   }
+
+  -- what came from the walk waits
+  pub waiting_turn : (t : I) (answer : Option (Result (DirEntry C A R E) (Error A))) → next (answers_of s) answer t → IsFinite (left (answers_of s)) → MakesProgress can left (answers_of s) answer t
+      → Turns next can left (record s { ahead = Unasked; stopped = false }) GoesOn (record s { answers = t; ahead = ahead_of answer; stopped = false })
+  waiting_turn t (Some x) step ends goes = let on = goes.on ends in taken_turn t x step on.0 on.1 on.2
+  waiting_turn t None step ends goes = over_turn t step
 
   -- an entry is held back
   pub held_turn : (found : DirEntry C A R E) (new : HeldBack C A R E) → can (answers_of s) → IsFinite (left (answers_of s)) → is_above (entry found).depth (entries_of s.held) ≡ true → entries_of new ≡ entry found ∷ entries_of s.held
@@ -176,6 +205,17 @@ module _ {C A I R E : Type 0} (next : I → Option (Result (DirEntry C A R E) (E
     can_go_on = may;
     falls = λ is. absurd (cc is);
   }
+
+-- where an answer is to be taken, nothing is known of it, and no error was yielded behind which nothing comes
+pub asks_alone : {C A R E : Type 0} (stopped : Bool) (a : Ahead C A R E) → (not stopped && is_unasked_in a) ≡ true → (a ≡ Unasked) × (stopped ≡ false)
+asks_alone true a is = absurd (cc is)
+asks_alone false Unasked is = (refl, refl)
+asks_alone false (Taken x) is = absurd (cc is)
+asks_alone false Over is = absurd (cc is)
+
+-- the same answer waits in the same state
+pub waits_alike : {C A I R E : Type 0} (s t : ContentsFirst C A I R E) (x y : Option (Result (DirEntry C A R E) (Error A))) → s ≡ t → x ≡ y → ◌≡◌ {A = ContentsFirst C A I R E} (record s { ahead = ahead_of x }) (record t { ahead = ahead_of y })
+waits_alike {C = C} {A = A} {I = I} {R = R} {E = E} s t x y p q = ap₂ (λ (u : ContentsFirst C A I R E) z. record u { ahead = ahead_of z }) p q
 
 -- what holds of a state that waits for nothing holds of one that is the same
 pub start_as : {X : Type 0} (P : X → Bool → Type 0) (a : X) (b : Bool) (a' : X) (b' : Bool) → a ≡ a' → b ≡ b' → P a' b' → P a b

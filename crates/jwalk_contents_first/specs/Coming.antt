@@ -1,5 +1,5 @@
 -- What an iterator that yields contents first holds, and what it will yield.
-use Rattle.std.specs.Prelude.{◌≡◌, ◌+◌, ◌*◌, ◌⊎◌, ◌<◌, ℕ, Bool, true, false, cond, nat_lt, ◌||◌, List, [], ◌∷◌, ◌++◌, length, map, reverse, Option, Some, None, option_map, unwrap_or, Result, Ok, Err, IfNone}
+use Rattle.std.specs.Prelude.{◌≡◌, ◌+◌, ◌*◌, ◌⊎◌, ◌<◌, ℕ, Bool, true, false, cond, nat_lt, not, ◌&&◌, ◌||◌, List, [], ◌∷◌, ◌++◌, length, map, reverse, Option, Some, None, option_map, unwrap_or, Result, Ok, Err, IfNone}
 use Rattle.std.specs.Iterator.{Count, IsFinite, size, Yields, YieldsThen}
 use Rattle.jwalk_model.specs.Entry.{Entry, Item}
 use Rattle.jwalk_job.specs.declared.dir_entry.DirEntry.{DirEntry}
@@ -38,6 +38,15 @@ module _ {R E : Type 0} where
   let_out_of [] = []
   let_out_of (e ∷ es) = Ok e ∷ []
 
+  -- whether an entry at this depth can take the place of the last: it isn't below the last, but below the one before, if there is one
+  abbrev pub takes_last : ℕ → List (Entry R E) → Bool
+  takes_last depth es = is_above depth (left_of es) && not (is_above depth es)
+
+  -- An entry took the place of the last, which is let out for it.
+  pub record SwapsLast (found : Entry R E) (old : List (Entry R E)) (out : Entry R E) (new : List (Entry R E)) : Type 0 where
+    pub last : last_of old ≡ Some out
+    pub taken : new ≡ found ∷ left_of old
+
   -- Of the entries, the last first, each is deeper than the next.
   abbrev pub Ascends : List (Entry R E) → Type 0
   Ascends [] = Unit {0}
@@ -66,6 +75,12 @@ abbrev pub waiting_in : {C A R E : Type 0} → Ahead C A R E → List (Item R E)
 waiting_in Unasked = []
 waiting_in (Taken x) = item x ∷ []
 waiting_in Over = []
+
+-- whether nothing is known of the walk's next answer
+abbrev pub is_unasked_in : {C A R E : Type 0} → Ahead C A R E → Bool
+is_unasked_in Unasked = true
+is_unasked_in (Taken x) = false
+is_unasked_in Over = false
 
 -- whether the walk has ended
 abbrev pub is_over_in : {C A R E : Type 0} → Ahead C A R E → Bool
@@ -109,6 +124,10 @@ module _ {C A I R E : Type 0} where
   -- whether an error was yielded behind which nothing comes
   abbrev pub is_stopped : ContentsFirst C A I R E → Bool
   is_stopped s = s.stopped
+
+  -- whether an answer is to be taken from the walk
+  abbrev pub asks : ContentsFirst C A I R E → Bool
+  asks s = not (is_stopped s) && is_unasked_in s.ahead
 
   -- Nothing was taken from the walk yet.
   pub record IsFresh (s : ContentsFirst C A I R E) : Type 0 where

@@ -4,6 +4,8 @@ use Rattle.std.specs.Iterator.{Count}
 use Rattle.jwalk_job.specs.declared.dir_entry.DirEntry.{DirEntry}
 use Rattle.jwalk_job.specs.declared.error.Error.{Error}
 use Rattle.jwalk_contents_first.specs.declared.iter.ContentsFirst.{ContentsFirst}
+use Rattle.jwalk_contents_first.specs.declared.iter.Ahead.{Ahead}
+use Rattle.jwalk_contents_first.specs.declared.iter.Ahead.TheVariants.{Taken, Over}
 use Rattle.jwalk_contents_first.specs.declared.iter.Turn.{Turn}
 use Rattle.jwalk_contents_first.specs.declared.iter.Turn.TheVariants.{Yields, GoesOn, Ends}
 use Rattle.jwalk_contents_first.specs.Coming.{answers_of, held, is_over, is_stopped, left_of, let_out_of, coming, value_of, stops_with, weight, CanGoOn, GoesOver}
@@ -14,6 +16,16 @@ module _ {C A R E : Type 0} where
   result_of (Yields x) = Some x
   result_of GoesOn = None
   result_of Ends = None
+
+  -- a turn in which this is yielded, or nothing, and which goes on
+  abbrev pub turn_of : Option (Result (DirEntry C A R E) (Error A)) → Turn C A R E
+  turn_of (Some x) = Yields x
+  turn_of None = GoesOn
+
+  -- what is known once this came from the walk, and waits
+  abbrev pub ahead_of : Option (Result (DirEntry C A R E) (Error A)) → Ahead C A R E
+  ahead_of (Some x) = Taken x
+  ahead_of None = Over
 
   abbrev pub is_end : Turn C A R E → Bool
   is_end (Yields x) = false

@@ -68,8 +68,8 @@ impl<
     ghost use Rattle.std.specs.Iterator.{IsFinite};
     ghost use Rattle.jwalk_contents_first.specs.declared.iter.Turn.TheVariants.{Yields};
     ghost use Rattle.jwalk_contents_first.specs.declared.iter.Ahead.TheVariants.{Unasked, Taken, Over};
-    ghost use Rattle.jwalk_contents_first.specs.Coming.{answers_of, is_stopped, is_taken, IsFresh};
-    ghost use Rattle.jwalk_contents_first.specs.Turns.{LetsOut, Turns};
+    ghost use Rattle.jwalk_contents_first.specs.Coming.{answers_of, asks, is_stopped, is_taken, IsFresh};
+    ghost use Rattle.jwalk_contents_first.specs.Turns.{ahead_of, turn_of, LetsOut, Turns};
 
     pub(crate) fn new(answers: I) -> Self
         ensures fresh { IsFresh result }
@@ -139,22 +139,40 @@ impl<
         Turn::Yields(Err(error))
     }
 
-    /// Takes an answer, and places it.
-    fn take(&mut self) -> Turn<C, A>
-        requires can { I.can_next (answers_of self.old) }
-        requires ends { IsFinite (I.remaining (answers_of self.old)) }
-        requires runs { is_stopped self.old ≡ false }
-        requires unasked { self.old.ahead ≡ Unasked }
-        ensures { Turns I.next_gives I.can_next I.remaining self.old result self.new }
+    /// Returns whether an answer is to be taken from the walk.
+    fn asks(&self) -> bool
+        ensures { result ≡ asks self.now }
     {
-        match self.answers.next() {
-            Some(Ok(found)) => self.place(found),
-            Some(Err(error)) => self.place_error(error),
-            None => {
-                self.ahead = Ahead::Over;
-                self.let_out_last()
+        !self.stopped && matches!(self.ahead, Ahead::Unasked)
+    }
+
+    /// Has an answer wait to be placed. If it is `None`, the walk has ended.
+    // Apart, since few answers wait: `take` is faster without the variables of this.
+    #[inline(never)]
+    fn wait(&mut self, answer: Option<Result<DirEntry<C, A>, Error<A>>>)
+        ensures { self.new ≡ record self.old { ahead = ahead_of answer } }
+    {
+        self.ahead = match answer {
+            Some(taken) => Ahead::Taken(taken),
+            None => Ahead::Over,
+        };
+    }
+
+    /// Takes an answer, which then waits. If it is an entry that can take the place of the last one held back, it does so
+    /// at once, and that one is returned.
+    fn take(&mut self) -> Option<Result<DirEntry<C, A>, Error<A>>>
+        requires can { CanGoOn I.can_next I.remaining self.old }
+        requires asks { asks self.old ≡ true }
+        ensures { Turns I.next_gives I.can_next I.remaining self.old (turn_of result) self.new }
+    {
+        let mut answer = self.answers.next();
+        if let Some(Ok(found)) = &mut answer {
+            if self.held.swap_last(found) {
+                return answer;
             }
         }
+        self.wait(answer);
+        None
     }
 
     /// Places the answer that was taken.
@@ -184,16 +202,19 @@ impl<
         }
     }
 
-    /// Places an answer, or lets out an entry.
+    /// Places the answer that waits, or lets out an entry.
+    // Apart, since most calls of `next` only take an answer: they are faster without the variables of this.
+    #[inline(never)]
     fn turn(&mut self) -> Turn<C, A>
-        requires { CanGoOn I.can_next I.remaining self.old }
+        requires can { CanGoOn I.can_next I.remaining self.old }
+        requires waits { asks self.old ≡ false }
         ensures { Turns I.next_gives I.can_next I.remaining self.old result self.new }
     {
         if self.stopped {
             return Turn::Ends;
         }
         match &self.ahead {
-            Ahead::Unasked => self.take(),
+            Ahead::Unasked => unreachable!(),
             Ahead::Taken(_) => self.place_taken(),
             Ahead::Over => self.let_out_last(),
         }
@@ -215,10 +236,16 @@ impl<
 
     fn next(&mut self) -> Option<Result<DirEntry<C, A>, Error<A>>> {
         loop {
-            match self.turn() {
-                Turn::Yields(yielded) => return Some(yielded),
-                Turn::GoesOn => {}
-                Turn::Ends => return None,
+            if self.asks() {
+                if let Some(yielded) = self.take() {
+                    return Some(yielded);
+                }
+            } else {
+                match self.turn() {
+                    Turn::Yields(yielded) => return Some(yielded),
+                    Turn::GoesOn => {}
+                    Turn::Ends => return None,
+                }
             }
         }
     }
