@@ -1,1 +1,2 @@
 pub mod CrewFacts
+pub mod FolderFacts

@@ -1,4 +1,5 @@
-//! What the walks of `seek` and `tally` begin with: their crew.
+//! What the walks of `seek` and `tally` begin with: their crew, and the roots below which it reads.
 #![tactic(auto)]
 
 pub mod crew;
+pub mod folders;

@@ -141,3 +141,12 @@ may_stop_sooner below may_stop other more each [] xs are = are
 may_stop_sooner below may_stop other more each (root ∷ roots) xs (inl (first, (rest, own, are, is))) = inl (first, (rest, own, may_stop_sooner below may_stop other more each roots rest are, is))
 may_stop_sooner below may_stop other more each (root ∷ roots) xs (inr (stops, inl none)) = inr (more stops, inl none)
 may_stop_sooner below may_stop other more each (root ∷ roots) xs (inr (stops, inr last)) = inr (more stops, inr (each root xs last))
+
+-- the answers below roots, by weaker facts of those below each
+pub are_below : (below other : Below) (may_stop : Type 0) → ((stop : Type 0) (root : List ℕ) (xs : List (Item Worth Worth)) → below stop root xs → other stop root xs)
+    → (roots : List (List ℕ)) (xs : List (Item Worth Worth)) → AreBelow below may_stop roots xs → AreBelow other may_stop roots xs
+unfolding AreBelow
+are_below below other may_stop each [] xs are = are
+are_below below other may_stop each (root ∷ roots) xs (inl (first, (rest, own, are, is))) = inl (first, (rest, each ⊥ root first own, are_below below other may_stop each roots rest are, is))
+are_below below other may_stop each (root ∷ roots) xs (inr (stops, inl none)) = inr (stops, inl none)
+are_below below other may_stop each (root ∷ roots) xs (inr (stops, inr last)) = inr (stops, inr (each may_stop root xs last))

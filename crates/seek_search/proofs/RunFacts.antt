@@ -18,7 +18,7 @@ use Rattle.seek_words.specs.Lines.{form_of}
 use Rattle.seek_words.specs.declared.lines.Lines.{Lines}
 use Rattle.seek_found.specs.Found.{found_lines, PrintsClean, PrintsFirst}
 use Rattle.seek_found.specs.Roots.{AreBelow, Below, PrintsSuch}
-use Rattle.seek_found.proofs.RootsFacts.{no_roots_printed}
+use Rattle.seek_found.proofs.RootsFacts.{no_roots_printed, printed_such}
 use Rattle.program_parts.proofs.GatheredFacts.{gathered_written}
 use Rattle.seek_found.proofs.FirstFacts.{first_as, first_none, first_stopped, first_then}
 use Rattle.program_parts.specs.Values.{texts_of}
@@ -41,9 +41,11 @@ use Rattle.seek_search.specs.Printing.{IsFront}
 use Rattle.seek_search.specs.RulesRead.{lines_asked}
 use Rattle.program_walks.specs.Crew.{CrewCallsOf}
 use Rattle.seek_search.specs.Run.{Searches, SearchesFor}
-use Rattle.seek_search.specs.Search.{form_before, front_if, sought_before, yielded_by}
+use Rattle.seek_search.specs.Search.{form_before, front_if, roots_asked, sought_before, yielded_by}
 use Rattle.seek_search.specs.declared.based.Based.{Based}
 use Rattle.seek_search.specs.declared.kept_links.KeptLinks.{KeptLinks}
+use Rattle.program_walks.proofs.FolderFacts.{reads_as}
+use Rattle.seek_search.proofs.SearchFacts.{same_below}
 
 -- what is looked for over a file system, by its parts
 pub sought_by : {w w' : Wants} {t t' : List ℕ → Bool → Bool} {f f' : Option (List ℕ)} (p : Bool) (fs : Functions) → w ≡ w' → t ≡ t' → f ≡ f'
@@ -195,13 +197,22 @@ module _ {T C Z B X A E G H F : Type 0} (plain : CrewCallsOf T G (Arc (KeptLinks
     shown = prints.shown;
     is_shown = fronts asked.absolute prints.shown prints.is_shown;
     left = prints.left;
-    printed = λ known. prints.printed (λ empty. fixes (known.0 empty), λ links. fixes (known.1 links));
+    printed = λ known. printed_such (same_below plain honouring lines asked (prints.left ≡ Some 0) (roots_asked asked) (reads_as fixes refl) refl refl refl)
+        (prints.printed (λ empty. fixes (known.0 empty), λ links. fixes (known.1 links)));
   }
 
-module _ {T C Z B X A E G H F : Type 0} (plain : CrewCallsOf T G (Arc (KeptLinks Z) B) LeavesOut A H F) (honouring : CrewCallsOf T C (Arc (KeptLinks Z) B) (Honours (UserTexts X) B) A RulesState E) {disk : Z} {told told' : Type 0} {fs : Functions} {values values' : Texts} {cores : ℕ} {asked : Asked} {takes : List ℕ → Bool → Bool} where
+module _ {T C Z B X A E G H F : Type 0} (plain : CrewCallsOf T G (Arc (KeptLinks Z) B) LeavesOut A H F) (honouring : CrewCallsOf T C (Arc (KeptLinks Z) B) (Honours (UserTexts X) B) A RulesState E) {disk : Z} {still still' told told' : Type 0} {fs : Functions} {values values' : Texts} {cores : ℕ} {asked : Asked} {takes : List ℕ → Bool → Bool} where
   -- the same where one of the answers is found
-  pub found_if : {found : Bool} → ((wanted : Bool) (front : Option (List ℕ)) → IsFront told values wanted front → IsFront told' values' wanted front) → (from : UserTexts X) (lines : List ℕ) → Finds plain honouring disk told fs values cores from lines asked takes found → Finds plain honouring disk told' fs values' cores from lines asked takes found
-  found_if fronts from lines finds = record { crew = finds.crew; is_crew = finds.is_crew; front = finds.front; in_front = fronts asked.full_path finds.front finds.in_front; answers = finds.answers; yielded = finds.yielded; one = finds.one }
+  pub found_if : {found : Bool} → (still' → still) → ((wanted : Bool) (front : Option (List ℕ)) → IsFront told values wanted front → IsFront told' values' wanted front) → (from : UserTexts X) (lines : List ℕ) → Finds plain honouring disk still told fs values cores from lines asked takes found → Finds plain honouring disk still' told' fs values' cores from lines asked takes found
+  found_if {found} fixes fronts from lines finds = record {
+    crew = finds.crew;
+    is_crew = finds.is_crew;
+    front = finds.front;
+    in_front = fronts asked.full_path finds.front finds.in_front;
+    answers = finds.answers;
+    yielded = same_below plain honouring lines asked (found ≡ true) (roots_asked asked) (reads_as fixes refl) refl refl refl finds.answers finds.yielded;
+    one = finds.one;
+  }
 
 module _ {T C Z B X A E G H F : Type 0} (plain : CrewCallsOf T G (Arc (KeptLinks Z) B) LeavesOut A H F) (honouring : CrewCallsOf T C (Arc (KeptLinks Z) B) (Honours (UserTexts X) B) A RulesState E) {disk : Z} {reads : X} {still still' told told' : Type 0} {fs fs' : Functions} {texts texts' : Texts} {home : Home} {cores : ℕ} {screen : Screen} {asked : Asked} {sought : Looked} {old old' new : Option (List ℕ)} where
   -- the same search, by other names of the file system, the texts and what was written before
@@ -213,7 +224,7 @@ module _ {T C Z B X A E G H F : Type 0} (plain : CrewCallsOf T G (Arc (KeptLinks
       (record {
         colored = s.colored;
         times = record { now = s.times.now; after = s.times.after; before = s.times.before; after_file = λ still'. s.times.after_file (stays still') };
-        quiet = λ quiet. let found = s.quiet quiet in (found.0, λ empties. by_read tells refl (found_if plain honouring (front_as tells refl)) (found.1 (λ empty. stays (empties empty))));
+        quiet = λ quiet. let found = s.quiet quiet in (found.0, λ empties. by_read tells refl (found_if plain honouring stays (front_as tells refl)) (found.1 (λ empty. stays (empties empty))));
         yielded = λ loud. by_read tells refl (printed_if plain honouring stays (front_as tells refl)) (s.yielded loud);
         finds = λ quiet still' told'. s.finds quiet (stays still') (tells told');
         prints = λ loud still' told'. s.prints loud (stays still') (tells told');

@@ -32,6 +32,7 @@ use Rattle.seek_found.specs.Limit.{is_hit}
 use Rattle.seek_found.specs.Prune.{unpruned}
 use Rattle.seek_found.specs.Roots.{AreBelow, Below, PrintsSuch}
 use Rattle.program_walks.specs.Crew.{CrewCallsOf, IsCrewOf, ReadsBy, threads_in, with_crew}
+use Rattle.program_walks.specs.Folders.{IsCrewAt}
 use Rattle.jwalk.specs.jwalk_callbacks.Both.{first_of, second_of}
 use Rattle.jwalk.specs.jwalk_callbacks.declared.both.Both.{Both}
 use Rattle.jwalk_ignore.specs.Callback.Excluding.{excluded_of}
@@ -91,15 +92,22 @@ pub record IsHonouring {T C S B X A E : Type 0} (disk : S) (texts : X) (crew : O
 module _ {T C S B X A E G H F : Type 0} (plain : CrewCallsOf T G (Arc S B) LeavesOut A H F) (honouring : CrewCallsOf T C (Arc S B) (Honours X B) A RulesState E) where
   -- The answers are those of the walk that is asked for below this root, for which this crew reads, if there is one: all
   -- of them, unless the search may stop.
-  abbrev pub YieldedBelow : S → X → Option (Arc (Crew T) A) → List ℕ → Asked → Sought → Below
-  YieldedBelow disk texts crew lines asked sought may_stop root answers =
+  abbrev pub YieldedBy : S → X → Option (Arc (Crew T) A) → List ℕ → Asked → Sought → Below
+  YieldedBy disk texts crew lines asked sought may_stop root answers =
       MatchBool asked.no_ignore (Yielded plain (IsPlain disk crew lines asked root) sought may_stop answers) (Yielded honouring (IsHonouring disk texts crew lines asked root) sought may_stop answers)
+
+  -- The same. `is_crew` says which crew may read below a root.
+  pub record YieldedBelow (disk : S) (texts : X) (is_crew : List ℕ → Option (Arc (Crew T) A) → Type 0) (lines : List ℕ) (asked : Asked) (sought : Sought) (may_stop : Type 0) (root : List ℕ) (answers : List (Item Worth Worth)) : Type 0 where
+    pub reads : Option (Arc (Crew T) A)
+    pub by : is_crew root reads
+    pub yielded : YieldedBy disk texts reads lines asked sought may_stop root answers
 
 module _ {T C Z B X A E G H F : Type 0} (plain : CrewCallsOf T G (Arc (KeptLinks Z) B) LeavesOut A H F) (honouring : CrewCallsOf T C (Arc (KeptLinks Z) B) (Honours X B) A RulesState E) where
   -- The answers are those of the walks below the roots that are asked for, one root after another. Links that lead
-  -- nowhere stay links.
-  abbrev pub AreYielded : Z → X → Option (Arc (Crew T) A) → List ℕ → Asked → Sought → Type 0 → List (Item Worth Worth) → Type 0
-  AreYielded disk texts crew lines asked sought may_stop = AreBelow (YieldedBelow plain honouring (record { disk = disk; follow = asked.follow }) texts crew lines asked sought) may_stop (roots_asked asked)
+  -- nowhere stay links. This crew reads below the roots that directories may be in, as is known if the disk is fixed.
+  abbrev pub AreYielded : Z → Type 0 → Functions → X → Option (Arc (Crew T) A) → List ℕ → Asked → Sought → Type 0 → List (Item Worth Worth) → Type 0
+  AreYielded disk fixed fs texts crew lines asked sought may_stop =
+      AreBelow (YieldedBelow plain honouring (record { disk = disk; follow = asked.follow }) texts (IsCrewAt fixed (functions_kept asked.follow fs) asked.follow crew) lines asked sought) may_stop (roots_asked asked)
 
   -- The line of each answer that is looked for was printed, up to the limit, and the result says whether all answers
   -- are clean. The crew that reads has the threads that are asked for, or else as many as can run at a time, which are
@@ -114,16 +122,16 @@ module _ {T C Z B X A E G H F : Type 0} (plain : CrewCallsOf T G (Arc (KeptLinks
     pub shown : Option (List ℕ)
     pub is_shown : IsFront told values asked.absolute shown
     pub left : Option ℕ
-    pub printed : IfAsked fixed (sought_before fs front asked takes) (form_before (functions_kept asked.follow fs) shown screen asked) → PrintsSuch (AreYielded disk texts crew lines asked (sought_before fs front asked takes) (left ≡ Some 0)) (sought_before fs front asked takes) (form_before (functions_kept asked.follow fs) shown screen asked) (limit_asked asked) left old new clean
+    pub printed : IfAsked fixed (sought_before fs front asked takes) (form_before (functions_kept asked.follow fs) shown screen asked) → PrintsSuch (AreYielded disk fixed fs texts crew lines asked (sought_before fs front asked takes) (left ≡ Some 0)) (sought_before fs front asked takes) (form_before (functions_kept asked.follow fs) shown screen asked) (limit_asked asked) left old new clean
 
   -- `found` says whether one of the answers is looked for. If so, the search may stop there.
-  pub record Finds (disk : Z) (told : Type 0) (fs : Functions) (values : Texts) (cores : ℕ) (texts : X) (lines : List ℕ) (asked : Asked) (takes : List ℕ → Bool → Bool) (found : Bool) : Type 0 where
+  pub record Finds (disk : Z) (fixed told : Type 0) (fs : Functions) (values : Texts) (cores : ℕ) (texts : X) (lines : List ℕ) (asked : Asked) (takes : List ℕ → Bool → Bool) (found : Bool) : Type 0 where
     pub crew : Option (Arc (Crew T) A)
     pub is_crew : IsCrewOf (threads_in cores (threads_asked asked)) crew
     pub front : Option (List ℕ)
     pub in_front : IsFront told values asked.full_path front
     pub answers : List (Item Worth Worth)
-    pub yielded : AreYielded disk texts crew lines asked (sought_before fs front asked takes) (found ≡ true) answers
+    pub yielded : AreYielded disk fixed fs texts crew lines asked (sought_before fs front asked takes) (found ≡ true) answers
     pub one : list_any (is_hit (sought_before fs front asked takes)) answers ≡ found
 
 -- What is known of a search by these texts, in whose repositories are the user's excludes if they are asked for, and by

@@ -6,3 +6,4 @@ pub mod Printed
 pub mod Goes
 pub mod KeptLinks
 pub mod Printing
+pub mod Below

@@ -62,7 +62,7 @@ module _ {T C Z B X A E G H F : Type 0} (plain : CrewCallsOf T G (Arc (KeptLinks
   pub record SearchesFor (disk : Z) (reads : X) (still told : Type 0) (fs : Functions) (texts : Texts) (home : Home) (cores : ℕ) (screen : Screen) (asked : Asked) (sought : Sought) (old new : Option (List ℕ)) : Type 0 where
     pub colored : asked.colored ≡ is_colored screen asked.color
     pub times : AreTimes still fs asked asked.times
-    pub quiet : asked.quiet ≡ true → (new ≡ old) × ((asked.kinds.empty ≡ true → still) → ByRead reads told texts home asked (λ reads lines. Finds plain honouring disk told fs texts cores reads lines asked (takes_by sought) true))
+    pub quiet : asked.quiet ≡ true → (new ≡ old) × ((asked.kinds.empty ≡ true → still) → ByRead reads told texts home asked (λ reads lines. Finds plain honouring disk still told fs texts cores reads lines asked (takes_by sought) true))
     pub yielded : asked.quiet ≡ false → ByRead reads told texts home asked (λ reads lines. PrintsYielded plain honouring disk still told fs texts cores reads lines screen asked (takes_by sought) old new true)
     pub finds : asked.quiet ≡ true → still → told → FindsAsked fs texts home asked sought
     pub prints : asked.quiet ≡ false → still → told → PrintsAsked fs texts home screen asked sought old new

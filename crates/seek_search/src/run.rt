@@ -110,7 +110,7 @@ impl<
             asked.now (takes_by sought.now) (W.contents out.old) (W.contents out.new) ended.clean) }
         ensures found { IfOk result (λ ended. asked.now.quiet ≡ true → (asked.now.kinds.empty ≡ true → S.IsFixed self.entry.disk)
             → Finds ⟦<PlainWalk<T, KeptLinks<S>> as Iterator>⟧.next_gives
-            ⟦<HonouringWalk<T, KeptLinks<S>, X> as Iterator>⟧.next_gives self.entry.disk (X.IsFixed self.entry.texts)
+            ⟦<HonouringWalk<T, KeptLinks<S>, X> as Iterator>⟧.next_gives self.entry.disk (S.IsFixed self.entry.disk) (X.IsFixed self.entry.texts)
             (S.functions self.entry.disk) (X.functions self.entry.texts) self.entry.cores self.entry.texts given.now asked.now (takes_by sought.now) ended.full) }
         ensures whole { IfOk result (λ ended. ended.clean ≡ true → S.IsFixed self.entry.disk → X.IsFixed self.entry.texts
             → PrintsRead (S.functions self.entry.disk) (X.functions self.entry.texts) given.now self.entry.screen asked.now sought.now
@@ -162,7 +162,7 @@ impl<
             → (asked.now.kinds.empty ≡ true → S.IsFixed self.entry.disk) → ByRead self.entry.texts (X.IsFixed self.entry.texts)
             (X.functions self.entry.texts) self.entry.home asked.now (λ reads lines. Finds
             ⟦<PlainWalk<T, KeptLinks<S>> as Iterator>⟧.next_gives
-            ⟦<HonouringWalk<T, KeptLinks<S>, UserTexts<X>> as Iterator>⟧.next_gives self.entry.disk (X.IsFixed self.entry.texts)
+            ⟦<HonouringWalk<T, KeptLinks<S>, UserTexts<X>> as Iterator>⟧.next_gives self.entry.disk (S.IsFixed self.entry.disk) (X.IsFixed self.entry.texts)
             (S.functions self.entry.disk) (X.functions self.entry.texts) self.entry.cores reads lines asked.now (takes_by sought.now) ended.full)) }
         ensures whole { IfOk result (λ ended. ended.clean ≡ true → S.IsFixed self.entry.disk → X.IsFixed self.entry.texts
             → PrintsAsked (S.functions self.entry.disk) (X.functions self.entry.texts) self.entry.home self.entry.screen asked.now sought.now

@@ -1,5 +1,5 @@
 //! A search below roots.
-ghost use Rattle.std.specs.Prelude.{◌≡◌, ◌≢◌, [], Some, false, flat_map, true, IfOk};
+ghost use Rattle.std.specs.Prelude.{◌≡◌, ◌≢◌, ◌&&◌, [], Some, false, flat_map, is_some, true, IfOk};
 ghost use Rattle.std.specs.Arc.{arc_value};
 ghost use Rattle.program_parts.specs.Values.{texts_of as texts_now};
 ghost use Rattle.jwalk.specs.jwalk_model.Options.{with_skip_hidden};
@@ -10,11 +10,12 @@ ghost use Rattle.jwalk_ignore.specs.Rules.Chain.{no_rules};
 ghost use Rattle.jwalk_ignore.specs.Callback.IgnoreViews.{next_of, settings_of, texts_of};
 ghost use Rattle.jwalk_ignore.specs.Callback.Excluding.{excluded_of};
 ghost use Rattle.jwalk_ignore.specs.Callback.Kept.{ignoring_walk};
-ghost use Rattle.seek_search.specs.Goes.{IsHonouring, IsPlain, Yielded, YieldedBelow};
-ghost use Rattle.seek_search.specs.Printed.{PrintsAll, PrintsThose, PrintsWalk, StaysAs, WritesAll, WritesThose};
+ghost use Rattle.program_walks.specs.Folders.{found_in, has_folders};
+ghost use Rattle.seek_search.specs.Below.{PrintsBelow, PrintsRoots, WritesRoots};
+ghost use Rattle.seek_search.specs.Goes.{IsHonouring, IsPlain, Yielded};
+ghost use Rattle.seek_search.specs.Printed.{PrintsAll, PrintsThose, PrintsWalk, StaysAs, WritesAll};
 ghost use Rattle.seek_search.specs.Search.{all_below, excluded_asked, kept_below, options_asked, roots_asked, settings_asked, unpruned_below, yielded_by};
 ghost use Rattle.seek_found.specs.Prune.{unpruned};
-ghost use Rattle.seek_found.specs.Roots.{AreBelow};
 
 use crate::excluded::{excluding_of, naming_of};
 use jwalk::file_system::FileSystem;
@@ -28,6 +29,7 @@ use jwalk_ignore::states::OnlyRules;
 use jwalk_ignore::texts::Texts;
 use program_parts::halt::Halt;
 use program_walks::crew::{CrewWalk, Plain, walk_below};
+use program_walks::folders::{has_folders, look_at};
 use seek_found::call::Ended;
 use seek_found::found::print_found;
 use seek_found::printer::Printer;
@@ -187,6 +189,7 @@ impl<
     fn search_all<W: Write, E: Write>(
         &self,
         alloc: Global,
+        crew: &Option<Arc<Crew<T>>>,
         root: &str,
         printer: &mut Printer<'_, SoughtTest<'_>>,
         out: &mut W,
@@ -197,7 +200,7 @@ impl<
             (excluded_asked self.now.asked.now root.now) root.now))
             printer.old printer.new (W.contents out.old) (W.contents out.new) clean) }
         ensures yielded { IfOk result (PrintsThose (S.IsFixed (arc_value self.now.disk)) (S.functions (arc_value self.now.disk)) (Yielded ⟦<PlainWalk<T, S> as Iterator>⟧.next_gives
-            (IsPlain (arc_value self.now.disk) self.now.crew self.now.lines.now self.now.asked.now root.now))
+            (IsPlain (arc_value self.now.disk) crew.now self.now.lines.now self.now.asked.now root.now))
             printer.old printer.new (W.contents out.old) (W.contents out.new)) }
         ensures stays { StaysAs (S.functions (arc_value self.now.disk)) printer.old printer.new }
     {
@@ -205,7 +208,7 @@ impl<
         let excluding = excluding_of(alloc, self.asked, root)?;
         let root = String::from_str(alloc, root)?;
         let disk = self.disk.clone()?;
-        let walk = walk_below::<((), ()), _, _, _>(disk, root, self.options(), &self.crew)?;
+        let walk = walk_below::<((), ()), _, _, _>(disk, root, self.options(), crew)?;
         print_begun(
             walk.process_read_dir(Both::new(naming, excluding)),
             &self.disk,
@@ -220,6 +223,7 @@ impl<
     fn search_kept<W: Write, E: Write>(
         &self,
         alloc: Global,
+        crew: &Option<Arc<Crew<T>>>,
         root: &str,
         printer: &mut Printer<'_, SoughtTest<'_>>,
         out: &mut W,
@@ -231,7 +235,7 @@ impl<
             (excluded_asked self.now.asked.now root.now) root.now))
             printer.old printer.new (W.contents out.old) (W.contents out.new) clean) }
         ensures yielded { IfOk result (PrintsThose (S.IsFixed (arc_value self.now.disk)) (S.functions (arc_value self.now.disk)) (Yielded ⟦<HonouringWalk<T, S, X> as Iterator>⟧.next_gives
-            (IsHonouring (arc_value self.now.disk) (arc_value self.now.texts) self.now.crew self.now.lines.now self.now.asked.now root.now))
+            (IsHonouring (arc_value self.now.disk) (arc_value self.now.texts) crew.now self.now.lines.now self.now.asked.now root.now))
             printer.old printer.new (W.contents out.old) (W.contents out.new)) }
         ensures stays { StaysAs (S.functions (arc_value self.now.disk)) printer.old printer.new }
     {
@@ -240,11 +244,20 @@ impl<
         let rules = rules_of(alloc, self.asked, self.lines, texts)?.then(excluding);
         let root = String::from_str(alloc, root)?;
         let disk = self.disk.clone()?;
-        let walk = walk_below::<OnlyRules, _, _, _>(disk, root, self.options(), &self.crew)?;
+        let walk = walk_below::<OnlyRules, _, _, _>(disk, root, self.options(), crew)?;
         search_walk(walk, &self.disk, rules, printer, self.clock, out, err)
     }
 
-    /// Prints what is found, and reports errors. Returns whether there was none.
+    /// Returns whether there is a crew, and directories may be in a root.
+    fn needs_crew(&self, root: &str) -> Result<bool, AllocError>
+        ensures { S.IsFixed (arc_value self.now.disk) → IfOk result (λ needed. needed ≡ is_some self.now.crew
+            && has_folders self.now.asked.now.follow (found_in ((S.functions (arc_value self.now.disk)).meta_of root.now))) }
+    {
+        Ok(self.crew.is_some() && has_folders(look_at(&self.disk, root)?, self.asked.follow))
+    }
+
+    /// Prints what is found, and reports errors. Returns whether there was none. A root that no directory is in needs no
+    /// crew.
     fn below<W: Write, E: Write>(
         &self,
         alloc: Global,
@@ -257,15 +270,20 @@ impl<
             → PrintsAll (S.functions (arc_value self.now.disk)) (λ sought. unpruned_below (S.functions (arc_value self.now.disk)) (X.functions (arc_value self.now.texts))
             self.now.lines.now self.now.asked.now sought root.now)
             printer.old printer.new (W.contents out.old) (W.contents out.new) clean) }
-        ensures yielded { IfOk result (PrintsThose (S.IsFixed (arc_value self.now.disk)) (S.functions (arc_value self.now.disk)) (λ sought may_stop. YieldedBelow ⟦<PlainWalk<T, S> as Iterator>⟧.next_gives
-            ⟦<HonouringWalk<T, S, X> as Iterator>⟧.next_gives (arc_value self.now.disk) (arc_value self.now.texts)
-            self.now.crew self.now.lines.now self.now.asked.now sought may_stop root.now) printer.old printer.new (W.contents out.old) (W.contents out.new)) }
+        ensures yielded { IfOk result (PrintsBelow S.FileSystem ⟦<PlainWalk<T, S> as Iterator>⟧.next_gives ⟦<HonouringWalk<T, S, X> as Iterator>⟧.next_gives
+            self.now root.now printer.old printer.new (W.contents out.old) (W.contents out.new)) }
         ensures stays { StaysAs (S.functions (arc_value self.now.disk)) printer.old printer.new }
     {
+        let none = None;
+        let crew = if self.needs_crew(root)? {
+            &self.crew
+        } else {
+            &none
+        };
         if self.asked.no_ignore {
-            return self.search_all(alloc, root, printer, out, err);
+            return self.search_all(alloc, crew, root, printer, out, err);
         }
-        self.search_kept(alloc, root, printer, out, err)
+        self.search_kept(alloc, crew, root, printer, out, err)
     }
 
     /// Searches the two halves of the roots in turn. Returns whether there was no error.
@@ -277,9 +295,8 @@ impl<
         out: &mut W,
         err: &mut E,
     ) -> Result<bool, Halt>
-        ensures yielded { IfOk result (PrintsThose (S.IsFixed (arc_value self.now.disk)) (S.functions (arc_value self.now.disk)) (λ sought may_stop. AreBelow (YieldedBelow ⟦<PlainWalk<T, S> as Iterator>⟧.next_gives
-            ⟦<HonouringWalk<T, S, X> as Iterator>⟧.next_gives (arc_value self.now.disk) (arc_value self.now.texts)
-            self.now.crew self.now.lines.now self.now.asked.now sought) may_stop (texts_now roots.now)) printer.old printer.new (W.contents out.old) (W.contents out.new)) }
+        ensures yielded { IfOk result (PrintsRoots S.FileSystem ⟦<PlainWalk<T, S> as Iterator>⟧.next_gives ⟦<HonouringWalk<T, S, X> as Iterator>⟧.next_gives
+            self.now (texts_now roots.now) printer.old printer.new (W.contents out.old) (W.contents out.new)) }
         ensures whole { IfOk result (λ clean. S.IsFixed (arc_value self.now.disk) → X.IsFixed (arc_value self.now.texts)
             → PrintsAll (S.functions (arc_value self.now.disk)) (λ sought. flat_map (unpruned_below (S.functions (arc_value self.now.disk))
             (X.functions (arc_value self.now.texts)) self.now.lines.now self.now.asked.now sought) (texts_now roots.now)) printer.old printer.new (W.contents out.old) (W.contents out.new) clean) }
@@ -308,10 +325,8 @@ impl<
         out: &mut W,
         err: &mut E,
     ) -> Result<bool, Halt>
-        ensures yielded { IfOk result (PrintsThose (S.IsFixed (arc_value self.now.disk)) (S.functions (arc_value self.now.disk)) (λ sought may_stop. AreBelow (YieldedBelow ⟦<PlainWalk<T, S> as Iterator>⟧.next_gives
-            ⟦<HonouringWalk<T, S, X> as Iterator>⟧.next_gives (arc_value self.now.disk) (arc_value self.now.texts)
-            self.now.crew self.now.lines.now self.now.asked.now sought) may_stop (roots_asked self.now.asked.now)) printer.old printer.new
-            (W.contents out.old) (W.contents out.new)) }
+        ensures yielded { IfOk result (PrintsRoots S.FileSystem ⟦<PlainWalk<T, S> as Iterator>⟧.next_gives ⟦<HonouringWalk<T, S, X> as Iterator>⟧.next_gives
+            self.now (roots_asked self.now.asked.now) printer.old printer.new (W.contents out.old) (W.contents out.new)) }
         ensures whole { IfOk result (λ clean. S.IsFixed (arc_value self.now.disk) → X.IsFixed (arc_value self.now.texts)
             → PrintsAll (S.functions (arc_value self.now.disk))
             (yielded_by (S.functions (arc_value self.now.disk)) (X.functions (arc_value self.now.texts)) self.now.lines.now self.now.asked.now)
@@ -333,10 +348,8 @@ impl<
         out: &mut W,
         err: &mut E,
     ) -> Result<Ended, Halt>
-        ensures yielded { IfOk result (λ ended. WritesThose (S.IsFixed (arc_value self.now.disk)) (S.functions (arc_value self.now.disk)) (λ sought may_stop. AreBelow (YieldedBelow ⟦<PlainWalk<T, S> as Iterator>⟧.next_gives
-            ⟦<HonouringWalk<T, S, X> as Iterator>⟧.next_gives (arc_value self.now.disk) (arc_value self.now.texts)
-            self.now.crew self.now.lines.now self.now.asked.now sought) may_stop (roots_asked self.now.asked.now)) printer.old printer.new
-            (W.contents out.old) (W.contents out.new) ended.clean) }
+        ensures yielded { IfOk result (λ ended. WritesRoots S.FileSystem ⟦<PlainWalk<T, S> as Iterator>⟧.next_gives ⟦<HonouringWalk<T, S, X> as Iterator>⟧.next_gives
+            self.now (roots_asked self.now.asked.now) printer.old printer.new (W.contents out.old) (W.contents out.new) ended.clean) }
         ensures whole { IfOk result (λ ended. S.IsFixed (arc_value self.now.disk) → X.IsFixed (arc_value self.now.texts)
             → WritesAll (S.functions (arc_value self.now.disk))
             (yielded_by (S.functions (arc_value self.now.disk)) (X.functions (arc_value self.now.texts)) self.now.lines.now self.now.asked.now)

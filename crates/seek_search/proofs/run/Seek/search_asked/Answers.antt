@@ -11,6 +11,7 @@ use Rattle.seek_search.specs.KeptLinks.{functions_kept}
 use Rattle.seek_search.specs.Printing.{IsFront}
 use Rattle.seek_search.specs.Search.{form_before, front_if, positive, roots_asked, sought_before}
 use Rattle.seek_search.specs.declared.kept_links.KeptLinks.{KeptLinks}
+use Rattle.program_walks.proofs.FolderFacts.{reads_as}
 use Rattle.seek_found.proofs.FoundFacts.{asked_if}
 use Rattle.seek_search.proofs.RunFacts.{form_over, printed_over, quiet_asks_nothing, sought_over}
 use Rattle.seek_search.proofs.SearchFacts.{same_below, stops_sooner}
@@ -69,6 +70,7 @@ returns-clause-yielded g c =
     let formed = form_over (λ (d : KeptLinks _). functions_kept d.follow (g.S.FileSystem.functions d.disk)) c.in_ok-printer.printer.lines c.args.self.screen asked c.in_ok-shared.ensures made.form in
     let stays = subst (λ (d : KeptLinks _). g.S.FileSystem.IsFixed d.disk) (sym c.in_ok-shared.ensures) in
     let crewed = subst (λ n. IsCrewOf n c.in_ok-crew_with.field-0) (c.threads_in.ensures ∙ ap (threads_in c.args.self.cores) c.threads_asked.ensures) c.in_ok-crew_with.ensures in
+    let crews = reads_as stays (ap (λ (d : KeptLinks _). functions_kept d.follow (g.S.FileSystem.functions d.disk)) c.in_ok-shared.ensures) in
     IfOk-weaker c.print.result _ _
     (λ ended prints. record {
       crew = c.in_ok-crew_with.field-0;
@@ -79,7 +81,7 @@ returns-clause-yielded g c =
       is_shown = subst (λ x. IsFront (g.X.Texts.IsFixed x) (g.X.Texts.functions x) asked.absolute made.shown) c.in_ok-shared-2.ensures made.is_shown;
       left = c.print.new.printer.left;
       printed = λ known. such_printed_by looked formed made.limit
-          (printed_such (same_below _ _ _ _ asked _ (roots_asked asked) c.in_ok-shared.ensures c.in_ok-shared-2.ensures looked) (prints made.empty (asked_if looked formed stays known)));
+          (printed_such (same_below _ _ _ asked _ (roots_asked asked) crews c.in_ok-shared.ensures c.in_ok-shared-2.ensures looked) (prints made.empty (asked_if looked formed stays known)));
     })
     c.print.ensures.yielded
 
@@ -91,6 +93,7 @@ returns-clause-found g c =
     let formed = form_over (λ (d : KeptLinks _). functions_kept d.follow (g.S.FileSystem.functions d.disk)) c.in_ok-printer.printer.lines c.args.self.screen asked c.in_ok-shared.ensures made.form in
     let stays = subst (λ (d : KeptLinks _). g.S.FileSystem.IsFixed d.disk) (sym c.in_ok-shared.ensures) in
     let crewed = subst (λ n. IsCrewOf n c.in_ok-crew_with.field-0) (c.threads_in.ensures ∙ ap (threads_in c.args.self.cores) c.threads_asked.ensures) c.in_ok-crew_with.ensures in
+    let crews = reads_as stays (ap (λ (d : KeptLinks _). functions_kept d.follow (g.S.FileSystem.functions d.disk)) c.in_ok-shared.ensures) in
     from_three c.print.result _ _ _ _
     (λ ended prints filled room. λ quiet empties.
     let none = quiet_asks_nothing (functions_kept asked.follow (g.S.FileSystem.functions c.args.self.disk)) made.shown c.args.self.screen asked quiet in
@@ -102,7 +105,7 @@ returns-clause-found g c =
       front = made.filter.front;
       in_front = subst (λ x. IsFront (g.X.Texts.IsFixed x) (g.X.Texts.functions x) asked.full_path made.filter.front) c.in_ok-shared-2.ensures made.filter.is_front;
       answers = yielded.answers;
-      yielded = stops_sooner _ _ _ _ _ _ asked _ _ _ (reached ended.full room) (roots_asked asked) yielded.answers (same_below _ _ _ _ asked _ (roots_asked asked) c.in_ok-shared.ensures c.in_ok-shared-2.ensures looked yielded.answers yielded.such);
+      yielded = stops_sooner _ _ _ _ _ _ asked _ _ _ (reached ended.full room) (roots_asked asked) yielded.answers (same_below _ _ _ asked _ (roots_asked asked) crews c.in_ok-shared.ensures c.in_ok-shared-2.ensures looked yielded.answers yielded.such);
       one = subst (λ (s : Sought). list_any (is_hit s) yielded.answers ≡ ended.full) looked (found_if_full yielded limited ended.full filled room);
     })
     c.print.ensures.yielded c.print.ensures.full c.print.ensures.room

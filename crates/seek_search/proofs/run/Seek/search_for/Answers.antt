@@ -14,7 +14,7 @@ returns-then-asked-clause-done g c = λ zero.
         colored = c.is_colored.ensures;
         times =
             let known = c.in-Ok.ensures in record { now = known.now; after = known.after; before = known.before; after_file = known.after_file };
-        quiet = λ quiet. (refl, λ empties. by_read (λ told. told) refl (λ _ _. subst (Finds _ _ _ _ _ _ _ _ _ _ _) found.1) (found.2 quiet empties));
+        quiet = λ quiet. (refl, λ empties. by_read (λ told. told) refl (λ _ _. subst (Finds _ _ _ _ _ _ _ _ _ _ _ _) found.1) (found.2 quiet empties));
         yielded = λ loud. absurd (true≢false (sym c.if-asked.true ∙ loud));
         finds = λ quiet still told. one.2 quiet one.1 still told;
         prints = λ loud. absurd (true≢false (sym c.if-asked.true ∙ loud));

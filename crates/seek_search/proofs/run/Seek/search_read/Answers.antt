@@ -32,7 +32,7 @@ returns-clause-found g c =
       own = c.new-texts.ensures.home ∙ c.in_ok-home_asked.ensures;
       lines = _;
       named = λ told. c.as_slice.ensures.value ∙ c.in_ok-lines.ensures told;
-      known = found_if _ _ (λ wanted front is. subst (λ x. IsFront (g.X.Texts.IsFixed x) (g.X.Texts.functions x) wanted front) c.new-texts.ensures.texts (front_behind (home_of c.new-texts.result) wanted front is)) c.new-texts.result _ (finds quiet empties);
+      known = found_if _ _ (λ still. still) (λ wanted front is. subst (λ x. IsFront (g.X.Texts.IsFixed x) (g.X.Texts.functions x) wanted front) c.new-texts.ensures.texts (front_behind (home_of c.new-texts.result) wanted front is)) c.new-texts.result _ (finds quiet empties);
     })
     c.search_asked.ensures.found
 

@@ -50,7 +50,7 @@ returns-in_ok-below_each-in_default-clause-yielded g t c = λ known.
     printed_such (below_same _ _ _ _ _ _ c.args.self.now.asked.now _ _ (texts_then c.args.roots.now parts.0.now parts.1.now c.split_at.ensures.by_index.0))
     (roots_printed _ _ (texts_of parts.0.now) (texts_of parts.1.now) _ _ _ _ _ _ c.in_ok-clean-in_default.clean c.in_ok-below_each-in_default.field-0 (c.is_full.ensures.room c.if-is_full.false) c.below_each.ensures.stays.sought c.below_each.ensures.stays.form
     (c.in_ok-clean-in_default.ensures.yielded known)
-    (printed_such (same_below _ _ _ _ c.args.self.now.asked.now _ (texts_of parts.1.now) refl refl c.below_each.ensures.stays.sought) (c.in_ok-below_each-in_default.ensures.yielded (asked_if c.below_each.ensures.stays.sought c.below_each.ensures.stays.form (λ fixed. fixed) known))))
+    (printed_such (same_below _ _ _ c.args.self.now.asked.now _ (texts_of parts.1.now) (λ _ _ at. at) refl refl c.below_each.ensures.stays.sought) (c.in_ok-below_each-in_default.ensures.yielded (asked_if c.below_each.ensures.stays.sought c.below_each.ensures.stays.form (λ fixed. fixed) known))))
 
 pub returns-in_ok-below_each-in_default-clause-whole : goal.returns-in_ok-below_each-in_default-clause-whole
 returns-in_ok-below_each-in_default-clause-whole g t c = λ fixed told.

@@ -36,8 +36,8 @@ returns-clause-whole g c =
     = ap (λ it. excluded_of (first_of it)) set.callback ∙ ap excluded_of c.new.ensures.first ∙ c.in_ok-naming.ensures in
     let lines : excluded_of (second_of (callback_of walk)) ≡ excluded
     = ap (λ it. excluded_of (second_of it)) set.callback ∙ ap excluded_of c.new.ensures.second ∙ c.in_ok-excluding.ensures in
-    let options : options_of walk ≡ with_crew (is_some self.crew) (options_asked asked)
-    = set.options ∙ built.options ∙ ap (with_crew (is_some self.crew)) c.options.ensures in
+    let options : options_of walk ≡ with_crew (is_some c.args.crew.now) (options_asked asked)
+    = set.options ∙ built.options ∙ ap (with_crew (is_some c.args.crew.now)) c.options.ensures in
     let root : root_of walk ≡ c.args.root.now = set.root ∙ built.root ∙ c.in_ok-root.ensures.ok in
     IfOk-weaker c.print_begun.result _ _
     (λ clean whole. λ fixed.
@@ -58,7 +58,7 @@ returns-clause-whole g c =
     } in
     first_as (ap (unpruned (sought_of takes_of (g.S.FileSystem.functions (arc_value self.disk)) c.args.printer.now.filter))
     (whole_of (leaving_out named excluded) (ap g.S.FileSystem.functions over) options root refl
-    ∙ same_by_crew (leaving_out named excluded) (is_some self.crew) (g.S.FileSystem.functions (arc_value self.disk)) (options_asked asked) c.args.root.now blank))
+    ∙ same_by_crew (leaving_out named excluded) (is_some c.args.crew.now) (g.S.FileSystem.functions (arc_value self.disk)) (options_asked asked) c.args.root.now blank))
     (whole fixed given steady))
     c.print_begun.ensures.whole
 
@@ -69,12 +69,12 @@ returns-clause-yielded g c =
     let built = c.in_ok-walk.ensures in
     let set = c.process_read_dir.ensures in
     let walk = c.process_read_dir.result in
-    let plain : IsPlain (arc_value self.disk) self.crew self.lines.now asked c.args.root.now walk = record {
+    let plain : IsPlain (arc_value self.disk) c.args.crew.now self.lines.now asked c.args.root.now walk = record {
       over = ap arc_value (set.file_system ∙ built.file_system) ∙ c.in_ok-disk.ensures.cases;
       below = set.root ∙ built.root ∙ c.in_ok-root.ensures.ok;
-      options = set.options ∙ built.options ∙ ap (with_crew (is_some self.crew)) c.options.ensures;
-      by = subst (ReadsBy self.crew) (sym set.crew) built.crew;
+      options = set.options ∙ built.options ∙ ap (with_crew (is_some c.args.crew.now)) c.options.ensures;
+      by = subst (ReadsBy c.args.crew.now) (sym set.crew) built.crew;
       named = ap (λ it. excluded_of (first_of it)) set.callback ∙ ap excluded_of c.new.ensures.first ∙ c.in_ok-naming.ensures;
       excluded = ap (λ it. excluded_of (second_of it)) set.callback ∙ ap excluded_of c.new.ensures.second ∙ c.in_ok-excluding.ensures;
     } in
-    IfOk-weaker c.print_begun.result _ _ (λ clean prints. λ known. printed_such (yielded_so _ (λ it is. subst (IsPlain (arc_value self.disk) self.crew self.lines.now asked c.args.root.now) (sym is) plain)) (prints known)) c.print_begun.ensures.yielded
+    IfOk-weaker c.print_begun.result _ _ (λ clean prints. λ known. printed_such (yielded_so _ (λ it is. subst (IsPlain (arc_value self.disk) c.args.crew.now self.lines.now asked c.args.root.now) (sym is) plain)) (prints known)) c.print_begun.ensures.yielded

@@ -36,13 +36,13 @@ returns-clause-whole g c =
     = c.then-rules.ensures.settings ∙ c.in_ok-rules_of.ensures.settings in
     let lines : excluded_of (next_of rules) ≡ excluded
     = ap excluded_of c.then-rules.ensures.next ∙ c.in_ok-excluding.ensures in
-    let options : options_of walk ≡ with_crew (is_some self.crew) (options_asked asked)
-    = built.options ∙ ap (with_crew (is_some self.crew)) c.options.ensures in
+    let options : options_of walk ≡ with_crew (is_some c.args.crew.now) (options_asked asked)
+    = built.options ∙ ap (with_crew (is_some c.args.crew.now)) c.options.ensures in
     IfOk-weaker c.search_walk.result _ _
     (λ clean whole. λ fixed told.
     first_as (ap (unpruned (sought_of takes_of (g.S.FileSystem.functions (arc_value self.disk)) c.args.printer.now.filter))
     (ignoring_same (ap g.S.FileSystem.functions over) (ap g.X.Texts.functions from) settings lines options (built.root ∙ c.in_ok-root.ensures.ok)
-    ∙ hidden_by_crew (ignoring (settings_asked self.lines.now asked) texts (excluding excluded)) (is_some self.crew) (g.S.FileSystem.functions (arc_value self.disk)) (options_asked asked) c.args.root.now no_rules_yet))
+    ∙ hidden_by_crew (ignoring (settings_asked self.lines.now asked) texts (excluding excluded)) (is_some c.args.crew.now) (g.S.FileSystem.functions (arc_value self.disk)) (options_asked asked) c.args.root.now no_rules_yet))
     (whole fixed (subst g.S.FileSystem.IsFixed (sym over) fixed) (subst g.X.Texts.IsFixed (sym from) told) built.state))
     c.search_walk.ensures.whole
 
@@ -56,8 +56,8 @@ returns-clause-yielded g c =
     (λ clean prints. λ known. printed_such (yielded_so _ (λ it is. record {
       over = ap arc_value (is.file_system ∙ built.file_system) ∙ c.in_ok-disk.ensures.cases;
       below = is.root ∙ built.root ∙ c.in_ok-root.ensures.ok;
-      options = is.options ∙ ap (with_skip_hidden false) (built.options ∙ ap (with_crew (is_some self.crew)) c.options.ensures);
-      by = subst (ReadsBy self.crew) (sym is.crew) built.crew;
+      options = is.options ∙ ap (with_skip_hidden false) (built.options ∙ ap (with_crew (is_some c.args.crew.now)) c.options.ensures);
+      by = subst (ReadsBy c.args.crew.now) (sym is.crew) built.crew;
       texts_read = ap (λ x. arc_value (texts_in x)) is.callback ∙ ap arc_value (set.texts ∙ c.in_ok-rules_of.ensures.texts) ∙ c.in_ok-texts.ensures.cases;
       settings = ap settings_of is.callback ∙ set.settings ∙ c.in_ok-rules_of.ensures.settings;
       excluded = ap (λ x. excluded_of (next_of x)) is.callback ∙ ap excluded_of set.next ∙ c.in_ok-excluding.ensures;
