@@ -4,10 +4,11 @@
 use jwalk::crew::threads_for;
 use jwalk::file_system::{Patient, RealFs};
 use jwalk_ignore::real_texts::RealTexts;
+use program_parts::errors::Errors;
 use program_parts::masked_lines::MaskedLines;
 use seek_search::run::Seek;
 use seek_words::screen::Screen;
-use std::io::{IsTerminal, Write};
+use std::io::IsTerminal;
 use std::process::ExitCode;
 use std::{env, io};
 use user_excludes::home::Home;
@@ -34,10 +35,10 @@ fn call_of(rt: &HostRuntime) -> io::Result<(Vec<String>, Disk)> {
 }
 
 fn main(rt: HostRuntime) -> ExitCode {
-    let mut err = MaskedLines {
+    let mut err = Errors::new(MaskedLines {
         err: rt.stderr(),
         masks: rt.stderr().is_terminal(),
-    };
+    });
     let (no_color, ls_colors) = (variable(&rt, "NO_COLOR"), variable(&rt, "LS_COLORS"));
     let columns = variable(&rt, "COLUMNS");
     let screen = Screen {
@@ -63,7 +64,7 @@ fn main(rt: HostRuntime) -> ExitCode {
         }
         .run(words.as_slice(), &mut io::writer(&rt), &mut err),
         Err(error) => {
-            let _ = writeln!(err, "seek: words that can't be read: {error}");
+            err.tell("seek", format_args!("words that can't be read: {error}"));
             2
         }
     };

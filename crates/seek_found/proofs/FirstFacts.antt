@@ -12,7 +12,7 @@ use Rattle.seek_found.specs.Found.{found_lines, is_clean, PrintsFirst}
 use Rattle.seek_found.specs.Limit.{is_hit, left_after, left_of, up_to}
 use Rattle.seek_found.specs.Prune.{unpruned, unpruned_behind}
 use Rattle.seek_found.proofs.CleanFacts.{clean_none, clean_then, printed_as}
-use Rattle.seek_found.proofs.LimitFacts.{left_as_before, left_then, one_of_one, up_to_full, up_to_more, up_to_none, up_to_then}
+use Rattle.seek_found.proofs.LimitFacts.{left_as_before, left_then, none_of_one, one_of_one, one_up_to, up_to_full, up_to_more, up_to_none, up_to_then}
 use Rattle.seek_found.proofs.PruneFacts.{below_all, found_unpruned, unpruned_is, unpruned_then}
 use Rattle.seek_found.proofs.WholeFacts.{all_clean, same_after, same_hits, same_lines, same_unpruned, same_up_to}
 
@@ -80,6 +80,11 @@ module _ {R E : Type 0} (sought : Sought) where
                 ∙ sym (left_then sought left (up_to sought left xs) (up_to sought mid ys)) ∙ ap (left_after sought left) (sym (same (first_true clean more is)));
             one = λ one none. found_after (is_hit sought) xs ys (after.one (still one) none);
           }
+
+-- if all answers that count are clean, and one may still be found after them, none of all answers is looked for
+pub none_of_first : {R E : Type 0} {xs : List (Item R E)} {sought : Sought} {form : Form} {left left' : Option ℕ} {old new : Option (List ℕ)} {clean : Bool} → PrintsFirst xs sought form left left' old new clean → left ≡ Some 1 → clean ≡ true → left' ≢ Some 0 → list_any (is_hit sought) xs ≡ false
+none_of_first {xs} {sought} {left} printed one is room =
+    sym (ap (λ l. list_any (is_hit sought) (up_to sought l xs)) one ∙ one_up_to sought xs) ∙ none_of_one sought (up_to sought left xs) one (printed.limit is) room
 
 -- the same answers
 pub first_as : {R E : Type 0} {xs ys : List (Item R E)} {sought : Sought} {form : Form} {left left' : Option ℕ} {old new : Option (List ℕ)} {clean : Bool} → xs ≡ ys → PrintsFirst xs sought form left left' old new clean → PrintsFirst ys sought form left left' old new clean

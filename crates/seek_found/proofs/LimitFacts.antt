@@ -96,6 +96,15 @@ module _ {R E : Type 0} (sought : Sought) where
         | false ↦ none_left_behind xs
       ] found
 
+  -- up to a limit of one, one is found if and only if one is found at all
+  pub one_up_to : (xs : List (Item R E)) → list_any (is_hit sought) (up_to sought (Some 1) xs) ≡ list_any (is_hit sought) xs
+  one_up_to [] = refl
+  one_up_to (x ∷ xs) =
+      elim (is_hit sought x) as (λ b. (b || list_any (is_hit sought) (first_of sought (if b then 0 else 1) xs)) ≡ (b || list_any (is_hit sought) xs)) [
+        | true ↦ refl
+        | false ↦ one_up_to xs
+      ]
+
 -- if one may be found, and no further one after these answers, one of them is found
 pub one_of_one : {R E : Type 0} (sought : Sought) (xs : List (Item R E)) {left left' : Option ℕ} → left ≡ Some 1 → left' ≡ left_after sought left xs → left' ≡ Some 0 → list_any (is_hit sought) xs ≡ true
 one_of_one sought xs {left} {left'} one limit full =

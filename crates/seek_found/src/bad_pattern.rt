@@ -1,9 +1,12 @@
 //! The reasons why a pattern is rejected.
-ghost use Rattle.std.specs.Prelude.{◌≡◌};
+ghost use Rattle.std.specs.Prelude.{◌≡◌, codes};
+ghost use Rattle.program_parts.specs.Errors.{IsTold};
 
+use crate::report::tell_text;
+use program_parts::errors::Errors;
 use regex::Error;
 use seek_braces::MOST;
-use std::alloc::AllocError;
+use std::alloc::{AllocError, Global};
 use std::io::Write;
 
 /// The reason why a pattern is rejected.
@@ -22,33 +25,36 @@ pub enum BadPattern<'w> {
 impl<'w> BadPattern<'w> {
     ghost use Rattle.seek_found.specs.BadPattern.{status_of};
 
-    /// Reports the reason on standard error, and returns the status of the program.
-    pub fn report<E: Write>(&self, err: &mut E) -> u8
+    /// Tells the reason, and returns the status of the program.
+    pub fn tell<E: Write>(&self, alloc: Global, err: &mut Errors<E>) -> u8
+        ensures status { result ≡ status_of self.now }
+        ensures told { IsTold E.contents (codes "seek") err.new }
+    {
+        let text = match self {
+            BadPattern::Expression(pattern, error) if pattern.starts_with('*') => {
+                format!(in alloc;
+                    "bad pattern '{pattern}': {error}\nseek: to read it as a glob, try -g"
+                )
+            }
+            BadPattern::Expression(pattern, error) => {
+                format!(in alloc; "bad pattern '{pattern}': {error}")
+            }
+            BadPattern::Glob(pattern) => format!(in alloc; "bad pattern '{pattern}': no glob"),
+            BadPattern::Braces(pattern) => {
+                format!(in alloc; "bad pattern '{pattern}': short for more than {MOST} others")
+            }
+            BadPattern::Memory => Err(AllocError),
+        };
+        tell_text(alloc, text, err);
+        self.status()
+    }
+
+    fn status(&self) -> u8
         ensures { result ≡ status_of self.now }
     {
         match self {
-            BadPattern::Expression(pattern, error) => {
-                let _ = writeln!(err, "seek: bad pattern '{pattern}': {error}");
-                if pattern.starts_with('*') {
-                    let _ = writeln!(err, "seek: to read it as a glob, try -g");
-                }
-                2
-            }
-            BadPattern::Glob(pattern) => {
-                let _ = writeln!(err, "seek: bad pattern '{pattern}': no glob");
-                2
-            }
-            BadPattern::Braces(pattern) => {
-                let _ = writeln!(
-                    err,
-                    "seek: bad pattern '{pattern}': short for more than {MOST} others"
-                );
-                2
-            }
-            BadPattern::Memory => {
-                let _ = writeln!(err, "seek: memory refused");
-                1
-            }
+            BadPattern::Expression(_, _) | BadPattern::Glob(_) | BadPattern::Braces(_) => 2,
+            BadPattern::Memory => 1,
         }
     }
 }

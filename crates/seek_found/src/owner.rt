@@ -1,16 +1,19 @@
 //! The owner that a call names, by the files of users and groups.
-ghost use Rattle.std.specs.Prelude.{◌≡◌, option_map, IfOk, IfErr, None, Some};
+ghost use Rattle.std.specs.Prelude.{◌≡◌, codes, option_map, IfOk, IfErr, None, Some};
+ghost use Rattle.program_parts.specs.Errors.{IsTold};
 ghost use Rattle.seek_found.specs.Owner.{group_part, number_in, owner_by, owner_of_parts, user_part, without_plus, IsIdBy, IsOwnerBy, IsOwnerOf, IsPartBy, NamesNoOwner};
 ghost use Rattle.seek_found.specs.Unowned.{status_of};
 ghost use Rattle.seek_words.specs.declared.owner.IdTest.TheVariants.{Is, IsNot};
 
 use crate::accounts::id_named;
+use crate::report::tell_text;
 use jwalk_fs::fault::Fault;
 use jwalk_ignore_rules::rules::texts::Texts;
+use program_parts::errors::Errors;
 use seek_words::asked::Asked;
 use seek_words::owner::{IdTest, Owner};
 use seek_words::size::digits_number;
-use std::alloc::Global;
+use std::alloc::{AllocError, Global};
 use std::io;
 use std::io::Write;
 
@@ -26,26 +29,30 @@ pub enum Unowned<'w> {
 }
 
 impl<'w> Unowned<'w> {
-    /// Reports the reason on standard error. Returns the status of the program: 2 if the text isn't an owner, and else 1.
-    pub fn report<E: Write>(&self, err: &mut E) -> u8
+    /// Tells the reason. Returns the status of the program: 2 if the text isn't an owner, and else 1.
+    pub fn tell<E: Write>(&self, alloc: Global, err: &mut Errors<E>) -> u8
+        ensures status { result ≡ status_of self.now }
+        ensures told { IsTold E.contents (codes "seek") err.new }
+    {
+        let text = match self {
+            Unowned::Text(text) => {
+                format!(in alloc;
+                    "'{text}' is no owner: write numbers, or names in /etc/passwd and /etc/group, as in 1000, root:adm or :100, with a ! in front for any but that"
+                )
+            }
+            Unowned::File(file, error) => format!(in alloc; "{file}: {error}"),
+            Unowned::Memory => Err(AllocError),
+        };
+        tell_text(alloc, text, err);
+        self.status()
+    }
+
+    fn status(&self) -> u8
         ensures { result ≡ status_of self.now }
     {
         match self {
-            Unowned::Text(text) => {
-                let _ = writeln!(
-                    err,
-                    "seek: '{text}' is no owner: write numbers, or names in /etc/passwd and /etc/group, as in 1000, root:adm or :100, with a ! in front for any but that"
-                );
-                2
-            }
-            Unowned::File(file, error) => {
-                let _ = writeln!(err, "seek: {file}: {error}");
-                1
-            }
-            Unowned::Memory => {
-                let _ = writeln!(err, "seek: memory refused");
-                1
-            }
+            Unowned::Text(_) => 2,
+            Unowned::File(_, _) | Unowned::Memory => 1,
         }
     }
 }

@@ -1,16 +1,29 @@
 //! Errors, reported on standard error.
-ghost use Rattle.std.specs.Prelude.{◌≡◌, Ok};
+ghost use Rattle.std.specs.Prelude.{◌≡◌, codes, Ok};
 ghost use Rattle.jwalk_job.specs.Entry.{entry};
+ghost use Rattle.program_parts.specs.Errors.{IsTold};
 ghost use Rattle.seek_found.specs.Found.{is_clean, is_flat_root};
 
 use jwalk_fs::path_text::join_parts;
 use jwalk_job::client_state::ClientState;
 use jwalk_job::dir_entry::DirEntry;
 use jwalk_job::error::Error;
+use program_parts::errors::Errors;
+use program_parts::halt::Halt;
 use seek_words::asked::Asked;
 use seek_words::hidden::{finds_none_shown, may_mean_hidden};
-use std::alloc::Allocator;
+use std::alloc::{AllocError, Allocator, Global};
 use std::io::Write;
+
+/// Tells an error by this text, or if memory ran out for it, tells that.
+pub fn tell_text<E: Write>(alloc: Global, text: Result<String, AllocError>, err: &mut Errors<E>)
+    ensures told { IsTold E.contents (codes "seek") err.new }
+{
+    match text {
+        Ok(text) => err.tell("seek", text.as_str()),
+        Err(refused) => err.tell_halt(alloc, "seek", Halt::from(refused)),
+    }
+}
 
 /// The path of an item, in parts: its folder, the text between, and its name. All are empty if the path isn't known.
 type Place<'p> = (&'p str, &'static str, &'p str);

@@ -1,14 +1,18 @@
 //! The times that a call names, by the clock and the disk.
-ghost use Rattle.std.specs.Prelude.{◌≡◌, option_map, pos, Some, IfOk};
+ghost use Rattle.std.specs.Prelude.{◌≡◌, codes, option_map, pos, Some, IfOk};
 ghost use Rattle.std.specs.Duration.{as_nanos};
+ghost use Rattle.program_parts.specs.Errors.{IsTold};
 ghost use Rattle.seek_words.specs.Time.{nanoseconds_at};
 ghost use Rattle.seek_found.specs.Times.{AreTimes, file_time};
 
+use crate::report::tell_text;
 use jwalk_fs::fault::Fault;
 use jwalk_fs::file_system::FileSystem;
+use program_parts::errors::Errors;
 use seek_words::asked::Asked;
 use seek_words::time::Time;
 use seek_words::times::{Times, nanoseconds_of};
+use std::alloc::{AllocError, Global};
 use std::io;
 use std::io::{ErrorKind, Write};
 use std::time::{Clock, Duration};
@@ -32,13 +36,16 @@ impl<'w> Untimed<'w> {
         }
     }
 
-    /// Reports the reason on standard error.
-    pub fn report<E: Write>(&self, err: &mut E) {
-        let _ = match self {
-            Untimed::Clock(error) => writeln!(err, "seek: the clock can't be read: {error}"),
-            Untimed::File(file, error) => writeln!(err, "seek: {file}: {error}"),
-            Untimed::Memory => writeln!(err, "seek: memory refused"),
+    /// Tells the reason.
+    pub fn tell<E: Write>(&self, alloc: Global, err: &mut Errors<E>)
+        ensures told { IsTold E.contents (codes "seek") err.new }
+    {
+        let text = match self {
+            Untimed::Clock(error) => format!(in alloc; "the clock can't be read: {error}"),
+            Untimed::File(file, error) => format!(in alloc; "{file}: {error}"),
+            Untimed::Memory => Err(AllocError),
         };
+        tell_text(alloc, text, err);
     }
 }
 

@@ -1,8 +1,9 @@
 -- Roots that are searched one after another.
-use Rattle.std.proofs.Common.{◌≡◌, ◌≤◌, ◌<◌, ◌+◌, ◌∙◌, ◌⊎◌, ℕ, nat_eq, take, Bool, true, false, ◌&&◌, List, [], ◌∷◌, ◌++◌, length, slice_index_or, Option, Some, None, Result, Ok, Err, append-nil, ap, ap₂, arith, eqb-true, refl, subst, sym}
+use Rattle.std.proofs.Common.{◌≡◌, ◌≤◌, ◌<◌, ◌+◌, ◌∙◌, ℕ, nat_eq, take, Bool, true, false, ◌&&◌, List, [], ◌∷◌, ◌++◌, length, slice_index_or, Option, Some, None, Result, Ok, Err, append-nil, ap, ap₂, arith, eqb-true, refl, subst, sym}
 use Rattle.std.specs.Prelude.{flat_map, IfOk, IsOkAnd}
 use Rattle.std.specs.Borrow.{Bor}
 use Rattle.std.specs.Io.KnownBytes.{Appends, append_known}
+use Rattle.std.proofs.lemmas.Bool.{true≢false}
 use Rattle.std.proofs.lemmas.Grind.{flat_map-append}
 use Rattle.std.proofs.lemmas.List.{map-append, take_more, nil_from_length}
 use Rattle.std.proofs.Math.ListN.{get_or}
@@ -17,6 +18,17 @@ use Rattle.seek_words.specs.Paint.{asks}
 use Rattle.seek_words.specs.Lines.{form_of}
 use Rattle.seek_words.specs.declared.lines.Lines.{Lines}
 use Rattle.seek_found.specs.Found.{found_lines, PrintsClean, PrintsFirst}
+use Rattle.seek_found.specs.Call.{succeeds}
+use Rattle.seek_found.specs.Owner.{IsOwnerOf}
+use Rattle.seek_found.specs.Sought.{IsFor, takes_by}
+use Rattle.seek_found.specs.Times.{AreTimes}
+use Rattle.seek_found.specs.declared.call.Ended.{Ended}
+use Rattle.seek_found.proofs.ShownFacts.{shown_for}
+use Rattle.seek_words.proofs.AsksFacts.{shown_ask_for}
+use Rattle.seek_words.specs.AsksFor.{AskFor}
+use Rattle.seek_words.specs.Screen.{is_colored}
+use Rattle.seek_words.specs.declared.owner.Owner.{Owner}
+use Rattle.seek_words.specs.declared.times.Times.{Times}
 use Rattle.seek_found.specs.Roots.{AreBelow, Below, PrintsSuch}
 use Rattle.seek_found.proofs.RootsFacts.{no_roots_printed, printed_such}
 use Rattle.program_parts.proofs.GatheredFacts.{gathered_written}
@@ -24,13 +36,15 @@ use Rattle.seek_found.proofs.FirstFacts.{first_as, first_none, first_stopped, fi
 use Rattle.program_parts.specs.Values.{texts_of}
 use Rattle.seek_words.specs.declared.asked.Asked.{Asked}
 use Rattle.jwalk.specs.jwalk_model.FileSystem.{Functions}
+use Rattle.jwalk.specs.jwalk_fs.declared.file_system.FileSystem as FileSystem
 use Rattle.jwalk_ignore.specs.Rules.Texts.{Texts}
+use Rattle.jwalk_ignore.specs.jwalk_ignore_rules.declared.rules.texts.Texts as ReadsTexts
+use Rattle.program_parts.specs.declared.errors.Errors.{Errors}
 use Rattle.std.specs.declared.sync.Arc.{Arc}
 use Rattle.jwalk_ignore.specs.declared.callback.states.RulesState.{RulesState}
 use Rattle.seek_found.specs.SoughtTest.{takes_of}
 use Rattle.seek_found.specs.declared.sought_test.SoughtTest.{SoughtTest}
 use Rattle.seek_found.specs.declared.sought.Sought.{Sought as Looked}
-use Rattle.seek_words.specs.AsksFor.{AskForText}
 use Rattle.seek_words.specs.declared.screen.Screen.{Screen}
 use Rattle.user_excludes.specs.declared.home.Home.{Home}
 use Rattle.user_excludes.specs.UserTexts.{with_user}
@@ -40,10 +54,12 @@ use Rattle.seek_search.specs.Goes.{ByRead, Finds, Honours, LeavesOut, PrintsYiel
 use Rattle.seek_search.specs.Printing.{IsFront}
 use Rattle.seek_search.specs.RulesRead.{lines_asked}
 use Rattle.program_walks.specs.Crew.{CrewCallsOf}
-use Rattle.seek_search.specs.Run.{Searches, SearchesFor}
+use Rattle.seek_search.specs.Run.{FindsAsked, IsDone, IsFailed, PrintsAsked, Searches, SearchesFor, SearchesTimed}
 use Rattle.seek_search.specs.Search.{form_before, front_if, roots_asked, sought_before, yielded_by}
+use Rattle.seek_search.specs.Based.{base_asked, functions_based, has_folder, texts_based, IsBased}
 use Rattle.seek_search.specs.declared.based.Based.{Based}
 use Rattle.seek_search.specs.declared.kept_links.KeptLinks.{KeptLinks}
+use Rattle.seek_search.specs.declared.run.Seek.{Seek}
 use Rattle.program_walks.proofs.FolderFacts.{reads_as}
 use Rattle.seek_search.proofs.SearchFacts.{same_below}
 
@@ -142,10 +158,10 @@ stopped_printed f all first rest are {sought} {form} {left} {mid} {old} {new} {c
 pub texts_then : (all first rest : List (Bor (List ℕ))) → all ≡ first ++ rest → texts_of first ++ texts_of rest ≡ texts_of all
 texts_then all first rest are = sym (ap texts_of are ∙ map-append (λ it. it.now) first rest)
 
--- two facts of one result
-pub ok_twice : {X Y : Type 0} (r : Result X Y) (P Q : X → Type 0) → IsOkAnd r P → IfOk r Q → (x : X) × P x × Q x
-ok_twice (Ok x) P Q first second = (x, first, second)
-ok_twice (Err e) P Q first second = absurd first
+-- three facts of one result
+ok_all : {X Y : Type 0} (r : Result X Y) (P Q R : X → Type 0) → IsOkAnd r P → IfOk r Q → IfOk r R → (x : X) × P x × Q x × R x
+ok_all (Ok x) P Q R first second third = (x, first, second, third)
+ok_all (Err e) P Q R first second third = absurd first
 
 -- a single root, and none
 pub one_element : {A : Type 0} (l : List A) (d : A) → 1 ≤ length l → length l < 2 → l ≡ slice_index_or l 0 d ∷ []
@@ -185,10 +201,10 @@ one_more f before after paths i path below was is =
     ∙ ap (flat_map f) (map-append (λ it. it.now) (take i paths) (last ∷ []))
     ∙ flat_map-append f first (last.now ∷ []) ∙ ap (λ (l : List ℕ). flat_map f first ++ l) (append-nil (f last.now)))
 
-module _ {T C Z B X A E G H F : Type 0} (plain : CrewCallsOf T G (Arc (KeptLinks Z) B) LeavesOut A H F) (honouring : CrewCallsOf T C (Arc (KeptLinks Z) B) (Honours (UserTexts X) B) A RulesState E) {disk : Z} {still still' told told' : Type 0} {fs : Functions} {values values' : Texts} {cores : ℕ} {screen : Screen} {asked : Asked} {takes : List ℕ → Bool → Bool} {old new : Option (List ℕ)} where
+module _ {T C Z B X A E G H F : Type 0} (plain : CrewCallsOf T G (Arc (KeptLinks Z) B) LeavesOut A H F) (honouring : CrewCallsOf T C (Arc (KeptLinks Z) B) (Honours (UserTexts X) B) A RulesState E) {disk : Z} {still still' told told' : Type 0} {fs : Functions} {values values' : Texts} {cores : ℕ} {screen : Screen} {asked : Asked} {takes : List ℕ → Bool → Bool} {old new : Option (List ℕ)} {clean : Bool} where
   -- the lines are printed if the file system is fixed
-  pub printed_if : (still' → still) → ((wanted : Bool) (front : Option (List ℕ)) → IsFront told values wanted front → IsFront told' values' wanted front) → (from : UserTexts X) (lines : List ℕ) → PrintsYielded plain honouring disk still told fs values cores from lines screen asked takes old new true
-      → PrintsYielded plain honouring disk still' told' fs values' cores from lines screen asked takes old new true
+  pub printed_if : (still' → still) → ((wanted : Bool) (front : Option (List ℕ)) → IsFront told values wanted front → IsFront told' values' wanted front) → (from : UserTexts X) (lines : List ℕ) → PrintsYielded plain honouring disk still told fs values cores from lines screen asked takes old new clean
+      → PrintsYielded plain honouring disk still' told' fs values' cores from lines screen asked takes old new clean
   printed_if fixes fronts from lines prints = record {
     crew = prints.crew;
     is_crew = prints.is_crew;
@@ -202,35 +218,111 @@ module _ {T C Z B X A E G H F : Type 0} (plain : CrewCallsOf T G (Arc (KeptLinks
   }
 
 module _ {T C Z B X A E G H F : Type 0} (plain : CrewCallsOf T G (Arc (KeptLinks Z) B) LeavesOut A H F) (honouring : CrewCallsOf T C (Arc (KeptLinks Z) B) (Honours (UserTexts X) B) A RulesState E) {disk : Z} {still still' told told' : Type 0} {fs : Functions} {values values' : Texts} {cores : ℕ} {asked : Asked} {takes : List ℕ → Bool → Bool} where
-  -- the same where one of the answers is found
-  pub found_if : {found : Bool} → (still' → still) → ((wanted : Bool) (front : Option (List ℕ)) → IsFront told values wanted front → IsFront told' values' wanted front) → (from : UserTexts X) (lines : List ℕ) → Finds plain honouring disk still told fs values cores from lines asked takes found → Finds plain honouring disk still' told' fs values' cores from lines asked takes found
-  found_if {found} fixes fronts from lines finds = record {
+  -- the same of a quiet search
+  pub found_if : {ended : Ended} → (still' → still) → ((wanted : Bool) (front : Option (List ℕ)) → IsFront told values wanted front → IsFront told' values' wanted front) → (from : UserTexts X) (lines : List ℕ) → Finds plain honouring disk still told fs values cores from lines asked takes ended → Finds plain honouring disk still' told' fs values' cores from lines asked takes ended
+  found_if {ended} fixes fronts from lines finds = record {
     crew = finds.crew;
     is_crew = finds.is_crew;
     front = finds.front;
     in_front = fronts asked.full_path finds.front finds.in_front;
     answers = finds.answers;
-    yielded = same_below plain honouring lines asked (found ≡ true) (roots_asked asked) (reads_as fixes refl) refl refl refl finds.answers finds.yielded;
+    yielded = same_below plain honouring lines asked (ended.full ≡ true) (roots_asked asked) (reads_as fixes refl) refl refl refl finds.answers finds.yielded;
     one = finds.one;
+    all = finds.all;
   }
 
-module _ {T C Z B X A E G H F : Type 0} (plain : CrewCallsOf T G (Arc (KeptLinks Z) B) LeavesOut A H F) (honouring : CrewCallsOf T C (Arc (KeptLinks Z) B) (Honours (UserTexts X) B) A RulesState E) {disk : Z} {reads : X} {still still' told told' : Type 0} {fs fs' : Functions} {texts texts' : Texts} {home : Home} {cores : ℕ} {screen : Screen} {asked : Asked} {sought : Looked} {old old' new : Option (List ℕ)} where
+module _ {T C Z B X A E G H F : Type 0} (plain : CrewCallsOf T G (Arc (KeptLinks Z) B) LeavesOut A H F) (honouring : CrewCallsOf T C (Arc (KeptLinks Z) B) (Honours (UserTexts X) B) A RulesState E) {disk : Z} {reads : X} {still still' told told' : Type 0} {fs fs' : Functions} {texts texts' : Texts} {home : Home} {cores : ℕ} {screen : Screen} {asked : Asked} {sought : Looked} {old old' new : Option (List ℕ)} {ended : Ended} where
   -- the same search, by other names of the file system, the texts and what was written before
-  pub searches_as : (still' → still) → (told' → told) → fs ≡ fs' → texts ≡ texts' → old ≡ old' → SearchesFor plain honouring disk reads still told fs texts home cores screen asked sought old new → SearchesFor plain honouring disk reads still' told' fs' texts' home cores screen asked sought old' new
+  pub searches_as : (still' → still) → (told' → told) → fs ≡ fs' → texts ≡ texts' → old ≡ old' → SearchesFor plain honouring disk reads still told fs texts home cores screen asked sought old new ended → SearchesFor plain honouring disk reads still' told' fs' texts' home cores screen asked sought old' new ended
   searches_as stays tells over from before s =
-      subst (λ (o : Option (List ℕ)). SearchesFor plain honouring disk reads still' told' fs' texts' home cores screen asked sought o new) before
-      (subst (λ (t : Texts). SearchesFor plain honouring disk reads still' told' fs' t home cores screen asked sought old new) from
-      (subst (λ (f : Functions). SearchesFor plain honouring disk reads still' told' f texts home cores screen asked sought old new) over
+      subst (λ (o : Option (List ℕ)). SearchesFor plain honouring disk reads still' told' fs' texts' home cores screen asked sought o new ended) before
+      (subst (λ (t : Texts). SearchesFor plain honouring disk reads still' told' fs' t home cores screen asked sought old new ended) from
+      (subst (λ (f : Functions). SearchesFor plain honouring disk reads still' told' f texts home cores screen asked sought old new ended) over
       (record {
         colored = s.colored;
         times = record { now = s.times.now; after = s.times.after; before = s.times.before; after_file = λ still'. s.times.after_file (stays still') };
         quiet = λ quiet. let found = s.quiet quiet in (found.0, λ empties. by_read tells refl (found_if plain honouring stays (front_as tells refl)) (found.1 (λ empty. stays (empties empty))));
         yielded = λ loud. by_read tells refl (printed_if plain honouring stays (front_as tells refl)) (s.yielded loud);
         finds = λ quiet still' told'. s.finds quiet (stays still') (tells told');
-        prints = λ loud still' told'. s.prints loud (stays still') (tells told');
+        prints = λ loud clean still' told'. s.prints loud clean (stays still') (tells told');
       })))
 
+-- words by these times, in colors or without
+abbrev timed : Asked → Times → Bool → Asked
+timed asked times colored = record asked { times = times; colored = colored }
+
+abbrev AreTimed : Type 0 → Functions → Screen → Asked → Times → Bool → Type 0
+AreTimed still fs screen asked times colored = (colored ≡ is_colored screen asked.color) × AreTimes still fs asked times
+
+module _ {T C Z B X A E G H F : Type 0} (plain : CrewCallsOf T G (Arc (KeptLinks Z) B) LeavesOut A H F) (honouring : CrewCallsOf T C (Arc (KeptLinks Z) B) (Honours (UserTexts X) B) A RulesState E) {disk : Z} {reads : X} {still told : Type 0} {fs : Functions} {texts : Texts} {home : Home} {cores : ℕ} {screen : Screen} (asked : Asked) {sought : Looked} {old new : Option (List ℕ)} {Y : Type 0} (result : Result Ended Y) (times : Times) (colored success : Bool) where
+  -- a quiet search, by what is known of its end
+  pub quiet_searched : asked.quiet ≡ true → new ≡ old → AreTimed still fs screen asked times colored → IsOkAnd result (λ ended. succeeds true ended ≡ success)
+      → IfOk result (λ ended. asked.quiet ≡ true → (asked.kinds.empty ≡ true → still) → ByRead reads told texts home (timed asked times colored) (λ reads lines. Finds plain honouring disk still told fs texts cores reads lines (timed asked times colored) (takes_by sought) ended))
+      → IfOk result (λ ended. asked.quiet ≡ true → still → told → FindsAsked fs texts home (timed asked times colored) sought ended) → SearchesTimed plain honouring disk reads still told fs texts home cores screen asked sought old new success
+  quiet_searched quiet unwritten is_timed ends finds one =
+      let all = ok_all result _ _ _ ends finds one in
+      record {
+        times = times;
+        colored = colored;
+        ended = all.0;
+        so = ap (λ b. succeeds b all.0) quiet ∙ all.1;
+        searches = record {
+          colored = is_timed.0;
+          times = record { now = is_timed.1.now; after = is_timed.1.after; before = is_timed.1.before; after_file = is_timed.1.after_file };
+          quiet = λ is. (unwritten, all.2 is);
+          yielded = λ loud. absurd (true≢false (sym quiet ∙ loud));
+          finds = all.3;
+          prints = λ loud. absurd (true≢false (sym quiet ∙ loud));
+        };
+      }
+
+  -- and one that isn't quiet
+  pub loud_searched : asked.quiet ≡ false → AreTimed still fs screen asked times colored → IsOkAnd result (λ ended. succeeds false ended ≡ success)
+      → IfOk result (λ ended. ByRead reads told texts home (timed asked times colored) (λ reads lines. PrintsYielded plain honouring disk still told fs texts cores reads lines screen (timed asked times colored) (takes_by sought) old new ended.clean))
+      → IfOk result (λ ended. ended.clean ≡ true → still → told → PrintsAsked fs texts home screen (timed asked times colored) sought old new) → SearchesTimed plain honouring disk reads still told fs texts home cores screen asked sought old new success
+  loud_searched loud is_timed ends prints whole =
+      let all = ok_all result _ _ _ ends prints whole in
+      record {
+        times = times;
+        colored = colored;
+        ended = all.0;
+        so = ap (λ b. succeeds b all.0) loud ∙ all.1;
+        searches = record {
+          colored = is_timed.0;
+          times = record { now = is_timed.1.now; after = is_timed.1.after; before = is_timed.1.before; after_file = is_timed.1.after_file };
+          quiet = λ quiet. absurd (true≢false (sym quiet ∙ loud));
+          yielded = λ _. all.2;
+          finds = λ quiet. absurd (true≢false (sym quiet ∙ loud));
+          prints = λ _. all.3;
+        };
+      }
+
 module _ {T C Z B X A E G H F : Type 0} (plain : CrewCallsOf T G (Arc (KeptLinks (Based Z)) B) LeavesOut A H F) (honouring : CrewCallsOf T C (Arc (KeptLinks (Based Z)) B) (Honours (UserTexts (Based X)) B) A RulesState E) {disk : Z} {reads : X} {still told : Type 0} {fs : Functions} {texts : Texts} {home : Home} {cores : ℕ} {screen : Screen} {old new : Option (List ℕ)} where
+  -- the words ask for a search by what is known of their owner and their folder
+  pub words_searched : {words : List (List ℕ)} {asked : Asked} {sought : Looked} {over : Based Z} {from : Based X} {still' told' : Type 0} {fs' : Functions} {texts' : Texts} {old' : Option (List ℕ)} {success : Bool} (owner : Option Owner)
+      → AskFor words asked → IsFor asked sought → IsOwnerOf told texts asked owner → IsBased disk asked over → IsBased reads asked from → (still → has_folder (functions_based (base_asked asked) fs) asked ≡ true)
+      → (still → still') → (told → told') → fs' ≡ functions_based (base_asked asked) fs → texts' ≡ texts_based (base_asked asked) texts → old' ≡ old
+      → SearchesTimed plain honouring over from still' told' fs' texts' home cores screen (record asked { owner = owner }) sought old' new success → Searches plain honouring disk reads still told fs texts home cores screen words old new success
+  words_searched {asked} {sought} {over} {from} owner ask is_for is_owner is_over is_from folder stays tells over_is from_is before s = record {
+    asked = _;
+    ask = shown_ask_for _ _ s.times s.colored owner ask;
+    sought = sought;
+    is_for = shown_for _ s.times s.colored owner _ is_for;
+    over = over;
+    is_over = record { of = is_over.of; from = is_over.from };
+    from = from;
+    is_from = record { of = is_from.of; from = is_from.from };
+    owner = is_owner;
+    folder = folder;
+    ended = s.ended;
+    so = s.so;
+    searches = searches_as plain honouring stays tells over_is from_is before s.searches;
+  }
+
+module _ {T C Z B X A E G H F L K : Type 0} (files : FileSystem.Ghosts Z) (rules : ReadsTexts.Ghosts X) (plain : CrewCallsOf T G (Arc (KeptLinks (Based Z)) B) LeavesOut A H F) (honouring : CrewCallsOf T C (Arc (KeptLinks (Based Z)) B) (Honours (UserTexts (Based X)) B) A RulesState E) (seek : Seek L K Z X) {old new : Option (List ℕ)} {words words' : List (List ℕ)} (is : words ≡ words') where
   -- the same call, by other names of its words
-  pub searches_with : {words words' : List (List ℕ)} → words ≡ words' → AskForText words ⊎ Searches plain honouring disk reads still told fs texts home cores screen words old new → AskForText words' ⊎ Searches plain honouring disk reads still told fs texts home cores screen words' old new
-  searches_with is = subst (λ (w : List (List ℕ)). AskForText w ⊎ Searches plain honouring disk reads still told fs texts home cores screen w old new) is
+  pub done_with : IsDone files rules plain honouring seek words old new → IsDone files rules plain honouring seek words' old new
+  done_with = subst (λ (w : List (List ℕ)). IsDone files rules plain honouring seek w old new) is
+
+  pub failed_with : {R : Type 0} (contents : R → Option (List ℕ)) (err : Errors R) → IsFailed files rules plain honouring seek words old new contents err → IsFailed files rules plain honouring seek words' old new contents err
+  failed_with contents err = subst (λ (w : List (List ℕ)). IsFailed files rules plain honouring seek w old new contents err) is

@@ -2,7 +2,7 @@
 use Rattle.std.specs.Prelude.{◌≡◌, ◌⊎◌, ℕ, Bool, true, false, List, Option, Some, Result, is_some, MatchBool}
 use Rattle.std.specs.Arc.{arc_value}
 use Rattle.std.specs.Iterator.{Drains, Yields}
-use Rattle.std.specs.List.{list_any}
+use Rattle.std.specs.List.{list_all, list_any}
 use Rattle.std.specs.declared.sync.Arc.{Arc}
 use Rattle.jwalk.specs.jwalk_model.Counted.{Worth}
 use Rattle.jwalk.specs.jwalk_model.Entry.{Item}
@@ -27,10 +27,11 @@ use Rattle.user_excludes.specs.declared.user_texts.UserTexts.{UserTexts}
 use Rattle.seek_words.specs.declared.asked.Asked.{Asked}
 use Rattle.seek_words.specs.declared.screen.Screen.{Screen}
 use Rattle.seek_words.specs.Sought.{Sought}
-use Rattle.seek_found.specs.Found.{IfAsked}
+use Rattle.seek_found.specs.Found.{is_clean, IfAsked}
 use Rattle.seek_found.specs.Limit.{is_hit}
 use Rattle.seek_found.specs.Prune.{unpruned}
 use Rattle.seek_found.specs.Roots.{AreBelow, Below, PrintsSuch}
+use Rattle.seek_found.specs.declared.call.Ended.{Ended}
 use Rattle.program_walks.specs.Crew.{CrewCallsOf, IsCrewOf, ReadsBy, threads_in, with_crew}
 use Rattle.program_walks.specs.Folders.{IsCrewAt}
 use Rattle.jwalk.specs.jwalk_callbacks.Both.{first_of, second_of}
@@ -124,15 +125,17 @@ module _ {T C Z B X A E G H F : Type 0} (plain : CrewCallsOf T G (Arc (KeptLinks
     pub left : Option ℕ
     pub printed : IfAsked fixed (sought_before fs front asked takes) (form_before (functions_kept asked.follow fs) shown screen asked) → PrintsSuch (AreYielded disk fixed fs texts crew lines asked (sought_before fs front asked takes) (left ≡ Some 0)) (sought_before fs front asked takes) (form_before (functions_kept asked.follow fs) shown screen asked) (limit_asked asked) left old new clean
 
-  -- `found` says whether one of the answers is looked for. If so, the search may stop there.
-  pub record Finds (disk : Z) (fixed told : Type 0) (fs : Functions) (values : Texts) (cores : ℕ) (texts : X) (lines : List ℕ) (asked : Asked) (takes : List ℕ → Bool → Bool) (found : Bool) : Type 0 where
+  -- The search ended by what it was asked for: `full` says whether one of the answers is looked for, and if so, the search
+  -- may stop there. `clean` says whether all answers are clean.
+  pub record Finds (disk : Z) (fixed told : Type 0) (fs : Functions) (values : Texts) (cores : ℕ) (texts : X) (lines : List ℕ) (asked : Asked) (takes : List ℕ → Bool → Bool) (ended : Ended) : Type 0 where
     pub crew : Option (Arc (Crew T) A)
     pub is_crew : IsCrewOf (threads_in cores (threads_asked asked)) crew
     pub front : Option (List ℕ)
     pub in_front : IsFront told values asked.full_path front
     pub answers : List (Item Worth Worth)
-    pub yielded : AreYielded disk fixed fs texts crew lines asked (sought_before fs front asked takes) (found ≡ true) answers
-    pub one : list_any (is_hit (sought_before fs front asked takes)) answers ≡ found
+    pub yielded : AreYielded disk fixed fs texts crew lines asked (sought_before fs front asked takes) (ended.full ≡ true) answers
+    pub one : list_any (is_hit (sought_before fs front asked takes)) answers ≡ ended.full
+    pub all : ended.clean ≡ list_all is_clean answers
 
 -- What is known of a search by these texts, in whose repositories are the user's excludes if they are asked for, and by
 -- lines of ignore files. If the texts always answer the same, the lines are those of the files that are asked for.

@@ -70,7 +70,7 @@ fn seek<
         },
         screen,
     };
-    seek.run(words, out, err)
+    seek.run(words, out, &mut Errors::new(err))
 }
 
 /// Returns the status of a call over a disk, with a clock. Their types and those of the outputs are parameters, since a

@@ -13,6 +13,6 @@ returns-in-Ok-read-clause-asked g c = (c.in-Ok.ensures.asked, c.in-Ok-read.ensur
 
 pub returns-clause-ended : goal.returns-clause-ended
 returns-clause-ended g c = record {
-  ends = rejected_ends (map string_bytes c.args.words.now) c.in-Ok.asked c.in-Ok.ensures.asked c.in-Err-read.bad c.in-Err-read.ensures.rejected _ c.report.ensures;
-  text = λ zero. absurd (never_zero c.in-Err-read.bad (sym c.report.ensures ∙ zero));
+  ends = rejected_ends (map string_bytes c.args.words.now) c.in-Ok.asked c.in-Ok.ensures.asked c.in-Err-read.bad c.in-Err-read.ensures.rejected _ c.tell.ensures.status;
+  text = λ zero. absurd (never_zero c.in-Err-read.bad (sym c.tell.ensures.status ∙ zero));
 }

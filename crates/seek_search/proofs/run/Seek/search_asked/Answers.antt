@@ -6,6 +6,7 @@ use Rattle.std.proofs.lemmas.Result.{IfOk-weaker}
 use Rattle.program_walks.specs.Crew.{threads_in, IsCrewOf}
 use Rattle.seek_words.specs.Sought.{Sought}
 use Rattle.seek_found.specs.Limit.{is_hit}
+use Rattle.seek_found.proofs.FirstFacts.{none_of_first}
 use Rattle.seek_found.proofs.RootsFacts.{found_if_full, printed_such, such_printed_by}
 use Rattle.seek_search.specs.KeptLinks.{functions_kept}
 use Rattle.seek_search.specs.Printing.{IsFront}
@@ -54,12 +55,17 @@ returns-clause-one g c =
     let looked = sought_over (λ (d : KeptLinks _). functions_kept d.follow (g.S.FileSystem.functions d.disk)) c.in_ok-printer.printer.filter asked disk made.filter.sought in
     let formed = form_over (λ (d : KeptLinks _). functions_kept d.follow (g.S.FileSystem.functions d.disk)) c.in_ok-printer.printer.lines c.args.self.screen asked disk made.form in
     from_three c.print.result _ _ _ _
-    (λ ended whole filled room. λ quiet is fixed told.
+    (λ ended whole filled room. λ quiet fixed told.
     let told_so = subst g.X.Texts.IsFixed (sym texts) told in
-    (printed_over c.args.given.now asked (ap (λ (d : KeptLinks _). functions_kept d.follow (g.S.FileSystem.functions d.disk)) disk) (ap g.X.Texts.functions texts)
+    let limited = ap (λ b. if b then Some 1 else positive asked.max_results) quiet in
+    let printed = printed_over c.args.given.now asked (ap (λ (d : KeptLinks _). functions_kept d.follow (g.S.FileSystem.functions d.disk)) disk) (ap g.X.Texts.functions texts)
     (looked ∙ ap (λ front. sought_before (g.S.FileSystem.functions c.args.self.disk) front asked (takes_by c.args.sought.now)) (made.filter.is_front.found told_so ∙ ap (λ x. front_if asked.full_path (g.X.Texts.functions x)) texts))
     (formed ∙ ap (λ front. form_before (functions_kept asked.follow (g.S.FileSystem.functions c.args.self.disk)) front c.args.self.screen asked) (made.is_shown.found told_so ∙ ap (λ x. front_if asked.absolute (g.X.Texts.functions x)) texts))
-    made.limit (whole (subst (λ (d : KeptLinks _). g.S.FileSystem.IsFixed d.disk) (sym disk) fixed) told_so made.empty)).one (ap (λ b. if b then Some 1 else positive asked.max_results) quiet) (filled is))
+    made.limit (whole (subst (λ (d : KeptLinks _). g.S.FileSystem.IsFixed d.disk) (sym disk) fixed) told_so made.empty) in
+    record {
+      one = λ full. printed.one limited (filled full);
+      none = λ more clean. none_of_first printed limited clean (room more);
+    })
     c.print.ensures.whole c.print.ensures.full c.print.ensures.room
 
 pub returns-clause-yielded : goal.returns-clause-yielded
@@ -107,5 +113,6 @@ returns-clause-found g c =
       answers = yielded.answers;
       yielded = stops_sooner _ _ _ _ _ _ asked _ _ _ (reached ended.full room) (roots_asked asked) yielded.answers (same_below _ _ _ asked _ (roots_asked asked) crews c.in_ok-shared.ensures c.in_ok-shared-2.ensures looked yielded.answers yielded.such);
       one = subst (λ (s : Sought). list_any (is_hit s) yielded.answers ≡ ended.full) looked (found_if_full yielded limited ended.full filled room);
+      all = yielded.all;
     })
     c.print.ensures.yielded c.print.ensures.full c.print.ensures.room

@@ -1,40 +1,29 @@
-use Rattle.std.proofs.Common.{refl, subst, sym, ◌∙◌}
-use Rattle.std.proofs.lemmas.Bool.{true≢false}
-use Rattle.seek_search.specs.Goes.{Finds}
-use Rattle.seek_search.proofs.RunFacts.{by_read, ok_twice}
+use Rattle.std.proofs.Common.{true, false, inl, inr, refl}
+use Rattle.seek_search.proofs.RunFacts.{loud_searched, quiet_searched}
 use Rattle.seek_search.proofs.run.Seek.search_for.Goals as goal
 
 pub returns-then-asked-clause-done : goal.returns-then-asked-clause-done
 returns-then-asked-clause-done g c = λ zero.
-    let found = ok_twice c.search_read-ended.result _ _ (c.status_of.ensures.done zero) c.search_read-ended.ensures.found in
-    let one = ok_twice c.search_read-ended.result _ _ (c.status_of.ensures.done zero) c.search_read-ended.ensures.one in (
-      _,
-      _,
-      record {
-        colored = c.is_colored.ensures;
-        times =
-            let known = c.in-Ok.ensures in record { now = known.now; after = known.after; before = known.before; after_file = known.after_file };
-        quiet = λ quiet. (refl, λ empties. by_read (λ told. told) refl (λ _ _. subst (Finds _ _ _ _ _ _ _ _ _ _ _ _) found.1) (found.2 quiet empties));
-        yielded = λ loud. absurd (true≢false (sym c.if-asked.true ∙ loud));
-        finds = λ quiet still told. one.2 quiet one.1 still told;
-        prints = λ loud. absurd (true≢false (sym c.if-asked.true ∙ loud));
-      },
-    )
+    let ended = c.search_read-ended.ensures in
+    quiet_searched _ _ c.args.asked c.search_read-ended.result _ _ true c.if-asked.true refl (c.is_colored.ensures, c.in-Ok.ensures) (c.status_of.ensures.done zero) ended.found ended.one
+
+pub returns-then-asked-clause-failed : goal.returns-then-asked-clause-failed
+returns-then-asked-clause-failed g c = λ one.
+    let ended = c.search_read-ended.ensures in
+    elim (c.status_of.ensures.told one) [
+      | inl ends ↦ inl (quiet_searched _ _ c.args.asked c.search_read-ended.result _ _ false c.if-asked.true refl (c.is_colored.ensures, c.in-Ok.ensures) ends ended.found ended.one)
+      | inr told ↦ inr told
+    ]
 
 pub returns-clause-done : goal.returns-clause-done
 returns-clause-done g c = λ zero.
     let ended = c.search_read-ended-2.ensures in
-    let prints = ok_twice c.search_read-ended-2.result _ _ (c.status_of-2.ensures.done zero) ended.yielded in
-    let whole = ok_twice c.search_read-ended-2.result _ _ (c.status_of-2.ensures.done zero) ended.whole in (
-      _,
-      _,
-      record {
-        colored = c.is_colored.ensures;
-        times =
-            let known = c.in-Ok.ensures in record { now = known.now; after = known.after; before = known.before; after_file = known.after_file };
-        quiet = λ quiet. absurd (true≢false (sym quiet ∙ c.if-asked.false));
-        yielded = λ loud. prints.2 prints.1;
-        finds = λ quiet. absurd (true≢false (sym quiet ∙ c.if-asked.false));
-        prints = λ loud still told. whole.2 whole.1 still told;
-      },
-    )
+    loud_searched _ _ c.args.asked c.search_read-ended-2.result _ _ true c.if-asked.false (c.is_colored.ensures, c.in-Ok.ensures) (c.status_of-2.ensures.done zero) ended.yielded ended.whole
+
+pub returns-clause-failed : goal.returns-clause-failed
+returns-clause-failed g c = λ one.
+    let ended = c.search_read-ended-2.ensures in
+    elim (c.status_of-2.ensures.told one) [
+      | inl ends ↦ inl (loud_searched _ _ c.args.asked c.search_read-ended-2.result _ _ false c.if-asked.false (c.is_colored.ensures, c.in-Ok.ensures) ends ended.yielded ended.whole)
+      | inr told ↦ inr told
+    ]

@@ -2,7 +2,6 @@ use Rattle.std.proofs.Common.{◌≡◌, ◌∙◌, ap, ap₂, subst, sym}
 use Rattle.std.proofs.lemmas.Result.{IfOk-weaker}
 use Rattle.user_excludes.specs.Home.{home_value}
 use Rattle.user_excludes.specs.UserTexts.{home_of, texts_behind, with_user}
-use Rattle.seek_search.specs.Goes.{PrintsYielded}
 use Rattle.seek_search.specs.Printing.{IsFront}
 use Rattle.seek_search.specs.Run.{FindsRead, PrintsRead}
 use Rattle.seek_search.specs.RulesRead.{home_asked, lines_asked}
@@ -12,14 +11,13 @@ use Rattle.seek_search.proofs.run.Seek.search_read.Goals as goal
 pub returns-clause-yielded : goal.returns-clause-yielded
 returns-clause-yielded g c =
     IfOk-weaker c.search_asked.result _ _
-    (λ ended prints. λ clean. record {
+    (λ ended prints. record {
       reads = c.new-texts.result;
       behind = c.new-texts.ensures.texts;
       own = c.new-texts.ensures.home ∙ c.in_ok-home_asked.ensures;
       lines = _;
       named = λ told. c.as_slice.ensures.value ∙ c.in_ok-lines.ensures told;
-      known = printed_if _ _ (λ still. still) (λ wanted front is. subst (λ x. IsFront (g.X.Texts.IsFixed x) (g.X.Texts.functions x) wanted front) c.new-texts.ensures.texts (front_behind (home_of c.new-texts.result) wanted front is)) c.new-texts.result _
-          (subst (PrintsYielded _ _ _ _ _ _ _ _ _ _ _ _ _ _ _) clean prints);
+      known = printed_if _ _ (λ still. still) (λ wanted front is. subst (λ x. IsFront (g.X.Texts.IsFixed x) (g.X.Texts.functions x) wanted front) c.new-texts.ensures.texts (front_behind (home_of c.new-texts.result) wanted front is)) c.new-texts.result _ prints;
     })
     c.search_asked.ensures.yielded
 
@@ -61,9 +59,9 @@ returns-clause-one g c =
     let same : with_user (home_of c.new-texts.result) behind ≡ with_user (home_asked (home_value c.args.self.home) asked) texts
     = ap₂ with_user (c.new-texts.ensures.home ∙ c.in_ok-home_asked.ensures) (ap g.X.Texts.functions c.new-texts.ensures.texts) in
     IfOk-weaker c.search_asked.result _ _
-    (λ ended one. λ quiet full fixed told.
+    (λ ended one. λ quiet fixed told.
     let lines = c.as_slice.ensures.value ∙ c.in_ok-lines.ensures told in
-    subst (λ t. FindsRead disk t (lines_asked texts asked) asked c.args.sought.now) same
-    (subst (λ l. FindsRead disk (with_user (home_of c.new-texts.result) behind) l asked c.args.sought.now) lines
-    (one quiet full fixed (subst g.X.Texts.IsFixed (sym c.new-texts.ensures.texts) told))))
+    subst (λ t. FindsRead disk t (lines_asked texts asked) asked c.args.sought.now ended) same
+    (subst (λ l. FindsRead disk (with_user (home_of c.new-texts.result) behind) l asked c.args.sought.now ended) lines
+    (one quiet fixed (subst g.X.Texts.IsFixed (sym c.new-texts.ensures.texts) told))))
     c.search_asked.ensures.one

@@ -1,9 +1,7 @@
-use Rattle.std.proofs.Common.{◌≡◌, ◌∙◌, true, inl, inr, ap, ap₂, map, string_bytes, subst, sym}
+use Rattle.std.proofs.Common.{◌≡◌, ◌∙◌, ◌<◌, true, inl, inr, ap, ap₂, arith, map, string_bytes, subst, sym}
 use Rattle.seek_found.proofs.EndFacts.{bad_ends, ends_most, searched_ends, unowned_ends}
-use Rattle.seek_found.proofs.ShownFacts.{shown_for}
-use Rattle.seek_words.proofs.AsksFacts.{shown_ask_for}
 use Rattle.seek_search.specs.Based.{functions_based, has_folder, texts_based}
-use Rattle.seek_search.proofs.RunFacts.{searches_as}
+use Rattle.seek_search.proofs.RunFacts.{words_searched}
 use Rattle.seek_found.specs.Unowned.{status_of}
 use Rattle.seek_found.specs.declared.owner.Unowned.{Unowned}
 use Rattle.seek_found.specs.declared.owner.Unowned.TheVariants.{Text, File, Memory}
@@ -27,11 +25,17 @@ returns-in-Err-clause-ends g c = c.in-Err.ensures.ended.ends
 pub returns-in-Err-clause-done : goal.returns-in-Err-clause-done
 returns-in-Err-clause-done g c = λ zero. inl (c.in-Err.ensures.ended.text zero)
 
+pub returns-in-Err-clause-failed : goal.returns-in-Err-clause-failed
+returns-in-Err-clause-failed g c = λ one. inr (c.in-Err.ensures.told (subst (λ n. 0 < n) (sym one) (search arith)))
+
+pub returns-in-Err-clause-refused : goal.returns-in-Err-clause-refused
+returns-in-Err-clause-refused g c = λ two. c.in-Err.ensures.told (subst (λ n. 0 < n) (sym two) (search arith))
+
 pub returns-in-Err-owner_of-clause-ends : goal.returns-in-Err-owner_of-clause-ends
 returns-in-Err-owner_of-clause-ends g c =
     let read = c.in-Ok.ensures.asked in
     unowned_ends (map string_bytes c.args.words.now) _ read.0 (g.X.Texts.IsFixed c.args.self.texts) (g.X.Texts.functions c.args.self.texts) c.in-Err-owner_of.unowned
-    c.in-Err-owner_of.ensures.refused _ c.report.ensures
+    c.in-Err-owner_of.ensures.refused _ c.tell.ensures.status
 
 pub returns-in-Err-owner_of-clause-status : goal.returns-in-Err-owner_of-clause-status
 returns-in-Err-owner_of-clause-status g c = ends_most _ _ (returns-in-Err-owner_of-clause-ends g c)
@@ -40,7 +44,7 @@ pub returns-in-Err-owner_of-clause-bad_words : goal.returns-in-Err-owner_of-clau
 returns-in-Err-owner_of-clause-bad_words g c = bad_ends _ _ (returns-in-Err-owner_of-clause-ends g c)
 
 pub returns-in-Err-owner_of-clause-done : goal.returns-in-Err-owner_of-clause-done
-returns-in-Err-owner_of-clause-done g c = λ zero. absurd (not_zero c.in-Err-owner_of.unowned (sym c.report.ensures ∙ zero))
+returns-in-Err-owner_of-clause-done g c = λ zero. absurd (not_zero c.in-Err-owner_of.unowned (sym c.tell.ensures.status ∙ zero))
 
 pub returns-clause-ends : goal.returns-clause-ends
 returns-clause-ends g c =
@@ -55,19 +59,18 @@ returns-clause-done g c = λ zero.
     let read = c.in-Ok.ensures.asked in
     let over = c.in-Ok-Ok.ensures in
     let from = c.in-Ok-Ok.ensures' in
-    let done = c.search_for.ensures.done zero in
-    inr (record {
-      asked = _;
-      ask = shown_ask_for _ _ done.0 done.1 c.in-Ok-owner_of.owner read.0;
-      sought = _;
-      is_for = shown_for _ done.0 done.1 c.in-Ok-owner_of.owner _ read.1;
-      owner = c.in-Ok-owner_of.ensures.owner;
-      over = c.in-Ok-Ok.disk;
-      is_over = record { of = over.of; from = over.from };
-      from = c.in-Ok-Ok.texts;
-      is_from = record { of = from.of; from = from.from };
-      folder = λ still. subst (λ fs. has_folder fs c.in-Ok.read.0 ≡ true) (ap₂ functions_based over.from (ap g.S.FileSystem.functions over.of))
-          (c.has_folder.ensures (subst g.S.FileSystem.IsFixed (sym over.of) still) c.if-not-has_folder.false);
-      searches = searches_as _ _ (subst g.S.FileSystem.IsFixed (sym over.of)) (subst g.X.Texts.IsFixed (sym from.of))
-          (ap₂ functions_based over.from (ap g.S.FileSystem.functions over.of)) (ap₂ texts_based from.from (ap g.X.Texts.functions from.of)) c.in-Ok.ensures.unwritten done.2;
-    })
+    inr (words_searched _ _ c.in-Ok-owner_of.owner read.0 read.1 c.in-Ok-owner_of.ensures.owner (record { of = over.of; from = over.from }) (record { of = from.of; from = from.from })
+    (λ still. subst (λ fs. has_folder fs c.in-Ok.read.0 ≡ true) (ap₂ functions_based over.from (ap g.S.FileSystem.functions over.of)) (c.has_folder.ensures.folder (subst g.S.FileSystem.IsFixed (sym over.of) still) c.if-not-has_folder.false))
+    (subst g.S.FileSystem.IsFixed (sym over.of)) (subst g.X.Texts.IsFixed (sym from.of)) (ap₂ functions_based over.from (ap g.S.FileSystem.functions over.of)) (ap₂ texts_based from.from (ap g.X.Texts.functions from.of)) c.in-Ok.ensures.unwritten (c.search_for.ensures.done zero))
+
+pub returns-clause-failed : goal.returns-clause-failed
+returns-clause-failed g c = λ one.
+    let read = c.in-Ok.ensures.asked in
+    let over = c.in-Ok-Ok.ensures in
+    let from = c.in-Ok-Ok.ensures' in
+    elim (c.search_for.ensures.failed one) [
+      | inl searches ↦ inl (words_searched _ _ c.in-Ok-owner_of.owner read.0 read.1 c.in-Ok-owner_of.ensures.owner (record { of = over.of; from = over.from }) (record { of = from.of; from = from.from })
+          (λ still. subst (λ fs. has_folder fs c.in-Ok.read.0 ≡ true) (ap₂ functions_based over.from (ap g.S.FileSystem.functions over.of)) (c.has_folder.ensures.folder (subst g.S.FileSystem.IsFixed (sym over.of) still) c.if-not-has_folder.false))
+          (subst g.S.FileSystem.IsFixed (sym over.of)) (subst g.X.Texts.IsFixed (sym from.of)) (ap₂ functions_based over.from (ap g.S.FileSystem.functions over.of)) (ap₂ texts_based from.from (ap g.X.Texts.functions from.of)) c.in-Ok.ensures.unwritten searches)
+      | inr told ↦ inr told
+    ]
