@@ -21,7 +21,7 @@ fn facts_of(entry: &DirEntry<((), ())>) -> Facts {
 }
 
 /// Returns everything below a root, by its path behind the root.
-fn kept_below<S: FileSystem>(alloc: Global, disk: S, root: String) -> anyhow::Result<Vec<Kept>> {
+fn kept_below<S: FileSystem>(alloc: Global, disk: &S, root: String) -> anyhow::Result<Vec<Kept>> {
     let front = root.clone()?;
     let walk = WalkDirGeneric::<((), ()), _, _, _>::new(disk, root)
         .sort(true)
@@ -51,11 +51,11 @@ pub fn run<S: FileSystem, W: Write>(
     // begin changes
     let old = kept_below(alloc, disk, old)?;
     let new = kept_below(alloc, disk, new)?;
-    for change in changes_between(alloc, old, new, Vec::<&str>::new(alloc))? {
+    for change in changes_between(alloc, old, new, Vec::<Kept>::new(alloc))? {
         match change {
             Change::Added(entry) => writeln!(out, "+ {}", entry.path)?,
             Change::Removed(entry) => writeln!(out, "- {}", entry.path)?,
-            Change::Changed(_, entry, _) => writeln!(out, "~ {}", entry.path)?,
+            Change::Changed(_old, entry, _which) => writeln!(out, "~ {}", entry.path)?,
         }
     }
     // end changes
