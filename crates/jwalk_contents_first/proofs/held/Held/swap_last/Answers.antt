@@ -1,4 +1,4 @@
-use Rattle.std.proofs.Common.{◌≡◌, ◌-◌, ◌∷◌, Some, List, map, reverse, refl, ap, sym, ◌∙◌}
+use Rattle.std.proofs.Common.{◌-◌, ◌∷◌, Some, map, reverse, refl, ap, sym, ◌∙◌}
 use Rattle.std.specs.Prelude.{slice_set}
 use Rattle.jwalk_job.specs.Entry.{entry}
 use Rattle.jwalk_contents_first.specs.Coming.{left_of, last_of}
