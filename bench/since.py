@@ -2,6 +2,7 @@
 """Compares `since` with a comparison by `os.lstat`, over random trees that are saved, changed and compared.
 
     python3 bench/since.py [COUNT [SEED [PROGRAM]]]
+    python3 bench/since.py quick [COUNT [SEED [PROGRAM]]]
     python3 bench/since.py damage [COUNT [SEED [PROGRAM]]]
     python3 bench/since.py killed [COUNT [SEED [PROGRAM]]]
     python3 bench/since.py sql [COUNT [SEED [PROGRAM]]]
@@ -13,6 +14,10 @@ directories, links led elsewhere, hard links made. Then `since -l` must print ju
 thread and with four, and end with 1, or with 0 if nothing differs; and a tree that didn't change has no line. So must
 `since -l --save`, and then nothing differs, and no other file lies beside the snapshot.
 
+With `quick` the same trees are compared by `--quick`: its lines must be those of names and types. `strace` must be there:
+no directory may be listed that has the identity and the time of change that it had before the snapshot, and of a tree that
+didn't change none.
+
 With `damage` a snapshot is changed in COUNT ways (2,000): a byte of it, its end, or its version. None may be taken, with
 `--save` neither: the status is 2, nothing is printed, the error names the file, and the file is left as it is.
 
@@ -23,12 +28,14 @@ With `sql` COUNT trees (20) are saved, and `--rows -0` must print just what `os.
 is there, the lines of docs/SINCE.md then make a table of the rows of each, which must have the same, and its queries must
 return what lists do.
 
-With `speed` a folder (/usr) is saved and compared beside `find`: the least processor time of nine warm turns.
+With `speed` a folder (/usr) is saved and compared beside `find`: the least processor time of nine warm turns. It also
+counts the listings of `--quick`, if `strace` is there.
 """
 import json
 import os
 import pathlib
 import random
+import re
 import shutil
 import signal
 import stat
@@ -95,16 +102,21 @@ def words_of(old, new):
     return [word for word, has, was, now in zip(words, counts, old, new) if has and was != now]
 
 
-def lines_of(old, new):
-    """The lines of all differences."""
+def type_word(old, new):
+    """The word for what differs of an entry, if its type does."""
+    return ["type"] if old[0] != new[0] else []
+
+
+def lines_of(old, new, words=words_of):
+    """The lines of all differences, of which these are the words."""
     lines = []
     for path in sorted({*old, *new}, key=names_of):
         if path not in old:
             lines.append(f"+ {path}\n")
         elif path not in new:
             lines.append(f"- {path}\n")
-        elif words_of(old[path], new[path]):
-            lines.append("\t".join([f"~ {path}", *words_of(old[path], new[path])]) + "\n")
+        elif words(old[path], new[path]):
+            lines.append("\t".join([f"~ {path}", *words(old[path], new[path])]) + "\n")
     return lines
 
 
@@ -189,6 +201,58 @@ def try_trees(program, count, seed):
         return f"{room} has other files"
     shutil.rmtree(room)
     print(f"{count} trees: since prints what os.lstat says")
+    return None
+
+
+def stamps(top):
+    """The directories at and below a folder, each with its identity and the time of its last change."""
+    found = {}
+    for folder, _, _ in os.walk(top):
+        it = os.lstat(folder)
+        found[folder] = (it.st_dev, it.st_ino, it.st_ctime_ns)
+    return found
+
+
+def listed_by(*words):
+    """The directories that a call opens, as `strace` has them."""
+    with tempfile.NamedTemporaryFile() as log:
+        called("strace", "-f", "-xx", "-e", "trace=openat", "-o", log.name, *words)
+        text = log.read().decode()
+    paths = re.findall(r'openat\(AT_FDCWD, "((?:\\x[0-9a-f]{2})*)", [^)]*O_DIRECTORY', text)
+    return [os.fsdecode(bytes.fromhex(path.replace("\\x", ""))) for path in paths]
+
+
+def differs_quickly(program, file, top, old, before):
+    """The first call with --quick that prints other lines, or lists what didn't change, if there is one."""
+    wanted = "".join(lines_of(old, facts(top), type_word)).encode()
+    for threads in ("1", "4"):
+        ran = called(program, "-l", "--quick", "-j", threads, file, top)
+        if ran.stdout != wanted or ran.stderr or ran.returncode != (1 if wanted else 0):
+            return f"--quick -j {threads} {file} {top}: status {ran.returncode}, {ran.stderr.decode(errors='replace')}"
+    unchanged = {path for path, stamp in stamps(top).items() if before.get(path) == stamp}
+    listed = unchanged & set(listed_by(program, "-q", "--quick", "-j1", file, top))
+    return f"--quick {file} {top} lists {sorted(listed)}" if listed else None
+
+
+def try_quick(program, count, seed):
+    rng, room = random.Random(seed), tempfile.mkdtemp(prefix="since_")
+    tops = []
+    for number in range(count):
+        tops.append(os.path.join(room, str(number)))
+        os.mkdir(tops[-1])
+        plant(rng, tops[-1], [])
+    time.sleep(3)
+    for top in tops:
+        old, before = facts(top), stamps(top)
+        called(program, "--save", f"{top}.since", top, check=True)
+        why = differs_quickly(program, f"{top}.since", top, old, before)
+        for _ in range(rng.randrange(6)):
+            change_one(rng, top)
+        why = why or differs_quickly(program, f"{top}.since", top, old, before)
+        if why:
+            return f"tree of seed {seed}: {why}"
+    shutil.rmtree(room)
+    print(f"{count} trees: --quick prints what differs in names and types, and lists nothing unchanged")
     return None
 
 
@@ -338,21 +402,30 @@ def try_speed(program, folder):
         "since --save": [program, "-j1", "--save", file, folder],
         "since": [program, "-j1", file, folder],
         "since -j4": [program, "-j4", file, folder],
+        "since --quick": [program, "-j1", "--quick", file, folder],
     }
     for name, words in calls.items():
         seconds, peak = processor_time(words, out)
         print(f"{name}: {seconds:.2f} s, {peak // 1024} MiB")
     print(f"{os.path.getsize(file) / max(1, len(entries(folder))):.1f} bytes an entry")
+    if shutil.which("strace"):
+        print(f"since --quick: {len(listed_by(*calls['since --quick']))} listings")
     shutil.rmtree(room)
 
 
 def main():
     words = sys.argv[1:]
-    verb = words.pop(0) if words[:1] and words[0] in ("damage", "killed", "speed", "sql") else "trees"
+    verb = words.pop(0) if words[:1] and words[0] in ("quick", "damage", "killed", "speed", "sql") else "trees"
     program = words[2] if len(words) > 2 else PROGRAM
     if verb == "speed":
         return try_speed(words[1] if len(words) > 1 else PROGRAM, words[0] if words else "/usr")
-    tries = {"trees": (try_trees, 200), "damage": (try_damage, 2000), "killed": (try_killed, 200), "sql": (try_sql, 20)}
+    tries = {
+        "trees": (try_trees, 200),
+        "quick": (try_quick, 200),
+        "damage": (try_damage, 2000),
+        "killed": (try_killed, 200),
+        "sql": (try_sql, 20),
+    }
     call, count = tries[verb]
     why = call(program, int(words[0]) if words else count, int(words[1]) if len(words) > 1 else 1)
     if why:

@@ -7,6 +7,6 @@ _since() {
     -j | --threads) compopt +o default; return ;;
     -d | --max-depth) compopt +o default; return ;;
     esac
-    if [[ $word == -* ]]; then COMPREPLY=($(compgen -W "--save --rows -l --long -0 --print0 -q --quiet -j --threads --exclude-hidden -x --one-file-system -d --max-depth -h --help -V --version" -- "$word")); fi
+    if [[ $word == -* ]]; then COMPREPLY=($(compgen -W "--save --quick --rows -l --long -0 --print0 -q --quiet -j --threads --exclude-hidden -x --one-file-system -d --max-depth -h --help -V --version" -- "$word")); fi
 }
 complete -o default -F _since since

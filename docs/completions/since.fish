@@ -1,5 +1,6 @@
 # Completions of since for fish, made by bench/man.py.
 complete -c since -l save -d 'Replace FILE by a snapshot of what is found, or make it'
+complete -c since -l quick -d 'Compare names and types alone, and list only directories that changed'
 complete -c since -l rows -d 'Write a row for each entry in FILE, and compare nothing: path, type, length, time, number'
 complete -c since -s l -l long -d 'Write behind each ~ what differs: type, length, time, number'
 complete -c since -s 0 -l print0 -d 'Write a zero byte behind each line, in place of a line feed'

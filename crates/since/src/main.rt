@@ -4,11 +4,14 @@
 use jwalk::crew::threads_for;
 use jwalk::file_system::{Patient, RealFs};
 use jwalk_ignore_rules::real_texts::RealTexts;
+use jwalk_indexed_fs::recording_fs::now;
+use jwalk_model::metadata::Moment;
+use program_parts::errors::Errors;
 use program_parts::masked_lines::MaskedLines;
 use since_run::run::run;
 use since_run::screen::Screen;
 use since_run::store::RealStore;
-use std::io::{IsTerminal, Write};
+use std::io::IsTerminal;
 use std::process::ExitCode;
 use std::{env, io};
 
@@ -40,11 +43,23 @@ fn call_of(rt: &HostRuntime) -> io::Result<(Vec<String>, Screen, Disk)> {
     Ok((words, screen, (disk, texts, store)))
 }
 
+/// Returns the time now. If the clock can't be read, it is the beginning of 1970, before which no directory changed.
+fn start_of(rt: &HostRuntime) -> Moment {
+    match now(rt) {
+        Ok(start) => start,
+        Err(_) => Moment {
+            seconds: 0,
+            nanoseconds: 0,
+        },
+    }
+}
+
 fn main(rt: HostRuntime) -> ExitCode {
-    let mut err = MaskedLines {
+    let start = start_of(&rt);
+    let mut err = Errors::new(MaskedLines {
         err: rt.stderr(),
         masks: rt.stderr().is_terminal(),
-    };
+    });
     let status = match call_of(&rt) {
         Ok((words, screen, (disk, texts, mut store))) => run(
             &rt,
@@ -53,13 +68,14 @@ fn main(rt: HostRuntime) -> ExitCode {
             disk,
             &texts,
             &mut store,
+            start,
             words.as_slice(),
             screen,
             &mut io::writer(&rt),
             &mut err,
         ),
         Err(error) => {
-            let _ = writeln!(err, "since: words that can't be read: {error}");
+            err.tell("since", format_args!("words that can't be read: {error}"));
             2
         }
     };

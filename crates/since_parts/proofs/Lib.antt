@@ -1,5 +1,7 @@
 mod ChoiceFacts
 mod FoundFacts
+mod ListingFacts
 mod HeldFacts
 mod SavedFacts
 mod TreeFacts
+mod RecordFacts

@@ -1,6 +1,10 @@
 -- What of a tree is compared, in words.
-use Rattle.std.specs.Prelude.{ℕ, Bool, List, [], ◌∷◌, ◌++◌, Option, Some, None, codes, decimal, if◌then◌else◌}
+use Rattle.std.specs.Prelude.{ℕ, ◌-◌, ◌^◌, Bool, List, [], ◌∷◌, ◌++◌, Option, Some, None, codes, decimal, unwrap_or, if◌then◌else◌}
 use Rattle.since_parts.specs.declared.choice.Choice.{Choice}
+
+-- the greatest depth that is chosen: any, if there is none
+abbrev pub depth_of : Choice → ℕ
+depth_of choice = unwrap_or choice.depth (2 ^ 64 - 1)
 
 -- a word, if it is chosen
 abbrev pub words_if : Bool → List ℕ → List (List ℕ)

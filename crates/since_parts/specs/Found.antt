@@ -1,16 +1,17 @@
 -- What a walk finds.
-use Rattle.std.specs.Prelude.{◌≡◌, ℕ, Bool, true, false, not, ◌&&◌, ◌||◌, nat_lt, List, [], ◌∷◌, ◌++◌, map, flat_map, Option, Some, None, Result, Ok, Err, is_some, option_and_then, if◌then◌else◌}
+use Rattle.std.specs.Prelude.{◌≡◌, ℕ, Bool, true, false, not, ◌&&◌, ◌||◌, nat_lt, List, [], ◌∷◌, ◌++◌, map, flat_map, Option, Result, Ok, Err, is_some, option_and_then, if◌then◌else◌}
 use Rattle.std.specs.List.{list_all}
 use Rattle.std.specs.Iterator.{Drains}
-use Rattle.jwalk_model.specs.declared.metadata.Metadata.{Metadata}
 use Rattle.jwalk_model.specs.Entry.{Entry, Item, path_of}
 use Rattle.jwalk_job.specs.declared.dir_entry.DirEntry.{DirEntry}
 use Rattle.jwalk_job.specs.declared.error.Error.{Error}
 use Rattle.jwalk_job.specs.Entry.{item}
 use Rattle.jwalk_changes.specs.declared.facts.Facts as changes
 use Rattle.since_parts.specs.Facts.{Seen, compared, kept_of, seen_of}
-use Rattle.since_parts.specs.Tree.{behind, counts}
+use Rattle.since_parts.specs.Listing.{listed_in, listed_one}
+use Rattle.since_parts.specs.Tree.{behind, counts, front_in, own_in}
 use Rattle.since_parts.specs.declared.found.Found.{Found}
+use Rattle.since_parts.specs.declared.tree.Tree.{Tree}
 
 -- a path behind the root with what is compared there, unless it is that of the file with the snapshot
 abbrev pub kept_one : Option (List ℕ) → List ℕ → changes.Facts → List Seen
@@ -42,23 +43,26 @@ module _ {R E : Type 0} where
   is_clean (Ok e) = is_read e
   is_clean (Err f) = false
 
-  -- An answer is taken: what is found at it comes behind what was found before, and it is known whether all are clean.
-  pub record TakesOne (front : List ℕ) (own : Option (List ℕ)) (x : Item R E) (old new : Found) : Type 0 where
-    pub found : map seen_of new.entries.items ≡ map seen_of old.entries.items ++ found_one front own x
+  -- An answer is taken: what is found at it comes behind what was found before, and so how its directory was listed, and it is known whether all are clean.
+  pub record TakesOne (tree : Tree) (x : Item R E) (old new : Found) : Type 0 where
+    pub found : map seen_of new.entries.items ≡ map seen_of old.entries.items ++ found_one (front_in tree) (own_in tree) x
+    pub listed : new.listings.items ≡ old.listings.items ++ listed_one tree x
     pub clean : new.clean ≡ (old.clean && is_clean x)
 
 -- Nothing was found yet.
 pub record HasNone (found : Found) : Type 0 where
   pub entries : found.entries.items ≡ []
+  pub listings : found.listings.items ≡ []
   pub clean : found.clean ≡ true
 
--- This is what is found of answers, and it is known whether all are clean.
-pub record HasAll {R E : Type 0} (front : List ℕ) (own : Option (List ℕ)) (answered : List (Item R E)) (found : Found) : Type 0 where
-  pub found_is : map seen_of found.entries.items ≡ found_in front own answered
+-- This is what is found of answers in a tree, and it is known whether all are clean.
+pub record HasAll {R E : Type 0} (tree : Tree) (answered : List (Item R E)) (found : Found) : Type 0 where
+  pub found_is : map seen_of found.entries.items ≡ found_in (front_in tree) (own_in tree) answered
+  pub listed_is : found.listings.items ≡ listed_in tree answered
   pub clean_is : found.clean ≡ list_all is_clean answered
 
 -- An iterator yielded answers until its end, and this is what is found of them.
-pub record TakesAll {C A I R E : Type 0} (next : I → Option (Result (DirEntry C A R E) (Error A)) → I → Type 0) (front : List ℕ) (own : Option (List ℕ)) (answers : I) (found : Found) : Type 0 where
+pub record TakesAll {C A I R E : Type 0} (next : I → Option (Result (DirEntry C A R E) (Error A)) → I → Type 0) (tree : Tree) (answers : I) (found : Found) : Type 0 where
   pub yielded : List (Result (DirEntry C A R E) (Error A))
   pub drains : Drains next answers yielded
-  pub has : HasAll front own (map item yielded) found
+  pub has : HasAll tree (map item yielded) found

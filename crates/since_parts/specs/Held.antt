@@ -1,5 +1,5 @@
 -- What a snapshot holds.
-use Rattle.std.specs.Prelude.{◌≡◌, ℕ, ◌+◌, ◌*◌, ◌<◌, Bool, List, ◌++◌, length, map, flat_map}
+use Rattle.std.specs.Prelude.{ℕ, ◌+◌, ◌*◌, ◌<◌, Bool, List, ◌++◌, length, map, flat_map}
 use Rattle.std.specs.List.Sorted.{IsPermutation}
 use Rattle.jwalk_changes.specs.AtPath.{whole}
 use Rattle.jwalk_snapshot.specs.Text.{Content, Entry, Folder, entry_of, folder_of}

@@ -2,8 +2,10 @@ pub mod Choice
 pub mod Facts
 pub mod Held
 pub mod Tree
+pub mod Listing
 pub mod Found
 pub mod Differences
 pub mod Line
 pub mod Row
 pub mod Saved
+pub mod Records

@@ -1,5 +1,5 @@
 -- The lines of differences.
-use Rattle.std.specs.Prelude.{ℕ, Bool, true, false, ◌==◌, List, [], ◌∷◌, ◌++◌, flat_map, codes, string_bytes, if◌then◌else◌}
+use Rattle.std.specs.Prelude.{ℕ, Bool, true, ◌==◌, List, [], ◌∷◌, ◌++◌, flat_map, codes, string_bytes, if◌then◌else◌}
 use Rattle.jwalk_changes.specs.declared.change.Change.TheVariants.{Added, Removed, Changed}
 use Rattle.jwalk_changes.specs.declared.facts.Which.{Which}
 use Rattle.program_parts.specs.declared.paths.Style.{Style}

@@ -1,5 +1,5 @@
 -- Which tree is compared, and what of it is left out.
-use Rattle.std.specs.Prelude.{◌≡◌, ℕ, Bool, true, false, not, ◌||◌, List, [], length, drop, bytes_eq, codes, nat_eq, Option, Some, None, option_map, Ok, string_bytes, if◌then◌else◌}
+use Rattle.std.specs.Prelude.{◌≡◌, ℕ, Bool, true, false, not, ◌&&◌, ◌||◌, List, [], length, drop, bytes_eq, codes, nat_eq, Option, Some, None, option_map, Ok, string_bytes, if◌then◌else◌}
 use Rattle.std.specs.List.{starts_with}
 use Rattle.std.specs.declared.alloc.Global.{Global}
 use Rattle.std.specs.declared.string.String.{String}
@@ -68,6 +68,23 @@ front_in tree = string_bytes tree.front
 
 abbrev pub own_in : Tree → Option (List ℕ)
 own_in tree = own_texts tree.own
+
+abbrev pub is_text : List ℕ → Option (List ℕ) → Bool
+is_text text None = false
+is_text text (Some other) = bytes_eq other text
+
+-- whether a file lies in the directory with this path
+abbrev pub holds : List ℕ → List ℕ → Bool
+holds own path = is_text path (parent own)
+
+-- whether no name is left out of a directory for the file with the snapshot
+abbrev pub keeps_own : Option (List ℕ) → List ℕ → Bool
+keeps_own None path = true
+keeps_own (Some own) path = not (holds own path)
+
+-- whether no name is left out of the directory with this path behind the root: neither hidden ones, nor the file's
+abbrev pub keeps_all : Tree → List ℕ → Bool
+keeps_all tree path = not tree.choice.exclude_hidden && keeps_own (own_in tree) path
 
 -- The tree below a root without a file, by what absolute paths are.
 pub record IsTree (texts : Texts) (file root : List ℕ) (tree : Tree) : Type 0 where

@@ -1,6 +1,6 @@
 //! What of a tree is compared.
 ghost use Rattle.std.specs.Prelude.{◌≡◌, ◌++◌, true, map, string_bytes, IfOk, IfSome, OnOk};
-ghost use Rattle.since_parts.specs.Choice.{depth_words, words_if, words_of};
+ghost use Rattle.since_parts.specs.Choice.{depth_of, depth_words, words_if, words_of};
 ghost use Rattle.jwalk_snapshot.specs.Text.{text_in};
 
 use std::alloc::{AllocError, Global};
@@ -81,6 +81,13 @@ impl Choice {
         one_file_system: false,
         depth: None,
     };
+
+    /// Returns the greatest depth: any, if none is chosen.
+    pub fn max_depth(self) -> usize
+        ensures { result ≡ depth_of self }
+    {
+        self.depth.unwrap_or(usize::MAX)
+    }
 
     /// Returns the words for it, each in the one way that snapshots have it.
     ///

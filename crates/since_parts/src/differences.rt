@@ -8,7 +8,6 @@ use crate::held::Held;
 use jwalk_changes::{Change, ChangesError, Kept, changes_between, compare};
 use program_parts::halt::Halt;
 use std::alloc::{AllocError, Global};
-use std::io::Write;
 
 /// Returns places in ascending order, each once.
 fn ascending<'p>(alloc: Global, places: &'p [String]) -> Result<Vec<&'p str>, AllocError> {
@@ -38,12 +37,11 @@ fn borrowed<'f>(alloc: Global, entries: &'f [Kept]) -> Result<Vec<&'f Kept>, All
 }
 
 /// Returns the differences of two lists, outside these places.
-fn between<'s, 'a, 'f, E: Write>(
+fn between<'s, 'a, 'f>(
     alloc: Global,
     old: Vec<Held<'s, 'a>>,
     new: Vec<&'f Kept>,
     unread: Vec<&str>,
-    err: &mut E,
 ) -> Result<Vec<Change<Held<'s, 'a>, &'f Kept>>, Failure>
     ensures { IfOk result (λ changes. unread.entry.items ≡ [] → IsDifferencesOf old.entry.items new.entry.items changes.items) }
 {
@@ -51,26 +49,24 @@ fn between<'s, 'a, 'f, E: Write>(
         Ok(changes) => Ok(changes),
         Err(ChangesError::Memory) => Err(Failure::Halt(Halt::Memory)),
         Err(ChangesError::NotAscending(input)) => {
-            let _ = writeln!(err, "since: {input}");
-            Err(Failure::Told)
+            Err(Failure::Error(format!(in alloc; "{input}")?))
         }
     }
 }
 
 /// Returns what differs between what was held and what is found. Nothing is told of what is below a directory of which
 /// not all is known.
-pub fn differences<'s, 'a, 'f, E: Write>(
+pub fn differences<'s, 'a, 'f>(
     alloc: Global,
     old: Vec<Held<'s, 'a>>,
     found: &'f Found,
-    err: &mut E,
 ) -> Result<Vec<Change<Held<'s, 'a>, &'f Kept>>, Failure>
     ensures { IfOk result (λ changes. found.now.clean ≡ true → AreDifferences old.entry.items found.now.entries.items changes.items) }
 {
     let new = borrowed(alloc, &found.entries)?;
     if found.clean {
-        return between(alloc, old, new, Vec::new(alloc), err);
+        return between(alloc, old, new, Vec::new(alloc));
     }
     let unread = ascending(alloc, &found.unread)?;
-    between(alloc, old, new, unread, err)
+    between(alloc, old, new, unread)
 }

@@ -1,25 +1,38 @@
 //! What ends a call before its end.
-ghost use Rattle.std.specs.Prelude.{◌≡◌};
+ghost use Rattle.std.specs.Prelude.{◌≡◌, codes};
+ghost use Rattle.program_parts.specs.Errors.{IsTold};
 
+use program_parts::errors::Errors;
 use program_parts::halt::Halt;
-use std::alloc::{AllocError, AllocFailed};
+use std::alloc::{AllocError, AllocFailed, Global};
+use std::fmt::Display;
 use std::io::Write;
 
 /// What ends a call before its end.
 #[derive(Debug, Drop)]
 pub enum Failure {
-    /// An error that was reported.
-    Told,
+    /// An error behind which nothing comes, by what is said of it.
+    Error(String),
     /// Memory ran out, or standard output can't be written.
     Halt(Halt),
 }
 
 impl Failure {
-    /// Reports it on standard error, unless it was reported.
-    pub fn report<E: Write>(self, err: &mut E) {
+    /// Returns the error of a file: its path, and what is said of it.
+    pub fn at<D: Display>(alloc: Global, path: &str, what: &D) -> Failure {
+        match format!(in alloc; "{path}: {what}") {
+            Ok(text) => Failure::Error(text),
+            Err(refused) => Failure::from(refused),
+        }
+    }
+
+    /// Tells it.
+    pub fn tell<E: Write>(self, alloc: Global, err: &mut Errors<E>)
+        ensures told { IsTold E.contents (codes "since") err.new }
+    {
         match self {
-            Failure::Told => {}
-            Failure::Halt(halt) => halt.report("since", err),
+            Failure::Error(what) => err.tell("since", what.as_str()),
+            Failure::Halt(halt) => err.tell_halt(alloc, "since", halt),
         }
     }
 }

@@ -4,16 +4,19 @@ ghost use Rattle.std.specs.Iterator.{IsFinite};
 ghost use Rattle.jwalk_job.specs.Entry.{entry, item};
 ghost use Rattle.since_parts.specs.Facts.{seen_of};
 ghost use Rattle.since_parts.specs.Found.{facts_seen, found_at, is_read, kept_one, HasNone, TakesAll, TakesOne};
+ghost use Rattle.since_parts.specs.Listing.{listed_at, listed_below};
 ghost use Rattle.since_parts.specs.Tree.{front_in, own_in};
 
 use crate::facts::{compared, kept_of};
 use crate::failure::Failure;
+use crate::listing::listing_seen;
 use crate::tree::Tree;
 use jwalk_changes::{Facts, Kept};
 use jwalk_fs::path_text::parent;
 use jwalk_job::client_state::ClientState;
 use jwalk_job::dir_entry::DirEntry;
 use jwalk_job::error::{Error, Result as Answer};
+use jwalk_snapshot::Listing;
 use std::alloc::{Allocator, Global};
 use std::io::Write;
 
@@ -22,6 +25,8 @@ use std::io::Write;
 pub struct Found {
     /// All entries but the root, in the order of the walk.
     pub entries: Vec<Kept>,
+    /// How the root was listed, and then each directory among the entries.
+    pub listings: Vec<Listing>,
     /// The paths of directories of which not all is known, behind the root. They may come twice and in any order.
     pub unread: Vec<String>,
     /// All could be read.
@@ -63,6 +68,7 @@ impl Found {
     {
         Found {
             entries: Vec::new(alloc),
+            listings: Vec::new(alloc),
             unread: Vec::new(alloc),
             clean: true,
         }
@@ -70,6 +76,7 @@ impl Found {
 
     fn miss(&mut self, alloc: Global, place: &str) -> Result<(), Failure>
         ensures entries { self.new.entries ≡ self.old.entries }
+        ensures listings { self.new.listings ≡ self.old.listings }
         ensures unclean { self.new.clean ≡ false }
     {
         self.clean = false;
@@ -86,6 +93,7 @@ impl Found {
         err: &mut E,
     ) -> Result<(), Failure>
         ensures entries { self.new.entries ≡ self.old.entries }
+        ensures listings { self.new.listings ≡ self.old.listings }
         ensures unclean { self.new.clean ≡ false }
     {
         report(error, err);
@@ -96,6 +104,7 @@ impl Found {
     fn keep(&mut self, alloc: Global, tree: &Tree, path: &str, facts: Facts) -> Result<(), Failure>
         ensures kept { OnOk result (map seen_of self.new.entries.items
             ≡ map seen_of self.old.entries.items ++ kept_one (own_in tree.now) path.now facts) }
+        ensures listings { self.new.listings ≡ self.old.listings }
         ensures clean { self.new.clean ≡ self.old.clean }
     {
         if tree.counts(path) {
@@ -105,7 +114,25 @@ impl Found {
         Ok(())
     }
 
-    /// Keeps an entry below the root.
+    /// Keeps how the directory of an entry was listed, if it is one that counts, with this path behind the root.
+    fn keep_listing<C: ClientState, A: Allocator + Copy>(
+        &mut self,
+        tree: &Tree,
+        path: &str,
+        found: &DirEntry<C, A>,
+    ) -> Result<(), Failure>
+        ensures listed { OnOk result (self.new.listings.items
+            ≡ self.old.listings.items ++ listed_below tree.now path.now (entry found.now)) }
+        ensures entries { self.new.entries ≡ self.old.entries }
+        ensures clean { self.new.clean ≡ self.old.clean }
+    {
+        if tree.counts(path) && found.file_type().is_dir() {
+            self.listings.push(listing_seen(tree, path, found))?;
+        }
+        Ok(())
+    }
+
+    /// Keeps an entry below the root, and how its directory was listed.
     fn keep_entry<C: ClientState, A: Allocator + Copy>(
         &mut self,
         alloc: Global,
@@ -114,13 +141,18 @@ impl Found {
     ) -> Result<(), Failure>
         ensures kept { OnOk result (map seen_of self.new.entries.items
             ≡ map seen_of self.old.entries.items ++ found_at (front_in tree.now) (own_in tree.now) (entry found.now)) }
+        ensures listed { OnOk result (self.new.listings.items
+            ≡ self.old.listings.items ++ listed_at tree.now (entry found.now)) }
         ensures clean { self.new.clean ≡ self.old.clean }
     {
         if found.depth() == 0 {
+            self.listings.push(listing_seen(tree, "", found))?;
             return Ok(());
         }
         let path = found.path()?;
-        self.keep(alloc, tree, tree.behind(path.as_str()), facts_of(found))
+        let path = tree.behind(path.as_str());
+        self.keep(alloc, tree, path, facts_of(found))?;
+        self.keep_listing(tree, path, found)
     }
 
     /// Notes that not all is known of an entry's directory.
@@ -131,6 +163,7 @@ impl Found {
         found: &DirEntry<C, A>,
     ) -> Result<(), Failure>
         ensures entries { self.new.entries ≡ self.old.entries }
+        ensures listings { self.new.listings ≡ self.old.listings }
         ensures unclean { OnOk result (self.new.clean ≡ false) }
     {
         if found.depth() == 0 {
@@ -149,6 +182,7 @@ impl Found {
         err: &mut E,
     ) -> Result<(), Failure>
         ensures entries { self.new.entries ≡ self.old.entries }
+        ensures listings { self.new.listings ≡ self.old.listings }
         ensures clean { OnOk result (self.new.clean ≡ (self.old.clean && is_read (entry found.now))) }
     {
         if let Some(error) = found.read_children_error() {
@@ -169,7 +203,7 @@ impl Found {
         found: &DirEntry<C, A>,
         err: &mut E,
     ) -> Result<(), Failure>
-        ensures { OnOk result (TakesOne (front_in tree.now) (own_in tree.now) (Ok (entry found.now)) self.old self.new) }
+        ensures { OnOk result (TakesOne tree.now (Ok (entry found.now)) self.old self.new) }
     {
         self.keep_entry(alloc, tree, found)?;
         self.note(alloc, tree, found, err)
@@ -182,7 +216,7 @@ impl Found {
         answer: &Answer<DirEntry<C, A>, A>,
         err: &mut E,
     ) -> Result<(), Failure>
-        ensures { OnOk result (TakesOne (front_in tree.now) (own_in tree.now) (item answer.now) self.old self.new) }
+        ensures { OnOk result (TakesOne tree.now (item answer.now) self.old self.new) }
     {
         match answer {
             Ok(found) => self.take_entry(alloc, tree, found, err),
@@ -200,7 +234,7 @@ impl Found {
         requires can { I.can_next answers.old }
         requires ends { IsFinite (I.remaining answers.old) }
         requires none { HasNone self.old }
-        ensures { OnOk result (TakesAll I.next_gives (front_in tree.now) (own_in tree.now) answers.old self.new) }
+        ensures { OnOk result (TakesAll I.next_gives tree.now answers.old self.new) }
     {
         while let Some(answer) = answers.next() {
             self.take_one(alloc, tree, &answer, err)?;

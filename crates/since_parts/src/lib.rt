@@ -8,6 +8,8 @@ pub mod failure;
 pub mod found;
 pub mod held;
 pub mod line;
+mod listing;
+pub mod records;
 pub mod row;
 pub mod saved;
 pub mod tree;

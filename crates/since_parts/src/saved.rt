@@ -1,9 +1,10 @@
 //! The snapshot of what a walk finds.
-ghost use Rattle.std.specs.Prelude.{◌≡◌, true, map, string_bytes, IfOk};
-ghost use Rattle.jwalk_snapshot.specs.Text.{text_in};
-ghost use Rattle.since_parts.specs.Saved.{keeps, AreSame, IsSame, IsTextOf};
+ghost use Rattle.std.specs.Prelude.{◌≡◌, [], ◌∷◌, true, map, string_bytes, IfOk};
+ghost use Rattle.jwalk_snapshot.specs.Text.{content_of, folder_of, text_in};
+ghost use Rattle.since_parts.specs.Saved.{dir_paths, keeps, listing_in, path_in, AreSame, IsSame, IsTextOf, KeepsAll};
 
 use crate::failure::Failure;
+use crate::found::Found;
 use crate::held::{Held, all_held};
 use crate::tree::Tree;
 use jwalk_changes::{Entry, Facts as Compared, Kept};
@@ -11,12 +12,13 @@ use jwalk_fs::path_text::{file_name, parent};
 use jwalk_snapshot::{Block, Facts, Head, Listing, Name, Snapshot, SnapshotError};
 use program_parts::halt::Halt;
 use std::alloc::{AllocError, Global};
-use std::io::Write;
 
 /// The directories of a snapshot that is made.
 #[derive(Drop)]
 struct Blocks<'a> {
     all: Vec<Block<'a>>,
+    // How each of them was listed, and those to come.
+    listings: &'a [Listing],
     // Which of them are above the last entry, the root first.
     open: Vec<usize>,
 }
@@ -35,10 +37,15 @@ fn kept_of(facts: Compared) -> Option<Facts> {
 
 impl<'a> Blocks<'a> {
     fn begin(&mut self, alloc: Global, path: &'a str) -> Result<(), AllocError> {
-        self.open.push(self.all.len())?;
+        let place = self.all.len();
+        let listing = match self.listings.get(place) {
+            Some(listing) => *listing,
+            None => Listing::Unstamped,
+        };
+        self.open.push(place)?;
         self.all.push(Block {
             path,
-            listing: Listing::Unstamped,
+            listing,
             names: Vec::new(alloc),
         })?;
         Ok(())
@@ -95,14 +102,15 @@ impl<'a> Blocks<'a> {
     }
 }
 
-/// Returns the directories of entries in the order of a walk.
-fn blocks_of<'a>(alloc: Global, entries: &'a [Kept]) -> Result<Vec<Block<'a>>, AllocError> {
+/// Returns the directories of what was found, in the order of the walk.
+fn blocks_of<'a>(alloc: Global, found: &'a Found) -> Result<Vec<Block<'a>>, AllocError> {
     let mut blocks = Blocks {
         all: Vec::new(alloc),
+        listings: &found.listings,
         open: Vec::new(alloc),
     };
     blocks.begin(alloc, "")?;
-    for entry in entries {
+    for entry in &found.entries {
         blocks.add(alloc, entry)?;
     }
     Ok(blocks.all)
@@ -140,6 +148,56 @@ fn are_same(kept: &[Held<'_, '_>], found: &[Kept]) -> bool
     true
 }
 
+/// Returns whether directories are those among these entries.
+fn are_below(blocks: &[Block<'_>], entries: &[Kept]) -> bool
+    ensures { result ≡ true → map path_in (map folder_of blocks.now) ≡ dir_paths entries.now }
+{
+    let mut left = blocks;
+    for entry in entries {
+        if entry.facts.file_type.is_dir() {
+            let [block, others @ ..] = left else {
+                return false;
+            };
+            if block.path != entry.path.as_str() {
+                return false;
+            }
+            left = others;
+        }
+    }
+    left.is_empty()
+}
+
+/// Returns whether directories are the root, and then those among these entries.
+fn are_dirs(blocks: &[Block<'_>], entries: &[Kept]) -> bool
+    ensures { result ≡ true → map path_in (map folder_of blocks.now) ≡ [] ∷ dir_paths entries.now }
+{
+    let [root, below @ ..] = blocks else {
+        return false;
+    };
+    root.path.is_empty() && are_below(below, entries)
+}
+
+fn is_listed_as(block: &Block<'_>, listing: Listing) -> bool
+    ensures { result ≡ true → block.now.listing ≡ listing }
+{
+    block.listing == listing
+}
+
+/// Returns whether directories were listed in these ways, one after another.
+fn have_listings(blocks: &[Block<'_>], listings: &[Listing]) -> bool
+    ensures { result ≡ true → map listing_in (map folder_of blocks.now) ≡ listings.now }
+{
+    if blocks.len() != listings.len() {
+        return false;
+    }
+    for at in 0..blocks.len() {
+        if !is_listed_as(&blocks[at], listings[at]) {
+            return false;
+        }
+    }
+    true
+}
+
 /// Returns texts that are borrowed.
 fn texts_of<'t>(alloc: Global, words: &'t [String]) -> Result<Vec<&'t str>, AllocError>
     ensures { IfOk result (λ texts. map text_in texts.items ≡ map string_bytes words.now) }
@@ -151,16 +209,22 @@ fn texts_of<'t>(alloc: Global, words: &'t [String]) -> Result<Vec<&'t str>, Allo
     Ok(texts)
 }
 
+/// Returns whether directories hold just what was found, and were listed as they were found.
+fn keep_all(alloc: Global, snapshot: &Snapshot<'_>, found: &Found) -> Result<bool, AllocError>
+    ensures { IfOk result (λ keep. keep ≡ true → KeepsAll found.now (content_of snapshot.now)) }
+{
+    let kept = all_held(alloc, snapshot, true)?;
+    Ok(
+        are_same(&kept, &found.entries)
+            && are_dirs(&snapshot.blocks, &found.entries)
+            && have_listings(&snapshot.blocks, &found.listings),
+    )
+}
+
 /// Returns the text of the snapshot of what is found, which is compared with that. It has the words for what of the tree
 /// was looked at.
-pub fn saved_text<E: Write>(
-    alloc: Global,
-    file: &str,
-    tree: &Tree,
-    entries: &[Kept],
-    err: &mut E,
-) -> Result<String, Failure>
-    ensures { IfOk result (λ text. IsTextOf (string_bytes tree.now.absolute) tree.now.choice entries.now (string_bytes text)) }
+pub fn saved_text(alloc: Global, file: &str, tree: &Tree, found: &Found) -> Result<String, Failure>
+    ensures { IfOk result (λ text. IsTextOf (string_bytes tree.now.absolute) tree.now.choice found.now (string_bytes text)) }
 {
     let words = tree.choice.words(alloc)?;
     let words = texts_of(alloc, &words)?;
@@ -169,19 +233,14 @@ pub fn saved_text<E: Write>(
         absolute: tree.absolute.as_str(),
         words,
     };
-    let blocks = blocks_of(alloc, entries)?;
+    let blocks = blocks_of(alloc, found)?;
     let snapshot = Snapshot { head, blocks };
-    let kept = all_held(alloc, &snapshot, true)?;
-    if !are_same(&kept, entries) {
-        let _ = writeln!(err, "since: {file}: what was found can't be kept");
-        return Err(Failure::Told);
+    if !keep_all(alloc, &snapshot, found)? {
+        return Err(Failure::at(alloc, file, &"what was found can't be kept"));
     }
     match snapshot.to_text(alloc) {
         Ok(text) => Ok(text),
         Err(SnapshotError::Memory) => Err(Failure::Halt(Halt::Memory)),
-        Err(error) => {
-            let _ = writeln!(err, "since: {file}: {error}");
-            Err(Failure::Told)
-        }
+        Err(error) => Err(Failure::at(alloc, file, &error)),
     }
 }

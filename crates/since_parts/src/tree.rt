@@ -1,17 +1,17 @@
 //! Which tree is compared, and what of it is left out.
 ghost use Rattle.std.specs.Prelude.{◌≡◌, ◌++◌, Ok, [], option_map, option_copied, string_bytes, IfOk};
 ghost use Rattle.jwalk_model.specs.Paths.{join};
-ghost use Rattle.since_parts.specs.Tree.{behind, folder_in, front_of, is_temporary, is_own, own_below, own_texts, strip, IsOwnOf, IsTree};
+ghost use Rattle.since_parts.specs.Tree.{behind, folder_in, front_of, holds, is_temporary, is_own, own_below, own_texts, strip, IsOwnOf, IsTree};
 
 use crate::choice::Choice;
 use crate::failure::Failure;
 use jwalk_fs::fault::Fault;
 use jwalk_fs::path_text::{file_name, join, parent};
 use jwalk_ignore_rules::texts::Texts;
+use jwalk_model::metadata::Moment;
 use jwalk_snapshot::file::TEMPORARY;
 use program_parts::halt::Halt;
 use std::alloc::{AllocError, Global};
-use std::io::Write;
 
 /// A tree that is compared with a snapshot.
 #[derive(Drop)]
@@ -22,27 +22,21 @@ pub struct Tree {
     pub absolute: String,
     /// What of it is compared.
     pub choice: Choice,
+    /// A time before that of the walk.
+    pub start: Moment,
     // The root with a slash behind it.
     front: String,
     // The path of the file with the snapshot behind the root, if it lies below that.
     own: Option<String>,
 }
 
-fn absolute<X: Texts, E: Write>(
-    alloc: Global,
-    texts: &X,
-    path: &str,
-    err: &mut E,
-) -> Result<String, Failure>
+fn absolute<X: Texts>(alloc: Global, texts: &X, path: &str) -> Result<String, Failure>
     ensures { X.IsFixed texts.now → IfOk result (λ it. (X.functions texts.now).absolute_of path.now ≡ Ok (string_bytes it)) }
 {
     match texts.absolute(alloc, path) {
         Ok(absolute) => Ok(absolute),
         Err(Fault::Memory) => Err(Failure::Halt(Halt::Memory)),
-        Err(Fault::Io(error)) => {
-            let _ = writeln!(err, "since: {path}: {error}");
-            Err(Failure::Told)
-        }
+        Err(Fault::Io(error)) => Err(Failure::at(alloc, path, &error)),
     }
 }
 
@@ -91,18 +85,17 @@ fn own_below(
 }
 
 /// Returns the path of a file behind a root, if it lies below that.
-fn own_of<X: Texts, E: Write>(
+fn own_of<X: Texts>(
     alloc: Global,
     texts: &X,
     file: &str,
     root: &str,
-    err: &mut E,
 ) -> Result<Option<String>, Failure>
     ensures { X.IsFixed texts.now → IfOk result (λ own. IsOwnOf (X.functions texts.now) file.now root.now (own_texts own)) }
 {
     match file_name(file) {
         Some(name) => {
-            let folder = absolute(alloc, texts, folder_in(file), err)?;
+            let folder = absolute(alloc, texts, folder_in(file))?;
             let own = own_below(alloc, folder.as_str(), name, root)?;
             Ok(own)
         }
@@ -127,30 +120,40 @@ fn is_own(own: &str, path: &str) -> bool
     }
 }
 
-impl Tree {
-    ghost use Rattle.since_parts.specs.Tree.{counts, front_in, own_in};
+/// Returns whether a file lies in the directory with this path.
+fn holds(own: &str, path: &str) -> bool
+    ensures { result ≡ holds own.now path.now }
+{
+    parent(own) == Some(path)
+}
 
-    /// Returns what is chosen of the tree below a root, of which a file and its temporary names are left out.
-    pub fn new<X: Texts, E: Write>(
+impl Tree {
+    ghost use Rattle.since_parts.specs.Tree.{counts, front_in, keeps_all, own_in};
+
+    /// Returns what is chosen of the tree below a root, of which a file and its temporary names are left out. The walk
+    /// begins after `start`.
+    pub fn new<X: Texts>(
         alloc: Global,
         texts: &X,
         file: &str,
         root: &str,
         choice: Choice,
-        err: &mut E,
+        start: Moment,
     ) -> Result<Self, Failure>
         ensures choice { IfOk result (λ tree. tree.choice ≡ choice) }
+        ensures start { IfOk result (λ tree. tree.start ≡ start) }
         ensures root { IfOk result (λ tree. string_bytes tree.root ≡ root.now) }
         ensures front { IfOk result (λ tree. front_in tree ≡ front_of root.now) }
         ensures own { X.IsFixed texts.now → IfOk result (IsTree (X.functions texts.now) file.now root.now) }
     {
-        let absolute = absolute(alloc, texts, root, err)?;
-        let own = own_of(alloc, texts, file, absolute.as_str(), err)?;
+        let absolute = absolute(alloc, texts, root)?;
+        let own = own_of(alloc, texts, file, absolute.as_str())?;
         Ok(Tree {
             root: String::from_str(alloc, root)?,
             front: join(alloc, root, "")?,
             absolute,
             choice,
+            start,
             own,
         })
     }
@@ -168,6 +171,19 @@ impl Tree {
     {
         match &self.own {
             Some(own) => !is_own(own, path),
+            None => true,
+        }
+    }
+
+    /// Returns whether no name is left out of the directory with this path behind the root.
+    pub fn keeps_all(&self, path: &str) -> bool
+        ensures { result ≡ keeps_all self.now path.now }
+    {
+        if self.choice.exclude_hidden {
+            return false;
+        }
+        match &self.own {
+            Some(own) => !holds(own, path),
             None => true,
         }
     }

@@ -1,2 +1,3 @@
 mod FindFacts
+mod CompareFacts
 mod RunFacts

@@ -1,94 +1,122 @@
 -- The steps of a call.
-use Rattle.std.proofs.Common.{◌≡◌, ◌∙◌, ◌≤◌, ℕ, true, false, List, Option, None, Some, Ok, Err, ap, inl, inr, string_bytes, subst, sym}
-use Rattle.std.specs.Prelude.{IfOk, Result}
+use Rattle.std.proofs.Common.{◌≡◌, ◌∙◌, ◌≤◌, ℕ, Bool, true, false, List, Option, None, Some, Ok, Err, arith, inl, inr, string_bytes, subst, sym}
+use Rattle.std.specs.Prelude.{◌==◌, ◌⊎◌, length, IfOk, OnErr, Result, if◌then◌else◌}
 use Rattle.std.proofs.lemmas.Result.{IfOk-weaker}
-use Rattle.std.specs.IoError.{error_kind}
 use Rattle.std.specs.declared.alloc.Global.{Global}
-use Rattle.std.specs.declared.io.Error.{Error}
 use Rattle.std.specs.declared.string.String.{String}
 use Rattle.std.specs.declared.sync.Arc.{Arc}
 use Rattle.std.specs.declared.vec.Vec.{Vec}
-use Rattle.jwalk_ignore_rules.specs.declared.rules.texts.Texts as Texts
+use Rattle.jwalk.specs.jwalk_model.declared.metadata.Moment.{Moment}
 use Rattle.jwalk.specs.jwalk_fs.declared.file_system.FileSystem as FileSystem
-use Rattle.jwalk.specs.jwalk_job.declared.dir_entry.DirEntry.{DirEntry}
-use Rattle.jwalk.specs.jwalk_job.declared.error.Error.{Error as WalkError}
 use Rattle.jwalk.specs.declared.crew.Crew.{Crew}
-use Rattle.jwalk_changes.specs.declared.entry.Kept.{Kept}
+use Rattle.jwalk_ignore_rules.specs.declared.rules.texts.Texts as Texts
+use Rattle.jwalk_indexed_fs.specs.declared.indexed_fs.IndexedFs.{IndexedFs}
+use Rattle.jwalk_snapshot.specs.Text.{Content}
+use Rattle.program_walks.specs.Crew.{CrewCallsOf, IsCrewOf, threads_in}
+use Rattle.since_words.specs.Asks.{AskFor}
 use Rattle.since_words.specs.declared.asked.Asked.{Asked}
-use Rattle.since_parts.specs.declared.choice.Choice.{Choice}
-use Rattle.since_parts.specs.declared.tree.Tree.{Tree}
-use Rattle.std.specs.Io.KnownBytes.{Appends}
 use Rattle.since_parts.specs.Differences.{Difference}
+use Rattle.since_parts.specs.declared.found.Found.{Found}
+use Rattle.since_parts.specs.declared.tree.Tree.{Tree}
+use Rattle.since_run.specs.Compared.{ComparesAll, ComparesBytes, ComparesQuickly}
+use Rattle.since_run.specs.Done.{Begins, ComparesFile, DoesAsked, EndsWith, Lists, ListsFile, MakesFile, SavesAsked, Tells}
+use Rattle.since_run.specs.Run.{status_for, HasTextAsked, IsLoaded, ReplacesBy}
+use Rattle.since_run.specs.declared.compare.Told.{Told}
 use Rattle.since_run.specs.declared.screen.Screen.{Screen}
 use Rattle.since_run.specs.declared.store.Store as Store
-use Rattle.since_run.specs.Done.{Begins, ComparesBytes, Lists, LooksAt, SavesAsked, Tells}
-use Rattle.program_walks.specs.Crew.{CrewCallsOf, IsCrewOf, threads_in}
-use Rattle.since_run.specs.Walks.{WalkYields}
-use Rattle.since_run.specs.Run.{HasTextAsked, IsLoaded, IsMissing, ReplacesBy, text_asked}
-
--- a file that is missing, and is to be made
-pub loaded_missing : {X : Type 0} (texts : Texts.Ghosts X) (reads : X) (asked : Asked) (error : Error) (found : Option (Vec ℕ Global))
-    → (texts.IsFixed reads → (texts.functions reads).bytes_of asked.file.now ≡ Err (error_kind error)) → IsMissing asked error found → IsLoaded texts reads asked found
-loaded_missing texts reads asked error found fails is =
-    subst (IsLoaded texts reads asked) (sym is.none) (is.made, λ fixed. fails fixed ∙ ap Err is.kind)
 
 -- a text that is saved, if one is to be
-pub saves_asked : {K : Type 0} (replaces : K → List ℕ → List ℕ → K → Type 0) (asked : Asked) (tree : Tree) (entries : List (Kept Global)) (text : Option (String Global)) (old new : K)
-    → HasTextAsked asked tree entries text → ReplacesBy replaces asked.file.now old text new → SavesAsked replaces asked tree entries old new
-saves_asked replaces asked tree entries None old new has done = inl (has, done)
-saves_asked replaces asked tree entries (Some text) old new has done = inr (has.0, string_bytes text, has.1, done)
+pub saves_asked : {K : Type 0} (replaces : K → List ℕ → List ℕ → K → Type 0) (asked : Asked) (tree : Tree) (found : Found) (text : Option (String Global)) (old new : K)
+    → HasTextAsked asked tree found text → ReplacesBy replaces asked.file.now old text new → SavesAsked replaces asked tree found old new
+saves_asked replaces asked tree found None old new has done = inl (has, done)
+saves_asked replaces asked tree found (Some text) old new has done = inr (has.0, string_bytes text, has.1, done)
 
--- a walk of the same choice below the same root
-pub yields_at : {T C Z N A R E : Type 0} (files : FileSystem.Ghosts Z) (calls : CrewCallsOf T C (Arc Z A) N A R E) (disk : Z) (crew : Option (Arc (Crew T) A)) (yielded : List (Result (DirEntry C A R E) (WalkError A))) (choice chosen : Choice) (root other : List ℕ)
-    → choice ≡ chosen → root ≡ other → WalkYields files calls disk crew choice root yielded → WalkYields files calls disk crew chosen other yielded
-yields_at files calls disk crew yielded choice chosen root other alike same yields =
-    subst (λ (c : Choice). WalkYields files calls disk crew c other yielded) alike (subst (λ r. WalkYields files calls disk crew choice r yielded) same yields)
+low_if : (b : Bool) → (if b then 0 else 1) ≤ 1
+low_if true = omega arith
+low_if false = omega arith
 
--- what is found of the same choice below the same root
-pub looks_at : {T Z X C N R E : Type 0} (files : FileSystem.Ghosts Z) (texts : Texts.Ghosts X) (calls : CrewCallsOf T C (Arc Z Global) N Global R E) (disk : Z) (reads : X) (crew : Option (Arc (Crew T) Global)) (file root other : List ℕ) (choice chosen : Choice) (tree : Tree) (new : List (Kept Global))
-    → root ≡ other → choice ≡ chosen → LooksAt files texts calls disk reads crew file root choice tree new → LooksAt files texts calls disk reads crew file other chosen tree new
-looks_at files texts calls disk reads crew file root other choice chosen tree new same alike looks =
-    subst (λ (c : Choice). LooksAt files texts calls disk reads crew file other c tree new) alike (subst (λ r. LooksAt files texts calls disk reads crew file r choice tree new) same looks)
+-- the status of differences is 0 or 1
+pub status_low : (changes : List Difference) → status_for changes ≤ 1
+status_low changes = low_if (length changes == 0)
 
--- the lines of the same differences
-pub written_at : (asked : Asked) (screen : Screen) (before after : Option (List ℕ)) (these others : List Difference) → these ≡ others
-    → Appends before after (text_asked asked screen these) → Appends before after (text_asked asked screen others)
-written_at asked screen before after these others same written = subst (λ l. Appends before after (text_asked asked screen l)) same written
+none_above : (n : ℕ) → n ≤ 1 → n ≡ 2 → ⊥
+none_above n low is = omega (arith, low, is)
 
--- what is known of a value that is there
-pub ok_known : {X Y : Type 0} (r : Result X Y) (v : X) (P : X → Type 0) → r ≡ Ok v → IfOk r P → P v
-ok_known {X} {Y} r v P is said = subst (λ (o : Result X Y). IfOk o P) is said
+module _ {K : Type 0} (replaces : K → List ℕ → List ℕ → K → Type 0) (asked : Asked) (told : Told) (low : told.status ≤ 1) (old new : K) (status : ℕ) where
+  -- a call that told 0 or 1 ends with 0, 1 or 2
+  pub ends_low : EndsWith replaces asked told old new status → status ≤ 2
+  ends_low (inl (clean, is, saves)) = omega (arith, low, is)
+  ends_low (inr (unclean, is, unsaved)) = omega (arith, is)
 
--- what is known of a status that says what was found, if it is low
-pub low_known : {X Y : Type 0} (r : Result X Y) (Low : X → Type 0) (C : Type 0) (P Q : X → Type 0) → IfOk r (λ x. Low x → C) → IfOk r (λ x. Low x → P x) → IfOk r (λ x. Low x → Q x) → IfOk r (λ x. Low x → C × (P x × Q x))
-low_known (Ok x) Low C P Q c p q = λ low. (c low, (p low, q low))
-low_known (Err e) Low C P Q c p q = tt
+  -- and with 2 it saved nothing
+  pub ends_unsaved : EndsWith replaces asked told old new status → status ≡ 2 → new ≡ old
+  ends_unsaved (inl (clean, is, saves)) two = absurd (none_above told.status low (sym is ∙ two))
+  ends_unsaved (inr (unclean, is, unsaved)) two = unsaved
 
-module _ {T Z X K C N R E Y : Type 0} (files : FileSystem.Ghosts Z) (texts : Texts.Ghosts X) (store : Store.Ghosts K) (calls : CrewCallsOf T C (Arc Z Global) N Global R E)
-    (disk shared : Z) (reads : X) (cores threads : ℕ) (crew : Option (Arc (Crew T) Global)) (asked : Asked) (screen : Screen) (before after : Option (List ℕ)) (old new : K) (found : Option (Vec ℕ Global)) (ended : Result ℕ Y) where
+module _ {T Z X K C N R E D M H F : Type 0} (files : FileSystem.Ghosts Z) (texts : Texts.Ghosts X) (store : Store.Ghosts K) (calls : CrewCallsOf T C (Arc Z Global) N Global R E) (quick_calls : CrewCallsOf T D (Arc (IndexedFs Z) Global) M Global H F)
+    (disk : Z) (reads : X) (cores : ℕ) (start : Moment) (asked : Asked) (screen : Screen) (before after : Option (List ℕ)) (old new : K) where
+  told_either : (crew : Option (Arc (Crew T) Global)) (snapshot : Content) (told : Told)
+      → ((asked.quick ≡ false) × ComparesAll files texts calls disk reads crew start asked screen snapshot before after told)
+      ⊎ ((asked.quick ≡ true) × ComparesQuickly files texts quick_calls disk reads crew start asked screen snapshot before after told) → told.status ≤ 1
+  told_either crew snapshot told (inl (all, it)) = subst (λ (n : ℕ). n ≤ 1) (sym it.writes.tells) (status_low it.writes.changes)
+  told_either crew snapshot told (inr (quick, it)) = subst (λ (n : ℕ). n ≤ 1) (sym it.compares.writes.tells) (status_low it.compares.writes.changes)
+
+  told_low : (crew : Option (Arc (Crew T) Global)) (bytes : List ℕ) (told : Told) → ComparesBytes files texts calls quick_calls disk reads crew start asked screen bytes before after told → told.status ≤ 1
+  told_low crew bytes told it = told_either crew it.snapshot told it.either
+
+  zero_low : (n : ℕ) → n ≡ 0 → n ≤ 1
+  zero_low n is = omega (arith, is)
+
+  abbrev Either : Option (Arc (Crew T) Global) → ℕ → Type 0
+  Either crew status = MakesFile files texts store calls quick_calls disk reads crew start asked before after old new status
+      ⊎ (ListsFile files texts store calls quick_calls reads asked screen before after old new status ⊎ ComparesFile files texts store calls quick_calls disk reads crew start asked screen before after old new status)
+
+  low_either : (crew : Option (Arc (Crew T) Global)) (status : ℕ) → Either crew status → status ≤ 2
+  low_either crew status (inl it) = ends_low store.Replaces asked it.begins.told (zero_low it.begins.told.status it.begins.none) old new status it.begins.ends
+  low_either crew status (inr (inl it)) = omega (arith, it.lists.none)
+  low_either crew status (inr (inr it)) = ends_low store.Replaces asked it.told (told_low crew it.bytes it.told it.compares) old new status it.ends
+
+  unsaved_either : (crew : Option (Arc (Crew T) Global)) (status : ℕ) → Either crew status → status ≡ 2 → new ≡ old
+  unsaved_either crew status (inl it) two = ends_unsaved store.Replaces asked it.begins.told (zero_low it.begins.told.status it.begins.none) old new status it.begins.ends two
+  unsaved_either crew status (inr (inl it)) two = it.unsaved
+  unsaved_either crew status (inr (inr it)) two = ends_unsaved store.Replaces asked it.told (told_low crew it.bytes it.told it.compares) old new status it.ends two
+
+  -- what a call did that ended with this status
+  abbrev pub Does : ℕ → Type 0
+  Does = Tells files texts store calls quick_calls disk reads cores start asked screen before after old new
+
+  -- the status of a call is 0, 1 or 2
+  pub run_low : {Y : Type 0} (ended : Result ℕ Y) (status : ℕ) → IfOk ended Does → IfOk ended (λ n. status ≡ n) → OnErr ended (status ≡ 2) → status ≤ 2
+  run_low (Ok n) status does same failed = subst (λ (k : ℕ). k ≤ 2) (sym same) (low_either does.crew n does.either)
+  run_low (Err e) status does same failed = omega (arith, failed)
+
+  -- it did what is asked for, or ended early
+  pub run_ends : {Y : Type 0} (ended : Result ℕ Y) (words : List (List ℕ)) (status : ℕ) (IsTold : Type 0) → AskFor words asked → IfOk ended Does → IfOk ended (λ n. status ≡ n) → OnErr ended (status ≡ 2) → OnErr ended IsTold
+      → DoesAsked files texts store calls quick_calls disk reads cores start words screen before after old new status ⊎ ((status ≡ 2) × IsTold)
+  run_ends (Ok n) words status IsTold asks does same failed told = inl (asked, asks, subst Does (sym same) does)
+  run_ends (Err e) words status IsTold asks does same failed told = inr (failed, told)
+
+  -- with 2 it saved nothing
+  pub run_unsaved : {Y : Type 0} (ended : Result ℕ Y) (status : ℕ) → IfOk ended Does → IfOk ended (λ n. status ≡ n) → OnErr ended (new ≡ old) → status ≡ 2 → new ≡ old
+  run_unsaved (Ok n) status does same kept two = unsaved_either does.crew n does.either (sym same ∙ two)
+  run_unsaved (Err e) status does same kept two = kept
+
   -- a first snapshot that is saved where there is no file
-  pub tells_made : shared ≡ disk → threads ≡ threads_in cores asked.threads → IsCrewOf threads crew → IsLoaded texts reads asked found → found ≡ None → after ≡ before
-      → IfOk ended (λ status. status ≤ 1 → Begins files texts store calls shared reads crew asked old new status)
-      → IfOk ended (λ status. status ≤ 1 → Tells files texts store calls disk reads cores asked screen before after old new status)
-  tells_made same many is_crew loaded none silent =
+  pub tells_made : {Y : Type 0} (ended : Result ℕ Y) (threads : ℕ) (crew : Option (Arc (Crew T) Global)) (found : Option (Vec ℕ Global)) → threads ≡ threads_in cores asked.threads → IsCrewOf threads crew → IsLoaded texts reads asked found → found ≡ None → after ≡ before
+      → IfOk ended (Begins files texts store calls disk reads crew start asked old new) → IfOk ended Does
+  tells_made ended threads crew found many is_crew loaded none silent =
       let missing = subst (IsLoaded texts reads asked) none loaded in
-      IfOk-weaker ended _ _ (λ status begun. λ low. record {
+      IfOk-weaker ended _ _ (λ status begins. record {
         crew = crew;
         is_crew = subst (λ (n : ℕ). IsCrewOf n crew) many is_crew;
-        either = inl (record {
-          missing = missing.1;
-          made = missing.0;
-          begins = subst (λ (d : Z). Begins files texts store calls d reads crew asked old new status) same (begun low);
-          silent = silent;
-        });
+        either = inl (record { missing = missing.1; made = missing.0; begins = begins; silent = silent });
       })
 
   -- a snapshot in a file that is listed
-  pub tells_listed : (bytes : Vec ℕ Global) → threads ≡ threads_in cores asked.threads → IsCrewOf threads crew → IsLoaded texts reads asked found → found ≡ Some bytes
-      → asked.lists ≡ true → new ≡ old → IfOk ended (Lists asked screen bytes.items before after)
-      → IfOk ended (λ status. status ≤ 1 → Tells files texts store calls disk reads cores asked screen before after old new status)
-  tells_listed bytes many is_crew loaded some listed unsaved =
-      IfOk-weaker ended _ _ (λ status lists. λ low. record {
+  pub tells_listed : {Y : Type 0} (ended : Result ℕ Y) (threads : ℕ) (crew : Option (Arc (Crew T) Global)) (found : Option (Vec ℕ Global)) (bytes : Vec ℕ Global) → threads ≡ threads_in cores asked.threads → IsCrewOf threads crew → IsLoaded texts reads asked found → found ≡ Some bytes
+      → asked.lists ≡ true → new ≡ old → IfOk ended (Lists asked screen bytes.items before after) → IfOk ended Does
+  tells_listed ended threads crew found bytes many is_crew loaded some listed unsaved =
+      IfOk-weaker ended _ _ (λ status lists. record {
         crew = crew;
         is_crew = subst (λ (n : ℕ). IsCrewOf n crew) many is_crew;
         either = inr (inl (record {
@@ -101,24 +129,19 @@ module _ {T Z X K C N R E Y : Type 0} (files : FileSystem.Ghosts Z) (texts : Tex
       })
 
   -- a snapshot in a file that is compared
-  pub tells_compared : (bytes : Vec ℕ Global) (tree : Tree) (entries : List (Kept Global)) (told : ℕ) (Clean : Type 0) → shared ≡ disk → threads ≡ threads_in cores asked.threads → IsCrewOf threads crew → IsLoaded texts reads asked found → found ≡ Some bytes
-      → asked.lists ≡ false → (Clean → ComparesBytes files texts calls shared reads crew asked screen bytes.items before after tree entries told)
-      → IfOk ended (λ status. status ≤ 1 → Clean × ((status ≡ told) × SavesAsked store.Replaces asked tree entries old new))
-      → IfOk ended (λ status. status ≤ 1 → Tells files texts store calls disk reads cores asked screen before after old new status)
-  tells_compared bytes tree entries told Clean same many is_crew loaded some compared compares =
-      IfOk-weaker ended _ _ (λ status saved. λ low.
-      let done = saved low in
-      let by_told = subst (λ (d : Z). ComparesBytes files texts calls d reads crew asked screen bytes.items before after tree entries told) same (compares done.0) in
-      record {
+  pub tells_compared : {Y : Type 0} (ended : Result ℕ Y) (threads : ℕ) (crew : Option (Arc (Crew T) Global)) (found : Option (Vec ℕ Global)) (bytes : Vec ℕ Global) (told : Told) → threads ≡ threads_in cores asked.threads → IsCrewOf threads crew → IsLoaded texts reads asked found → found ≡ Some bytes
+      → asked.lists ≡ false → ComparesBytes files texts calls quick_calls disk reads crew start asked screen bytes.items before after told
+      → IfOk ended (EndsWith store.Replaces asked told old new) → IfOk ended Does
+  tells_compared ended threads crew found bytes told many is_crew loaded some compared compares =
+      IfOk-weaker ended _ _ (λ status ends. record {
         crew = crew;
         is_crew = subst (λ (n : ℕ). IsCrewOf n crew) many is_crew;
         either = inr (inr (record {
           compared = compared;
           bytes = bytes.items;
           read = subst (IsLoaded texts reads asked) some loaded;
-          tree = tree;
-          entries = entries;
-          compares = subst (λ (s : ℕ). ComparesBytes files texts calls disk reads crew asked screen bytes.items before after tree entries s) (sym done.1.0) by_told;
-          saves = done.1.1;
+          told = told;
+          compares = compares;
+          ends = ends;
         }));
       })

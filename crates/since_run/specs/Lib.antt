@@ -1,3 +1,4 @@
 pub mod Walks
 pub mod Run
+pub mod Compared
 pub mod Done

@@ -1,12 +1,11 @@
 -- The steps of a call.
-use Rattle.std.specs.Prelude.{◌≡◌, ℕ, Bool, true, false, ◌==◌, ◌||◌, List, [], length, is_some, Option, None, Some, option_map, unwrap_or, Result, Ok, Err, string_bytes, if◌then◌else◌}
+use Rattle.std.specs.Prelude.{◌≡◌, ℕ, Bool, true, false, ◌==◌, ◌||◌, List, [], length, is_some, Option, None, Some, option_map, unwrap_or, Ok, Err, string_bytes, if◌then◌else◌}
 use Rattle.std.specs.IoError.{error_kind}
 use Rattle.std.specs.declared.alloc.Global.{Global}
 use Rattle.std.specs.declared.io.Error.{Error}
 use Rattle.std.specs.declared.io.ErrorKind.TheVariants.{NotFound}
 use Rattle.std.specs.declared.string.String.{String}
 use Rattle.std.specs.declared.vec.Vec.{Vec}
-use Rattle.jwalk_changes.specs.declared.entry.Kept.{Kept}
 use Rattle.jwalk_ignore_rules.specs.declared.rules.texts.Texts as Texts
 use Rattle.program_parts.specs.declared.paths.Style.{Style}
 use Rattle.jwalk_snapshot.specs.Text.{Content}
@@ -18,7 +17,7 @@ use Rattle.since_words.specs.declared.asked.Asked.{Asked}
 use Rattle.since_parts.specs.Saved.{IsTextOf}
 use Rattle.since_run.specs.declared.screen.Screen.{Screen}
 use Rattle.since_parts.specs.declared.choice.Choice.{Choice}
-use Rattle.since_parts.specs.declared.failure.Failure.{Failure}
+use Rattle.since_parts.specs.declared.found.Found.{Found}
 use Rattle.since_parts.specs.declared.tree.Tree.{Tree}
 
 -- what ends a line
@@ -76,17 +75,12 @@ abbrev pub IsLoaded : {X : Type 0} → Texts.Ghosts X → X → Asked → Option
 IsLoaded texts reads asked None = (asked.save ≡ true) × (texts.IsFixed reads → (texts.functions reads).bytes_of asked.file.now ≡ Err NotFound)
 IsLoaded texts reads asked (Some bytes) = texts.IsFixed reads → (texts.functions reads).bytes_of asked.file.now ≡ Ok bytes.items
 
--- A text is to be saved if that is asked for, and it is that of a snapshot of these entries.
-abbrev pub HasTextAsked : Asked → Tree → List (Kept Global) → Option (String Global) → Type 0
-HasTextAsked asked tree entries None = asked.save ≡ false
-HasTextAsked asked tree entries (Some text) = (asked.save ≡ true) × IsTextOf (string_bytes tree.absolute) tree.choice entries (string_bytes text)
+-- A text is to be saved if that is asked for, and it is that of a snapshot of what is found.
+abbrev pub HasTextAsked : Asked → Tree → Found → Option (String Global) → Type 0
+HasTextAsked asked tree found None = asked.save ≡ false
+HasTextAsked asked tree found (Some text) = (asked.save ≡ true) × IsTextOf (string_bytes tree.absolute) tree.choice found (string_bytes text)
 
 -- A file has this text now, if there is one, and else nothing changed.
 abbrev pub ReplacesBy : {K : Type 0} → (K → List ℕ → List ℕ → K → Type 0) → List ℕ → K → Option (String Global) → K → Type 0
 ReplacesBy replaces file old None new = new ≡ old
 ReplacesBy replaces file old (Some text) new = replaces old file (string_bytes text) new
-
--- A call that ended with 2, or with an error, saved nothing.
-abbrev pub IsUnsaved : {K : Type 0} → Result ℕ Failure → K → K → Type 0
-IsUnsaved (Ok status) old new = status ≡ 2 → new ≡ old
-IsUnsaved (Err failure) old new = new ≡ old

@@ -7,7 +7,6 @@ use since_parts::choice::Choice;
 use since_parts::failure::Failure;
 use since_words::asked::Asked;
 use std::alloc::{AllocError, Global};
-use std::io::Write;
 
 /// Returns whether words ask for what is compared.
 fn asks_choice(asked: &Asked<'_>) -> bool
@@ -46,48 +45,33 @@ fn spaced(alloc: Global, words: &[String]) -> Result<String, AllocError> {
     Ok(text)
 }
 
-/// Reports with which words a file was saved, since others are asked for.
-fn refuse_other<E: Write>(
-    alloc: Global,
-    file: &str,
-    held: Choice,
-    err: &mut E,
-) -> Result<(), AllocError> {
+/// Returns what is said where other words are asked for than those of a file.
+fn said_of_others(alloc: Global, held: Choice) -> Result<String, AllocError> {
     let words = held.words(alloc)?;
-    let _ = if words.is_empty() {
-        writeln!(
-            err,
-            "since: {file}: was saved without such words: with them, add --save"
-        )
-    } else {
-        let words = spaced(alloc, &words)?;
-        writeln!(
-            err,
-            "since: {file}: was saved with{words}: with other words, add --save"
-        )
-    };
-    Ok(())
+    if words.is_empty() {
+        return String::from_str(alloc, "was saved without such words: with them, add --save");
+    }
+    let words = spaced(alloc, &words)?;
+    format!(in alloc; "was saved with{words}: with other words, add --save")
 }
 
 /// Returns what is compared with a snapshot that has these words: what it is of, or what the words of the call ask for
 /// if it is replaced.
-pub(crate) fn choice_for<E: Write>(
+pub(crate) fn choice_for(
     alloc: Global,
     asked: &Asked<'_>,
     words: &[&str],
-    err: &mut E,
 ) -> Result<Choice, Failure>
     ensures { IfOk result (IsChoice asked.now (map text_in words.now)) }
 {
     let Some(held) = Choice::read(alloc, words)? else {
-        let file = asked.file;
-        let _ = writeln!(err, "since: {file}: was saved with words that aren't known");
-        return Err(Failure::Told);
+        let what = "was saved with words that aren't known";
+        return Err(Failure::at(alloc, asked.file, &what));
     };
     let choice = choice_asked(asked, held);
     if asked.save || is_same(choice, held) {
         return Ok(choice);
     }
-    refuse_other(alloc, asked.file, held, err)?;
-    Err(Failure::Told)
+    let said = said_of_others(alloc, held)?;
+    Err(Failure::at(alloc, asked.file, &said))
 }

@@ -2,9 +2,11 @@
 #![tactic(auto)]
 
 mod choice;
+mod compare;
 mod find;
 mod lines;
 mod rows;
 pub mod run;
 pub mod screen;
 pub mod store;
+mod style;

@@ -21,6 +21,7 @@ pub record Asks (rows : List Row) (asked : Asked) : Type 0 where
   pub file : asked.file.now ≡ file_in rows
   pub root : option_map text_in asked.root ≡ first_of (codes "root") rows
   pub save : asked.save ≡ is_named rows (codes "save")
+  pub quick : asked.quick ≡ is_named rows (codes "quick")
   pub lists : asked.lists ≡ is_named rows (codes "rows")
   pub long : asked.long ≡ is_named rows (codes "long")
   pub print0 : asked.print0 ≡ is_named rows (codes "print0")

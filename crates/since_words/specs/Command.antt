@@ -20,7 +20,7 @@ place_rules = file_rule ∷ tree_rule ∷ []
 -- the options
 abbrev pub option_rules : List Rule
 option_rules =
-    long_flag_rule (codes "save") ∷ long_flag_rule (codes "rows") ∷ flag_rule (codes "long") 108 ∷ flag_rule (codes "print0") 48 ∷ flag_rule (codes "quiet") 113 ∷ threads_rule ∷ []
+    long_flag_rule (codes "save") ∷ long_flag_rule (codes "quick") ∷ long_flag_rule (codes "rows") ∷ flag_rule (codes "long") 108 ∷ flag_rule (codes "print0") 48 ∷ flag_rule (codes "quiet") 113 ∷ threads_rule ∷ []
 
 -- the greatest depth, which is at least 1
 abbrev pub depth_rule : Rule

@@ -9,6 +9,8 @@ pub struct Asked<'w> {
     pub root: Option<&'w str>,
     /// The file is replaced by what is found.
     pub save: bool,
+    /// Names and types alone are compared, and of unchanged directories the names in the file are taken.
+    pub quick: bool,
     /// The entries that the file has are listed in rows, and nothing is compared.
     pub lists: bool,
     /// Behind the path of what changed is written what differs.

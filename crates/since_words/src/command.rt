@@ -46,6 +46,11 @@ fn options<'a>(alloc: Global) -> Result<Vec<Arg<'a>>, AllocError>
         ),
         long_flag(
             alloc,
+            "quick",
+            "Compare names and types alone, and list only directories that changed"
+        ),
+        long_flag(
+            alloc,
             "rows",
             "Write a row for each entry in FILE, and compare nothing: path, type, length, time, number"
         ),

@@ -2,7 +2,7 @@
 ghost use Rattle.std.specs.Prelude.{◌≡◌, is_some, map, IfOk, IfErr, option_map};
 ghost use Rattle.clap.specs.Words.{first_of, found_of, rows_of};
 ghost use Rattle.since_words.specs.Asks.{file_in, text_in, AskFor, Asks};
-ghost use Rattle.since_words.specs.Refusal.{asks_compared, has_conflict, IsRefusedFor};
+ghost use Rattle.since_words.specs.Refusal.{asks_compared, asks_more, has_conflict, IsRefusedFor};
 
 use crate::asked::Asked;
 use crate::command::command;
@@ -36,6 +36,7 @@ fn asked_of<'w>(found: &ArgMatches<'w>) -> Asked<'w>
         file: file_of(found),
         root: value_of(found, "root"),
         save: is_named(found, "save"),
+        quick: is_named(found, "quick"),
         lists: is_named(found, "rows"),
         long: is_named(found, "long"),
         print0: is_named(found, "print0"),
@@ -53,6 +54,8 @@ fn compared_option(found: &ArgMatches<'_>) -> Option<&'static str>
 {
     if is_named(found, "save") {
         Some("save")
+    } else if is_named(found, "quick") {
+        Some("quick")
     } else if is_named(found, "exclude-hidden") {
         Some("exclude-hidden")
     } else if is_named(found, "one-file-system") {
@@ -64,15 +67,34 @@ fn compared_option(found: &ArgMatches<'_>) -> Option<&'static str>
     }
 }
 
-/// Returns an option that rows exclude, if they are asked for: they are of a file as it is.
-fn conflict_of(found: &ArgMatches<'_>) -> Option<&'static str>
-    ensures { is_some result ≡ has_conflict (rows_of (found_of found.now)) }
+/// Returns an option that needs more than names and types.
+fn more_option(found: &ArgMatches<'_>) -> Option<&'static str>
+    ensures { is_some result ≡ asks_more (rows_of (found_of found.now)) }
 {
-    if is_named(found, "rows") {
-        compared_option(found)
+    if is_named(found, "save") {
+        Some("save")
+    } else if is_named(found, "one-file-system") {
+        Some("one-file-system")
     } else {
         None
     }
+}
+
+/// Returns two options that exclude each other: rows are of a file as it is, and quick comparisons of names and types.
+fn conflict_of(found: &ArgMatches<'_>) -> Option<(&'static str, &'static str)>
+    ensures { is_some result ≡ has_conflict (rows_of (found_of found.now)) }
+{
+    if is_named(found, "rows")
+        && let Some(other) = compared_option(found)
+    {
+        return Some(("rows", other));
+    }
+    if is_named(found, "quick")
+        && let Some(other) = more_option(found)
+    {
+        return Some(("quick", other));
+    }
+    None
 }
 
 /// Reads the words of a call, of which the first is the program's name.
@@ -85,8 +107,8 @@ pub fn read_words<'w, S: AsStr>(alloc: Global, words: &'w [S]) -> Result<Asked<'
     ensures refused { IfErr result (IsRefusedFor (map S.text words.entry.now)) }
 {
     let found = matches_of(command(alloc)?, words)?;
-    if let Some(other) = conflict_of(&found) {
-        return Err(CommonRefusal::Conflict("rows", other));
+    if let Some((one, other)) = conflict_of(&found) {
+        return Err(CommonRefusal::Conflict(one, other));
     }
     Ok(asked_of(&found))
 }

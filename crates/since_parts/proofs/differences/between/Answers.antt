@@ -4,5 +4,5 @@ use Rattle.since_parts.specs.Differences.{facts_found, facts_held, names_found, 
 use Rattle.since_parts.proofs.differences.between.Goals as goal
 
 pub returns-in-Ok : goal.returns-in-Ok
-returns-in-Ok g c = λ none.
+returns-in-Ok c = λ none.
     subst (λ (l : List (Bor (List ℕ))). IsDifferences names_held facts_held names_found facts_found place_of c.args.old.items c.args.new.items l c.in-Ok.changes.items) none c.in-Ok.ensures.all

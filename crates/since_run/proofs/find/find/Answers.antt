@@ -20,7 +20,7 @@ returns g c =
     let takes = c.in_ok-take_all.ensures in
     let reads = is_some c.args.crew.now in
     let over : file_system_of walk ≡ c.args.disk = made.file_system in
-    let chosen = options_for c.args.tree.now.choice in
+    let chosen = options_for c.args.quick c.args.tree.now.choice in
     let options : options_of walk ≡ with_crew reads chosen = made.options ∙ ap (with_crew reads) c.options_for.ensures in
     let below : root_of walk ≡ string_bytes c.args.tree.now.root = made.root ∙ (c.in_ok-root.ensures.ok ∙ c.as_str.ensures.value) in
     record {

@@ -1,4 +1,3 @@
-use Rattle.since_parts.specs.Tree.{front_in, own_in}
 use Rattle.since_parts.proofs.FoundFacts.{all_taken, none_taken, one_taken}
 use Rattle.since_parts.proofs.found.Found.take_all.Goals as goal
 
@@ -6,7 +5,7 @@ pub loop-answer-init : goal.loop-answer-init
 loop-answer-init g c = record {
   can = c.requires.can;
   ends = c.requires.ends;
-  so_far = none_taken g.I.Iterator.next_gives (front_in c.args.tree.now) (own_in c.args.tree.now) c.args.answers.now c.args.self.now c.requires.none;
+  so_far = none_taken g.I.Iterator.next_gives c.args.tree.now c.args.answers.now c.args.self.now c.requires.none;
 }
 
 pub loop-answer-preserved-in_ok-take_one : goal.loop-answer-preserved-in_ok-take_one
@@ -16,7 +15,7 @@ loop-answer-preserved-in_ok-take_one g c =
     record {
       can = on.0;
       ends = on.1;
-      so_far = one_taken g.I.Iterator.next_gives (front_in c.args.tree.now) (own_in c.args.tree.now) c.args.answers.now
+      so_far = one_taken g.I.Iterator.next_gives c.args.tree.now c.args.answers.now
           c.loop-answer.answers c.next.new.self c.loop-answer.self c.take_one.new.self c.in-Some.answer held.so_far c.in-Some.ensures.steps c.in_ok-take_one.ensures;
     }
 
@@ -27,11 +26,11 @@ loop-answer-preserved g c =
     record {
       can = on.0;
       ends = on.1;
-      so_far = one_taken g.I.Iterator.next_gives (front_in c.args.tree.now) (own_in c.args.tree.now) c.args.answers.now
+      so_far = one_taken g.I.Iterator.next_gives c.args.tree.now c.args.answers.now
           c.loop-answer.answers c.next.new.self c.loop-answer.self c.take_one.new.self c.in-Some.answer held.so_far c.in-Some.ensures.steps c.in_ok-take_one.ensures;
     }
 
 pub returns : goal.returns
 returns g c =
-    all_taken g.I.Iterator.next_gives (front_in c.args.tree.now) (own_in c.args.tree.now) c.args.answers.now
+    all_taken g.I.Iterator.next_gives c.args.tree.now c.args.answers.now
     c.loop-answer.answers c.next.new.self c.loop-answer.self c.loop-answer.invariant.so_far c.in_default.ensures.steps

@@ -1,5 +1,4 @@
 use Rattle.std.specs.Iterator.{IsFinite, size}
-use Rattle.since_parts.specs.Tree.{front_in, own_in}
 use Rattle.since_parts.proofs.FoundFacts.{TakenSoFar}
 use Rattle.since_parts.proofs.found.Found.take_all.Given as goal
 
@@ -8,7 +7,7 @@ invariant-loop-answer g l =
     record {
       can : g.I.Iterator.can_next l.answers;
       ends : IsFinite (g.I.Iterator.remaining l.answers);
-      so_far : TakenSoFar g.I.Iterator.next_gives (front_in l.fn.tree) (own_in l.fn.tree) l.fn.answers l.answers l.self;
+      so_far : TakenSoFar g.I.Iterator.next_gives l.fn.tree l.fn.answers l.answers l.self;
     }
 
 -- at most how many answers are to come
