@@ -96,7 +96,7 @@ $ seek a /r/flat /r/file /r/deep /r/dead /r/none/no /r/to_flat
   /r/deep/a
   /r/to_flat/a
 ! seek: /r/file: Not a directory
-! seek: /r/dead: Not a directory
+! seek: /r/dead: No such file or directory (os error 2)
 ! seek: /r/none/no: No such file or directory (os error 2)
 = 1
 
