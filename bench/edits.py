@@ -50,7 +50,7 @@ AT_A_NAME = "refused at a name"
 VERDICTS = ["NOT REFUSED", "NOT TRIED", "BAD EDIT", "refused"]
 
 # how an error begins that is no more than a name in a proof file, which the edit took away
-NAMING = re.compile(r"(\./)?proofs/.*(has no field|is not in scope|has no `|was not admitted)")
+NAMING = re.compile(r"(\./)?proofs/.*(has no field|is not in scope|has no `|was not admitted|\(nearest: )")
 
 
 def read(path):
