@@ -1,4 +1,4 @@
-use Rattle.std.proofs.Common.{[], ◌++◌, map, ap, sym, ◌∙◌, append-nil}
+use Rattle.std.proofs.Common.{[], ◌++◌, map, ap, sym, append-nil}
 use Rattle.jwalk_fs.specs.Views.{listed}
 use Rattle.jwalk_real_fs.proofs.real_fs.RealFsFileSystem.read_dir.Goals as goal
 
