@@ -14,8 +14,9 @@ for each edit, which says whether it is refused, NOT REFUSED, a BAD EDIT, which 
 TRIED. The script ends with 1 if one isn't refused.
 
 With --kept each is tried on a copy of its crate, over what `rt lib` or `rt check` keeps there and in the crates below:
-run `rt check` in the crate first. An edit then takes some 20 seconds and not a whole check. The gate's edits are tried
-too. The gate itself takes nothing from kept work. With --jobs N the edits of N crates are tried side by side.
+run `rt check` in the crate first. The gate's edits are tried too. The gate itself takes nothing from kept work. Edits of
+different functions are tried by one check, since a function's proof reads no other's body; one that has no error in the
+function that it changes is then tried alone. With --jobs N the edits of N crates are tried side by side.
 
 An edit is "refused at a name" if no contract refuses it: a proof file names what the edit took away. It is to be written
 anew, so that the names stay and a value changes. It counts as refused, and the last line says how many there are.
@@ -268,8 +269,64 @@ def copy_kept(crate, room):
             shutil.copytree(f"{at}/out/{part}", f"{to}/out/{part}", copy_function=copy)
 
 
-def verdict_over(folder, texts):
-    """The verdict of a check of a crate in this folder with these texts in place of its own, and the first error."""
+def functions_in(text):
+    """The first and last line of each function of a file in layout, in order."""
+    lines = text.split("\n")
+    found = []
+    for at, line in enumerate(lines):
+        head = re.match(r"(\s*)(?:pub(?:\([a-z]+\))? )?(?:const )?fn \w", line)
+        if head:
+            ends = (n for n in range(at, len(lines)) if re.fullmatch(head[1] + r"(\}|.*\{\}|\S.*;)", lines[n]))
+            found.append((at + 1, next(ends, len(lines) - 1) + 1))
+    return found
+
+
+def changed_functions(was, now):
+    """Which functions of a file, by their numbers, another text of it changes; none if it changes more than functions."""
+    before, after = functions_in(was), functions_in(now)
+    if len(before) != len(after):
+        return None
+    olds, news = was.split("\n"), now.split("\n")
+
+    def outside(lines, spans):
+        return [line for at, line in enumerate(lines, 1) if not any(first <= at <= last for first, last in spans)]
+
+    if outside(olds, before) != outside(news, after):
+        return None
+    pairs = enumerate(zip(before, after))
+    return {number for number, (one, other) in pairs if olds[one[0] - 1 : one[1]] != news[other[0] - 1 : other[1]]}
+
+
+def put_together(folder, edits):
+    """Puts edits, each with the texts that it makes, into groups of which no two change one function. A group is the texts
+    that all of it make, and the places of each edit: files and numbers of functions. One that changes more than functions
+    is in no group."""
+    groups = []
+    for name, texts in edits.items():
+        changed = {file: changed_functions(read(f"{folder}/{file}"), text) for file, text in texts.items()}
+        if None in changed.values():
+            continue
+        places = {(file, number) for file, numbers in changed.items() for number in numbers}
+        group = next((it for it in groups if not places & {at for other in it[1].values() for at in other}), None)
+        if group is None:
+            group = ({}, {})
+            groups.append(group)
+        for file, number in places:
+            own = group[0].get(file, read(f"{folder}/{file}"))
+            group[0][file] = with_function(own, texts[file], number)
+        group[1][name] = places
+    return groups
+
+
+def with_function(text, other, number):
+    """A file's text with one of its functions as it is in another text."""
+    lines = text.split("\n")
+    (first, last), (begin, end) = functions_in(text)[number], functions_in(other)[number]
+    return "\n".join([*lines[: first - 1], *other.split("\n")[begin - 1 : end], *lines[last:]])
+
+
+def checked_with(folder, texts):
+    """What a check of a crate in this folder says, and how it ends, with these texts in place of its own."""
     own = {file: read(f"{folder}/{file}") for file in texts}
     try:
         for file, text in texts.items():
@@ -281,27 +338,58 @@ def verdict_over(folder, texts):
         for file, text in own.items():
             with open(f"{folder}/{file}", "w", encoding="utf-8") as out:
                 out.write(text)
+    return done.stdout, done.returncode
+
+
+def refused_together(folder, group):
+    """Which edits of a group a check with all of them refuses at clauses, each with the first error in its function."""
+    texts, places = group
+    said, status = checked_with(folder, texts)
+    if status == 0 or not re.search(r"^logic=not-proved", said, re.M):
+        return {}
+    errors = re.findall(r"^((?:note: )?(?:\./)?(src/\S+?):(\d+):\d+: (?:error|it is not proved).*)$", said, re.M)
+    found = {}
+    for name, own in places.items():
+        spans = [(file, *functions_in(texts[file])[number]) for file, number in own]
+        inside = [line for line, file, at in errors if any(file == it and a <= int(at) <= b for it, a, b in spans)]
+        if inside:
+            found[name] = inside[0]
+    return found
+
+
+def verdict_over(folder, texts):
+    """The verdict of a check of a crate in this folder with these texts in place of its own, and the first error."""
+    said, status = checked_with(folder, texts)
     told = re.compile(r"(note: )?\S+:\d+:\d+: (error|it is not proved)")
-    errors = [line for line in done.stdout.splitlines() if told.match(line)]
+    errors = [line for line in said.splitlines() if told.match(line)]
     others = [line for line in errors if not NAMING.match(line)]
-    first = (others or errors or [done.stdout.strip().rpartition("\n")[2]])[0]
-    if done.returncode == 0:
+    first = (others or errors or [said.strip().rpartition("\n")[2]])[0]
+    if status == 0:
         return "NOT REFUSED", ""
-    if not re.search(r"^logic=not-proved", done.stdout, re.M):
+    if not re.search(r"^logic=not-proved", said, re.M):
         return "BAD EDIT", first
     return AT_A_NAME if errors and not others else "refused", first
 
 
 def tried_over_kept(crate, names):
-    """Tries edits of a crate over its kept work."""
+    """Tries edits of a crate over its kept work: those of different functions together, and alone what isn't refused so."""
     verdicts = {}
+
+    def say(name, verdict, why):
+        verdicts[name] = verdict
+        print(f"{crate}/{name}: {verdict}: {why}"[:300], flush=True)
+
     with tempfile.TemporaryDirectory(prefix="edits-", dir=f"{TOP}/crates/{crate}/out") as room:
         copy_kept(crate, room)
-        for name in names:
-            folder = own_edits(crate) if name in own_names(crate) else gate_edits(crate)
-            texts = edited(crate, f"{folder}/{name}.edit")
-            verdicts[name], why = verdict_over(f"{room}/crates/{crate}", texts)
-            print(f"{crate}/{name}: {verdicts[name]}: {why}"[:300], flush=True)
+        folder = f"{room}/crates/{crate}"
+        places = {name: own_edits(crate) if name in own_names(crate) else gate_edits(crate) for name in names}
+        edits = {name: edited(crate, f"{place}/{name}.edit") for name, place in places.items()}
+        for group in put_together(folder, edits):
+            for name, why in refused_together(folder, group).items() if len(group[1]) > 1 else ():
+                say(name, "refused", why)
+        for name, texts in edits.items():
+            if name not in verdicts:
+                say(name, *verdict_over(folder, texts))
     return verdicts
 
 
