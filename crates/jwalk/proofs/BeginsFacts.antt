@@ -91,6 +91,7 @@ module _ {C S P A W L R E : Type 0} (files : FileSystem.Ghosts S) (process : Pro
       options = ap job.options_of is.job ∙ options;
       within = is.within;
       sourced = is.sourced;
+      placed = is.placed;
       start = is.start;
       width = is.width ∙ ap (λ o. width_of o.parallelism) options;
       ahead = is.ahead;

@@ -25,7 +25,7 @@ use Rattle.tree_crew.specs.declared.crew.NotStarted.{NotStarted}
 use Rattle.tree_crew.specs.declared.crew.NotStarted.TheVariants.{Busy, Memory}
 use Rattle.jwalk_readings.specs.BatchReads.{BatchReads}
 use Rattle.jwalk_readings.specs.ReadAhead.{BeginsWith}
-use Rattle.jwalk_iter.specs.DirEntryIter.{DirEntryIter, reads_of, is_refused, by_crew, width_of, frontier_of, read_ahead, job_of, items_of, unread_of, held, held_by, IsWithin, IsSourced, IsRefused}
+use Rattle.jwalk_iter.specs.DirEntryIter.{DirEntryIter, reads_of, is_refused, by_crew, width_of, frontier_of, read_ahead, job_of, items_of, unread_of, held, held_by, IsWithin, IsSourced, IsPlaced, IsRefused}
 use Rattle.jwalk_readings.specs.Sources.{Base, source_by}
 use Rattle.jwalk_readings.specs.SourceFacts.{is_source_by}
 use Rattle.jwalk_iter.specs.Entries.{ArePlaced}
@@ -36,7 +36,7 @@ use Rattle.jwalk_readings.specs.ReadDirIter as readings
 use Rattle.jwalk_readings.specs.declared.read_dir_iter.ReadDirIter.{ReadDirIter}
 use Rattle.jwalk_readings.specs.declared.read_dir_iter.ReadDirIter.TheVariants.{Walk, CrewWalk}
 use Rattle.jwalk_readings.proofs.CrewSteadyFacts.{starts_steady}
-use Rattle.jwalk_iter.proofs.PlacedFacts.{list_placed, unread_placed}
+use Rattle.jwalk_iter.proofs.PlacedFacts.{list_placed, unread_placed, none_placed, root_placed}
 use Rattle.jwalk_iter.proofs.AnswerFacts.{with_sourced}
 use Rattle.jwalk_iter.proofs.StartFacts.{holds_refusal, refusal_sourced, list_sourced, holds_list, within_root}
 
@@ -123,6 +123,13 @@ module _ {C S P A L R E : Type 0} where
     begun_sourced (Some r) (Some Busy) it begun = with_sourced (unread_of it) it begun.0 (ap length begun.2 ∙ sym (none_below r.list) ∙ ap directories (sym begun.1))
     begun_sourced (Some r) (Some Memory) it begun = refusal_sourced it begun.0 begun.1 begun.2
 
+    -- each below its item
+    pub begun_placed : (read : Option (Reading R E)) (why_not : Option NotStarted) (it : DirEntryIter C S P A L R E) → IsBegun clone read why_not it → IsPlaced it
+    begun_placed None why_not it begun = none_placed (items_of it) (unread_of it) begun.3
+    begun_placed (Some r) None it begun = root_placed clone.is_clone r (items_of it) (unread_of it) begun.1 begun.2
+    begun_placed (Some r) (Some Busy) it begun = none_placed (items_of it) (unread_of it) begun.2
+    begun_placed (Some r) (Some Memory) it begun = none_placed (items_of it) (unread_of it) begun.2
+
     -- where memory ran out, it holds only the error that says so
     pub begun_refused : (read : Option (Reading R E)) (it : DirEntryIter C S P A L R E) → IsBegun clone read (Some Memory) it → IsRefused it
     begun_refused None it begun = record { tells = holds_refusal it begun.1 begun.2; nothing_unread = begun.3 }
@@ -178,6 +185,7 @@ module _ {C S P A L R E : Type 0} where
           job = job;
           within = rw none tt;
           sourced = refusal_sourced it refused none nothing_unread;
+          placed = none_placed (items_of it) (unread_of it) nothing_unread;
           start = inl refusal;
           width = width;
           ahead = λ alone. ahead;
@@ -194,6 +202,7 @@ module _ {C S P A L R E : Type 0} where
       job = job;
       within = within_root (greatest_depth (job_of it)) (items_of it) (begun_depth clone read why_not it depth is);
       sourced = begun_sourced clone read why_not it is;
+      placed = begun_placed clone read why_not it is;
       start = inr (begun_depth clone read why_not it depth is);
       width = crew_width it by ∙ sym (ap options.width_of mode);
       ahead = λ alone. absurd (let no : false ≡ true = sym alone ∙ by in cc);
@@ -205,11 +214,12 @@ module _ {C S P A L R E : Type 0} where
     }
 
     -- one that reads by itself
-    pub alone_from_root : (why_not : Option NotStarted) → by_crew it ≡ false → ¬ (why_not ≡ Some Busy) → job_of it ≡ begun → IsWithin it → IsSourced it → IsRefused it ⊎ AtDepth 0 (items_of it) → width_of it ≡ options.width_of (options_of begun).parallelism → BeginsWith (unread_of it) (frontier_of it) (read_ahead it) → HoldsList clone read why_not it → (IfSome read (λ r. IsOfRoot r.list) → IsRefused it ⊎ IsOfRoot (items_of it)) → (IfSome read (λ r. length r.list ≡ 1) → length (held it) ≡ 1) → IsFromRoot clone read begun why_not it
-    alone_from_root why_not own not_busy job within sourced start width ahead holds root one = record {
+    pub alone_from_root : (why_not : Option NotStarted) → by_crew it ≡ false → ¬ (why_not ≡ Some Busy) → job_of it ≡ begun → IsWithin it → IsSourced it → IsPlaced it → IsRefused it ⊎ AtDepth 0 (items_of it) → width_of it ≡ options.width_of (options_of begun).parallelism → BeginsWith (unread_of it) (frontier_of it) (read_ahead it) → HoldsList clone read why_not it → (IfSome read (λ r. IsOfRoot r.list) → IsRefused it ⊎ IsOfRoot (items_of it)) → (IfSome read (λ r. length r.list ≡ 1) → length (held it) ≡ 1) → IsFromRoot clone read begun why_not it
+    alone_from_root why_not own not_busy job within sourced placed start width ahead holds root one = record {
       job = job;
       within = within;
       sourced = sourced;
+      placed = placed;
       start = start;
       width = width;
       ahead = λ alone. ahead;
@@ -246,9 +256,9 @@ pub held_of : {C S P A L R E : Type 0} (given : Given R E) (read : Option (ReadD
 held_of given read it h = some_and_map reading (λ r. held_by given it ≡ paired (counted_reading given r)) read h
 
 -- what is left of a root's list is paired with the directories that are to be read
-pub left_placed : {C S P A R E : Type 0} (files : FileSystem.Ghosts S) (process : ProcessReadDir.Ghosts P C A R E) (clone : Clone.Ghosts R) (defaults : Default.Ghosts E) (base : Base C S P A R E) (r : Reading R E) (why_not : Option NotStarted) (items : List (Item R E)) (specs : List (Spec R)) → items ≡ left_of why_not r.list → IsToRead clone r why_not specs → ArePlaced (source_by files process clone defaults base) items specs
-left_placed files process clone defaults base r None items specs are clones = list_placed (source_by files process clone defaults base) (is_source_by files process clone defaults base) r.state r.list items specs are clones
-left_placed files process clone defaults base r (Some reason) items specs are none = unread_placed (source_by files process clone defaults base) (is_source_by files process clone defaults base) items specs none
+pub left_placed : {C S P A R E : Type 0} (files : FileSystem.Ghosts S) (process : ProcessReadDir.Ghosts P C A R E) (clone : Clone.Ghosts R) (defaults : Default.Ghosts E) (base : Base C S P A R E) (r : Reading R E) (why_not : Option NotStarted) (items : List (Item R E)) (specs : List (Spec R)) → items ≡ left_of why_not r.list → IsToRead clone r why_not specs → ArePlaced (source_by files process clone defaults base).below items specs
+left_placed files process clone defaults base r None items specs are clones = list_placed (source_by files process clone defaults base).copies (source_by files process clone defaults base).below (is_source_by files process clone defaults base).found_below r.state r.list items specs are clones
+left_placed files process clone defaults base r (Some reason) items specs are none = unread_placed (source_by files process clone defaults base).copies (source_by files process clone defaults base).below (is_source_by files process clone defaults base).found_below items specs none
 
 module _ {T C S P A L R E : Type 0} (old new : CrewReads C S P A L R E) where
   -- the directories of a root's list are to be read once the readings began, and none where they didn't

@@ -7,6 +7,7 @@ mod CrewStartFacts
 -- what callers cite of a walk's answers
 pub use Rattle.jwalk_iter.proofs.FillFacts as FillFacts
 pub use Rattle.jwalk_iter.proofs.SameFacts as SameFacts
+pub use Rattle.jwalk_iter.proofs.PlacedFacts as PlacedFacts
 -- what callers cite of a callback's lists
 pub use Rattle.jwalk_job.proofs.GivenFacts as GivenFacts
 -- what callers cite of callbacks that change states alone

@@ -13,7 +13,7 @@ use Rattle.jwalk_job.specs.Options as options
 use Rattle.jwalk_job.specs.Given.{Given, IsOfRoot, counted_reading, ClonesCount}
 use Rattle.jwalk_job.specs.Job.{options_of}
 use Rattle.jwalk_readings.specs.ReadAhead.{BeginsWith}
-use Rattle.jwalk_iter.specs.DirEntryIter.{DirEntryIter, is_refused, by_crew, job_of, items_of, unread_of, width_of, frontier_of, read_ahead, held, held_by, IsWithin, IsSourced, IsRefused}
+use Rattle.jwalk_iter.specs.DirEntryIter.{DirEntryIter, is_refused, by_crew, job_of, items_of, unread_of, width_of, frontier_of, read_ahead, held, held_by, IsWithin, IsSourced, IsPlaced, IsRefused}
 
 -- what a busy crew leaves of an item: the error that says so, if the item has a directory to be read
 abbrev pub busied : {R E : Type 0} → Item R E → Item R E
@@ -55,11 +55,12 @@ module _ {C S P A L R E : Type 0} (clone : Clone.Ghosts R) (read : Option (Readi
   HoldsList (Some Busy) it = IsSomeAnd read (λ r. AtDepth 0 r.list × (held it ≡ map busy_pair r.list))
   HoldsList (Some Memory) it = IsRefused it
 
-  -- The walk of a job that begins with a root's list. It holds no entry that is too deep, and what it has to read are the directories of what it holds. Where no crew reads, only these are queued, in order, and are to be entered, and none is read yet. Only a walk that a crew is to read for finds the crew busy. Where the list has the root's entry or errors alone, so has what it holds. Where the list has one item, it holds one: that, or an error.
+  -- The walk of a job that begins with a root's list. It holds no entry that is too deep, and what it has to read are the directories of what it holds, each below its item. Where no crew reads, only these are queued, in order, and are to be entered, and none is read yet. Only a walk that a crew is to read for finds the crew busy. Where the list has the root's entry or errors alone, so has what it holds. Where the list has one item, it holds one: that, or an error.
   pub record IsFromRoot (begun : Job C S P A R E) (why_not : Option NotStarted) (it : DirEntryIter C S P A L R E) : Type 0 where
     pub job : job_of it ≡ begun
     pub within : IsWithin it
     pub sourced : IsSourced it
+    pub placed : IsPlaced it
     pub start : IsRefused it ⊎ AtDepth 0 (items_of it)
     pub width : width_of it ≡ options.width_of (options_of begun).parallelism
     pub ahead : by_crew it ≡ false → BeginsWith (unread_of it) (frontier_of it) (read_ahead it)

@@ -28,7 +28,7 @@ use Rattle.jwalk_readings.specs.declared.readers.Readers as Readers
 use Rattle.tree_crew.specs.declared.crew.NotStarted.{NotStarted}
 use Rattle.tree_crew.specs.declared.crew.NotStarted.TheVariants.{Busy, Memory}
 use Rattle.jwalk.specs.CrewStart.{busy_pair}
-use Rattle.jwalk_iter.specs.DirEntryIter.{DirEntryIter, by_crew, job_of, items_of, held, held_by, IsWithin, IsSourced, IsRefused}
+use Rattle.jwalk_iter.specs.DirEntryIter.{DirEntryIter, by_crew, job_of, items_of, held, held_by, IsWithin, IsSourced, IsPlaced, IsRefused}
 use Rattle.jwalk.specs.declared.walk_dir.WalkDirGeneric.{WalkDirGeneric}
 
 -- the item is the error that reports a busy crew
@@ -143,13 +143,14 @@ module _ {C S P A W R E : Type 0} where
     default = given.new_entry;
   }
 
-  -- A walk that begins, whatever its file system returns. It is over the builder's file system, callback and options, and no entry it holds is too deep. What it has to read are the directories of what it holds, as many together as the options say. Where no crew reads, only these are queued, in order, and are to be entered, and none is read yet. It holds a list of the root's depth, or the error that says that memory ran out at the start.
+  -- A walk that begins, whatever its file system returns. It is over the builder's file system, callback and options, and no entry it holds is too deep. What it has to read are the directories of what it holds, each below its item, as many together as the options say. Where no crew reads, only these are queued, in order, and are to be entered, and none is read yet. It holds a list of the root's depth, or the error that says that memory ran out at the start.
   pub record Starts {L : Type 0} (walk : WalkDirGeneric C S P A W R E) (it : DirEntryIter C S P A L R E) : Type 0 where
     pub file_system : file_system (job_of it) ≡ file_system_of walk
     pub callback : callback (job_of it) ≡ callback_of walk
     pub options : job.options_of (job_of it) ≡ options_of walk
     pub within : IsWithin it
     pub sourced : IsSourced it
+    pub placed : IsPlaced it
     pub start : IsRefused it ⊎ AtDepth 0 (items_of it)
     pub width : iter.width_of it ≡ width_of (options_of walk).parallelism
     pub ahead : iter.by_crew it ≡ false → BeginsWith (iter.unread_of it) (iter.frontier_of it) (iter.read_ahead it)

@@ -19,6 +19,8 @@ use Rattle.jwalk_job.specs.Given.{Given, counted_item, counted_spec, counted_out
 use Rattle.jwalk_iter.specs.Step.{IsAtDirectory, ReadsUpTo, StopsAtDirectory}
 use Rattle.jwalk_readings.specs.ReadAhead.{nothing_ahead}
 use Rattle.jwalk_readings.specs.Source.{Source}
+use Rattle.jwalk_readings.specs.SourceFacts.{found_there}
+use Rattle.jwalk_readings.specs.CrewReads.{IsBelow}
 use Rattle.jwalk_readings.specs.declared.readings.Readings as Readings
 use Rattle.jwalk_iter.specs.declared.entries.Entries.{Entries}
 use Rattle.jwalk_iter.specs.declared.skip.Skip.{Skip}
@@ -110,8 +112,8 @@ module _ {C A B R E : Type 0} (readings : Readings.Ghosts B C A R E) where
       started = stays.refused ∙ began
 
       -- a walk stays steady where its readings do, and its directories stay below their items
-      stays_steady : (ArePlaced from (items_of old) (unread_of readings old) → ArePlaced from (items_of new) (unread_of readings new)) → StaysSteady readings old new
-      stays_steady placed = λ given steady. record { reads = stays.steady given steady.reads; placed = subst (λ b. ArePlaced (readings.source b) (items_of new) (unread_of readings new)) (sym stays.base) (placed steady.placed) }
+      stays_steady : (ArePlaced from.below (items_of old) (unread_of readings old) → ArePlaced from.below (items_of new) (unread_of readings new)) → StaysSteady readings old new
+      stays_steady placed = λ given steady. record { reads = stays.steady given steady.reads; placed = subst (λ b. ArePlaced (readings.source b).below (items_of new) (unread_of readings new)) (sym stays.base) (placed steady.placed) }
 
       same_weight : (l : List (Pair R E)) → weight (max_depth_of readings new) l ≡ weight from.options.max_depth l
       same_weight l = ap (λ b. weight (readings.source b).options.max_depth l) stays.base
@@ -141,7 +143,8 @@ module _ {C A B R E : Type 0} (readings : Readings.Ghosts B C A R E) where
             lighter = omega (arith, same_weight (held readings new), ap (weight o.max_depth) before, ap (weight o.max_depth) after, left_lighter copies Knows o (items_of old) (unread_of readings old) left, next_lighter copies Knows o next);
             reads = rw began (inr reads);
             most = stays.most;
-            steady = stays_steady (answered_placed from (readings.sound (readings.base old.reads)) Knows o (items_of old) (unread_of readings old) (Some (item x)) (items_of new) (unread_of readings new) reads);
+            placed = answered_placed from.copies IsBelow (found_there from.copies) Knows o (items_of old) (unread_of readings old) (Some (item x)) (items_of new) (unread_of readings new) reads;
+            steady = stays_steady (answered_placed from.copies from.below (readings.sound (readings.base old.reads)).found_below Knows o (items_of old) (unread_of readings old) (Some (item x)) (items_of new) (unread_of readings new) reads);
             skip = behind;
             ahead = λ never goes_on. grows_as (Some (item x)) grown;
             kept = λ refused. absurd cc;
@@ -175,7 +178,8 @@ module _ {C A B R E : Type 0} (readings : Readings.Ghosts B C A R E) where
             lighter = tt;
             reads = rw began (inr reads);
             most = stays.most;
-            steady = stays_steady (answered_placed from (readings.sound (readings.base old.reads)) Knows o (items_of old) (unread_of readings old) None (items_of new) (unread_of readings new) reads);
+            placed = answered_placed from.copies IsBelow (found_there from.copies) Knows o (items_of old) (unread_of readings old) None (items_of new) (unread_of readings new) reads;
+            steady = stays_steady (answered_placed from.copies from.below (readings.sound (readings.base old.reads)).found_below Knows o (items_of old) (unread_of readings old) None (items_of new) (unread_of readings new) reads);
             skip = tt;
             ahead = λ never goes_on. grows_as None grown;
             kept = λ refused. absurd cc;
@@ -210,7 +214,8 @@ module _ {C A B R E : Type 0} (readings : Readings.Ghosts B C A R E) where
             lighter = rw (before, after) (omega (arith, left_lighter copies Knows o (items_of old) (unread_of readings old) left, heavy_at o.max_depth stops.0 stops.1 at));
             reads = rw began (inl stopped);
             most = stays.most;
-            steady = stays_steady (λ placed. unread_placed from (readings.sound (readings.base old.reads)) (items_of new) (unread_of readings new) no_unread);
+            placed = λ placed. unread_placed from.copies IsBelow (found_there from.copies) (items_of new) (unread_of readings new) no_unread;
+            steady = stays_steady (λ placed. unread_placed from.copies from.below (readings.sound (readings.base old.reads)).found_below (items_of new) (unread_of readings new) no_unread);
             skip = behind;
             ahead = λ never goes_on. absurd (goes_on stopped);
             kept = λ refused. absurd cc;
@@ -233,6 +238,7 @@ module _ {C A B R E : Type 0} (readings : Readings.Ghosts B C A R E) where
         lighter = rw front (omega arith);
         reads = rw refused refl;
         most = omega arith;
+        placed = λ placed. placed;
         steady = λ given steady. record { reads = steady.reads; placed = steady.placed };
         skip = rw told refl;
         ahead = λ began. absurd cc;

@@ -172,7 +172,7 @@ module _ {C A B R E : Type 0} (readings : Readings.Ghosts B C A R E) where
   over_steady : (old mid : Entries C A B R E) → PassedOver old mid → (given : Given R E) → IsSteadyWalk readings old given → IsSteadyWalk readings mid given
   over_steady old mid over given steady = record {
     reads = over.stays.steady given steady.reads;
-    placed = subst (λ b. ArePlaced (readings.source b) (items_of mid) (unread_of readings mid)) (sym over.stays.base) (left_placed (source_of readings old) (readings.sound (readings.base old.reads)) (Known readings old) (source_of readings old).options (items_of old) (unread_of readings old) over.leaves steady.placed);
+    placed = subst (λ b. ArePlaced (readings.source b).below (items_of mid) (unread_of readings mid)) (sym over.stays.base) (left_placed (source_of readings old).copies (source_of readings old).below (readings.sound (readings.base old.reads)).found_below (Known readings old) (source_of readings old).options (items_of old) (unread_of readings old) over.leaves steady.placed);
   }
 
   module _ (old mid new : Entries C A B R E) (passed : Result (DirEntry C A R E) (Error A)) (over : PassedOver old mid) (passes : Passes readings mid (Ok (Some passed)) new) where

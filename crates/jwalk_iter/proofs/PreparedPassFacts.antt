@@ -32,7 +32,7 @@ module _ {C A B R E : Type 0} (readings : Readings.Ghosts B C A R E) where
       steady_before : (given : Given R E) → IsSteadyWalk readings old given → IsSteadyWalk readings mid given
       steady_before given counted = record {
         reads = stays.steady given counted.reads;
-        placed = subst (λ b. ArePlaced (readings.source b) (items_of mid) (unread_of readings mid)) (sym stays.base) (rw (same_items, r.reads.same) counted.placed);
+        placed = subst (λ b. ArePlaced (readings.source b).below (items_of mid) (unread_of readings mid)) (sym stays.base) (rw (same_items, r.reads.same) counted.placed);
       }
 
       -- what is passed after some were read for it is passed by what was read

@@ -10,7 +10,7 @@ use Rattle.jwalk_model.specs.Entry.{Item, has_directory, NoDeeper}
 use Rattle.jwalk_model.specs.ReadDir.{Spec, Outcome}
 use Rattle.jwalk_model.specs.Counted.{Worth}
 use Rattle.jwalk_model.specs.Listing.{Pair, nothing, unread, is_answered, answers, listing}
-use Rattle.jwalk_model.specs.Held.{pair_up, first_source, after_first, source_weight, weight, to_come as coming_of}
+use Rattle.jwalk_model.specs.Held.{pair_up, first_source, after_first, weight, to_come as coming_of}
 use Rattle.jwalk_model.proofs.CountedFacts.{counted-has_directory}
 use Rattle.jwalk_model.proofs.HeldFacts.{directories, heavy, listing-append}
 use Rattle.jwalk_job.specs.declared.error.Error.{Error}
@@ -20,11 +20,12 @@ use Rattle.jwalk_job.specs.Given.{Given, counted_item, counted_spec}
 use Rattle.jwalk_readings.proofs.StackFacts.{last_first}
 use Rattle.jwalk_readings.specs.ReadAhead.{nothing_ahead}
 use Rattle.jwalk_readings.specs.Source.{Source}
+use Rattle.jwalk_readings.specs.CrewReads.{IsBelow}
 use Rattle.jwalk_readings.specs.declared.readings.Readings as Readings
 use Rattle.jwalk_iter.specs.declared.entries.Entries.{Entries}
 use Rattle.jwalk_iter.specs.declared.skip.Skip.{Skip}
 use Rattle.jwalk_iter.specs.Skip.{drops}
-use Rattle.jwalk_iter.specs.Entries.{AreBelow, ArePlaced, items_of, skipped, dropped, source_of, unread_of, min_depth_of, max_depth_of, held, held_by, to_come, dropped_to_come, IsSteadyWalk, Stays, StaysBehind, DropsFirst, DropsNext, Skips}
+use Rattle.jwalk_iter.specs.Entries.{AreBelow, ArePlaced, items_of, skipped, dropped, source_of, unread_of, min_depth_of, max_depth_of, held, held_by, to_come, dropped_to_come, Stays, StaysBehind, DropsFirst, Skips}
 use Rattle.jwalk_iter.proofs.AnswerFacts.{held_rest, held_by_rest, sourced_rest, rest_sourced}
 use Rattle.jwalk_iter.proofs.PassFacts.{stays_same, stays_on}
 use Rattle.jwalk_iter.proofs.ReceivedFacts.{popped}
@@ -108,9 +109,9 @@ module _ {R E : Type 0} where
   weight_of max_depth [] qs = omega arith
   weight_of max_depth (p ∷ ps) qs = omega (arith, weight_of max_depth ps qs)
 
-  below_behind : (source : Source R E) (ps qs : List (Pair R E)) → AreBelow source (ps ++ qs) → AreBelow source qs
-  below_behind source [] qs placed = placed
-  below_behind source (p ∷ ps) qs placed = below_behind source ps qs placed.1
+  below_behind : (below : Item R E → Spec R → Type 0) (ps qs : List (Pair R E)) → AreBelow below (ps ++ qs) → AreBelow below qs
+  below_behind below [] qs placed = placed
+  below_behind below (p ∷ ps) qs placed = below_behind below ps qs placed.1
 
   many_and : (gone rest : List (Item R E)) → directories (gone ++ rest) ≡ many gone + directories rest
   many_and [] rest = omega arith
@@ -315,9 +316,10 @@ module _ {C A B R E : Type 0} (readings : Readings.Ghosts B C A R E) where
               omega (arith, same, ap (weight from.options.max_depth) before, ap (weight from.options.max_depth) after, ap (weight from.options.max_depth) pairs, weight_of from.options.max_depth (pair_up first.gone (unread_of readings old)) (pair_up (items_of new) (unread_of readings new)));
           most = so.stays.most;
           ahead = so.ahead;
+          placed = λ placed. below_behind IsBelow (pair_up first.gone (unread_of readings old)) (pair_up (items_of new) (unread_of readings new)) (subst (AreBelow IsBelow) pairs placed);
           steady = λ given steady. record {
             reads = so.stays.steady given steady.reads;
-            placed = subst (λ b. ArePlaced (readings.source b) (items_of new) (unread_of readings new)) (sym so.stays.base) (below_behind from (pair_up first.gone (unread_of readings old)) (pair_up (items_of new) (unread_of readings new)) (subst (AreBelow from) pairs steady.placed));
+            placed = subst (λ b. ArePlaced (readings.source b).below (items_of new) (unread_of readings new)) (sym so.stays.base) (below_behind from.below (pair_up first.gone (unread_of readings old)) (pair_up (items_of new) (unread_of readings new)) (subst (AreBelow from.below) pairs steady.placed));
           };
           drops = inl (record {
             refused = so.stays.refused;
@@ -340,6 +342,7 @@ module _ {C A B R E : Type 0} (readings : Readings.Ghosts B C A R E) where
         lighter = omega arith;
         most = omega arith;
         ahead = omega arith;
+        placed = λ placed. placed;
         steady = λ given steady. steady;
         drops = inl (record {
           refused = refl;
@@ -364,6 +367,7 @@ module _ {C A B R E : Type 0} (readings : Readings.Ghosts B C A R E) where
         lighter = rw none (omega (arith, ap (weight (max_depth_of readings old)) (held_rest readings old began), some_held (max_depth_of readings old) (drops old.skip) (items_of old) (unread_of readings old) some));
         most = all.most;
         ahead = rw no_ahead (omega arith);
+        placed = λ placed. rw none tt;
         steady = λ given steady. record { reads = all.steady given steady.reads; placed = rw none tt };
         drops = inr (record { held = rw none refl; nothing_unread = no_unread; nothing_ahead = no_ahead });
         unchanged = λ nothing. absurd (prefix_some (drops old.skip) (items_of old) some (sym (ap (λ n. take n (items_of old)) (skipped_is old began)) ∙ nothing));

@@ -31,7 +31,7 @@ below_alone true own x s = absurd cc
 
 -- a walk that no crew reads for is steady over a steady job, if nothing was read early
 pub alone_steady : {C S P A L R E : Type 0} (files : FileSystem.Ghosts S) (process : ProcessReadDir.Ghosts P C A R E) (clone : Clone.Ghosts R) (defaults : Default.Ghosts E) (readers : Readers.Ghosts L C S P A R E) (it : DirEntryIter C S P A L R E) (given : Given R E) → by_crew it ≡ false → IsSteadyJob files process clone defaults (job_of it) given → (read_ahead it).done ≡ [] → IsSteadyWalk files process clone defaults readers it given
-alone_steady files process clone defaults readers it given own steady none = record { reads = steady_at_rest files process clone defaults readers it.reads given own steady none; placed = all_placed (source_by files process clone defaults (base_of it.reads)) (below_alone (by_crew it) own) (items_of it) (unread_of it) }
+alone_steady files process clone defaults readers it given own steady none = record { reads = steady_at_rest files process clone defaults readers it.reads given own steady none; placed = all_placed (source_by files process clone defaults (base_of it.reads)).below (below_alone (by_crew it) own) (items_of it) (unread_of it) }
 
 module _ {C S P A L R E : Type 0} (it : DirEntryIter C S P A L R E) (refused : it.refused ≡ true) (none : items_of it ≡ []) where
   -- a walk that ran out of memory at its start, and has no items, holds only the error that says so

@@ -19,6 +19,7 @@ use Rattle.jwalk_job.specs.declared.job.Job.{Job}
 use Rattle.jwalk_job.specs.Given.{Given}
 use Rattle.jwalk_job.specs.Job.{options_of, greatest_depth, job_by, IsSteadyJob}
 use Rattle.jwalk_readings.specs.ReadAhead.{ReadAhead}
+use Rattle.jwalk_readings.specs.CrewReads.{IsBelow}
 use Rattle.jwalk_readings.specs.declared.readers.Readers as Readers
 use Rattle.jwalk_readings.specs.declared.read_dir_iter.ReadDirIter.{ReadDirIter}
 use Rattle.jwalk_readings.specs.ReadDirIter as readings
@@ -26,7 +27,7 @@ use Rattle.jwalk_readings.specs.ReadDirIter.{to_read, readings_by}
 use Rattle.jwalk_readings.specs.Sources.{Tells}
 use Rattle.jwalk_iter.specs.declared.entries.Entries.{Entries}
 use Rattle.jwalk_iter.specs.Entries as entries
-use Rattle.jwalk_iter.specs.Entries.{items_of, held_with, counted_with, AreAllSourced, StopsWith}
+use Rattle.jwalk_iter.specs.Entries.{items_of, held_with, counted_with, ArePlaced, AreAllSourced, StopsWith}
 pub use Rattle.jwalk_iter.specs.Entries.{TellsMemory, Position, PassesPlainly, refusal, NoneRefused, reads_of, is_refused, items_of, skip_of, skipped, dropped, none_passed, one_passed, one_entered}
 
 abbrev pub DirEntryIter : Type 0 → Type 0 → Type 0 → Type 0 → Type 0 → Type 0 → Type 0 → Type 0
@@ -83,6 +84,10 @@ module _ {C S P A L R E : Type 0} where
   -- No entry that is held is below the greatest depth.
   abbrev pub IsWithin : DirEntryIter C S P A L R E → Type 0
   IsWithin it = NoDeeper (greatest_depth (job_of it)) (items_of it)
+
+  -- Whatever the file system returns, each directory that is to be read is the one below its item.
+  abbrev pub IsPlaced : DirEntryIter C S P A L R E → Type 0
+  IsPlaced it = ArePlaced IsBelow (items_of it) (unread_of it)
 
   -- The items that have a directory, and only they, have a source, and nothing else is unread.
   abbrev pub IsSourced : DirEntryIter C S P A L R E → Type 0

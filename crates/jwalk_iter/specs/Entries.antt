@@ -20,7 +20,7 @@ use Rattle.jwalk_readings.specs.Reads.{ReadsFirstBy}
 use Rattle.jwalk_readings.specs.ReadAhead.{ReadAhead}
 use Rattle.jwalk_readings.specs.ReadAhead as left
 use Rattle.jwalk_readings.specs.declared.readers.Missed.{Missed}
-use Rattle.jwalk_readings.specs.CrewReads.{NotLost, failure_of}
+use Rattle.jwalk_readings.specs.CrewReads.{IsBelow, NotLost, failure_of}
 use Rattle.jwalk_readings.specs.Gives.{Readies}
 use Rattle.jwalk_readings.specs.Source.{Source, IsKnown}
 use Rattle.jwalk_iter.specs.Skip.{drops, skip_behind}
@@ -78,12 +78,12 @@ module _ {C A R E : Type 0} where
   NoneRefused [] = Unit {0}
   NoneRefused (x ∷ answered) = (¬ TellsMemory (item x)) × NoneRefused answered
 
-module _ {R E : Type 0} (source : Source R E) where
+module _ {R E : Type 0} (below : Item R E → Spec R → Type 0) where
   -- The directory that is to be read for an item, if there is one, is the one below it.
   abbrev pub IsSourceBelow : Item R E → DirectorySource R E → Type 0
   IsSourceBelow x nothing = Unit {0}
-  IsSourceBelow x (unread spec) = source.below x spec
-  IsSourceBelow x (was_read spec outcome) = source.below x spec
+  IsSourceBelow x (unread spec) = below x spec
+  IsSourceBelow x (was_read spec outcome) = below x spec
 
   -- the same for every pair
   abbrev pub AreBelow : List (Pair R E) → Type 0
@@ -189,10 +189,14 @@ module _ {C A B R E : Type 0} (readings : Readings.Ghosts B C A R E) where
     pub told : answered ≡ before ++ Err memory ∷ []
     pub nothing_held : held new ≡ []
 
+  -- Whatever the file system returns, each directory that is to be read is the one below its item.
+  abbrev pub IsPlaced : Entries C A B R E → Type 0
+  IsPlaced it = ArePlaced IsBelow (items_of it) (unread_of it)
+
   -- A walk is steady over what is given: its readings are, and are of the directories below its items.
   pub record IsSteadyWalk (it : Entries C A B R E) (given : Given R E) : Type 0 where
     pub reads : readings.steady it.reads given
-    pub placed : ArePlaced (source_of it) (items_of it) (unread_of it)
+    pub placed : ArePlaced (source_of it).below (items_of it) (unread_of it)
 
   -- What is known of the reading at an address, by which an item's directory is entered.
   abbrev pub KnownAt : Entries C A B R E → List ℕ → Item R E → Spec R → Outcome R E → Type 0
@@ -298,6 +302,7 @@ module _ {C A B R E : Type 0} (readings : Readings.Ghosts B C A R E) where
     pub most : readings.most new.reads ≤ readings.most old.reads
     pub ahead : old.refused ≡ false → ¬ IsSomeAnd (option_map item answer) (λ a. Stops (source_of old).tells a new) → GrowsAhead old (option_map item answer) new
     pub kept : old.refused ≡ true → readings.read_ahead new.reads ≡ readings.read_ahead old.reads
+    pub placed : IsPlaced old → IsPlaced new
     pub steady : StaysSteady old new
     pub coming : (given : Given R E) → IsSteadyWalk old given → AnswersFirst given old (option_map item answer) new
 
@@ -376,6 +381,7 @@ module _ {C A B R E : Type 0} (readings : Readings.Ghosts B C A R E) where
     pub lighter : weight_of new ≤ weight_of old
     pub most : readings.most new.reads ≤ readings.most old.reads
     pub ahead : length (readings.read_ahead new.reads).done ≤ length (readings.read_ahead old.reads).done
+    pub placed : IsPlaced old → IsPlaced new
     pub steady : StaysSteady old new
     pub drops : Drops old new ⊎ RunsOut new
     pub unchanged : dropped old ≡ [] → new ≡ old

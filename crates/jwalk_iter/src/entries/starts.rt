@@ -30,7 +30,7 @@ impl<
     ghost use Rattle.jwalk_job.specs.Job.{options_of};
     ghost use Rattle.jwalk_readings.specs.ReadAhead.{BeginsWith};
     ghost use Rattle.jwalk_readings.specs.ReadDirIter.{base_of};
-    ghost use Rattle.jwalk_iter.specs.DirEntryIter.{reads_of, by_crew, is_refused, job_of, items_of, unread_of, width_of, frontier_of, read_ahead, held_by, IsWithin, IsSourced, IsRefused};
+    ghost use Rattle.jwalk_iter.specs.DirEntryIter.{reads_of, by_crew, is_refused, job_of, items_of, unread_of, width_of, frontier_of, read_ahead, held_by, IsWithin, IsSourced, IsPlaced, IsRefused};
 
     /// Returns a walk whose start ran out of memory: it yields the error that reports it, and nothing else. The call
     /// itself needs no memory.
@@ -75,6 +75,7 @@ impl<
         ensures refused { is_refused result ≡ true → IsRefused result }
         ensures within { IsWithin result }
         ensures sourced { IsSourced result }
+        ensures placed { IsPlaced result }
         ensures depth { is_refused result ≡ false → AtDepth 0 (items_of result) }
         ensures list { is_refused result ≡ false → IsSomeAnd read (λ r. items_of result ≡ (reading r).list) }
         ensures width { width_of result ≡ options.width_of (options_of job).parallelism }

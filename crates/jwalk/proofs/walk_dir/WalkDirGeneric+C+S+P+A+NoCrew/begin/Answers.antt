@@ -23,6 +23,7 @@ returns-clause-starts g c =
       options = ap options_of c.from_root.ensures.job ∙ jobs.options;
       within = c.from_root.ensures.within;
       sourced = c.from_root.ensures.sourced;
+      placed = c.from_root.ensures.placed;
       start = by_flag c.from_root.result.refused c.from_root.ensures.refused c.from_root.ensures.depth;
       width = c.from_root.ensures.width ∙ ap (λ o. width_of o.parallelism) jobs.options;
       ahead = λ alone. c.from_root.ensures.ahead;

@@ -10,13 +10,13 @@ pub returns-then-is_refused-clause-from_root : goal.returns-then-is_refused-clau
 returns-then-is_refused-clause-from_root g c =
     let is = c.from_root-walk.ensures in
     let refusal = is.refused (sym c.if-is_refused.ensures) in
-    alone_from_root g.C.ReadDirState.Clone (option_map reading c.args.read) c.args.job c.from_root-walk.result (Some Memory) is.own (λ no. cc) is.job is.within is.sourced (inl refusal) is.width is.ahead refusal (λ root. inl refusal) (λ one. ap length refusal.tells)
+    alone_from_root g.C.ReadDirState.Clone (option_map reading c.args.read) c.args.job c.from_root-walk.result (Some Memory) is.own (λ no. cc) is.job is.within is.sourced is.placed (inl refusal) is.width is.ahead refusal (λ root. inl refusal) (λ one. ap length refusal.tells)
 
 pub returns-clause-from_root : goal.returns-clause-from_root
 returns-clause-from_root g c =
     let is = c.from_root-walk.ensures in
     let started = sym c.if-is_refused.ensures in
-    alone_from_root g.C.ReadDirState.Clone (option_map reading c.args.read) c.args.job c.from_root-walk.result None is.own (λ no. cc) is.job is.within is.sourced (inr (is.depth started)) is.width is.ahead (λ given counts. held_of given c.args.read c.from_root-walk.result (is.held given counts started)) (λ root. inr (root_held (option_map reading c.args.read) c.from_root-walk.result (list_of c.args.read c.from_root-walk.result (is.list started)) root)) (held_count (option_map reading c.args.read) c.from_root-walk.result started (list_of c.args.read c.from_root-walk.result (is.list started)))
+    alone_from_root g.C.ReadDirState.Clone (option_map reading c.args.read) c.args.job c.from_root-walk.result None is.own (λ no. cc) is.job is.within is.sourced is.placed (inr (is.depth started)) is.width is.ahead (λ given counts. held_of given c.args.read c.from_root-walk.result (is.held given counts started)) (λ root. inr (root_held (option_map reading c.args.read) c.from_root-walk.result (list_of c.args.read c.from_root-walk.result (is.list started)) root)) (held_count (option_map reading c.args.read) c.from_root-walk.result started (list_of c.args.read c.from_root-walk.result (is.list started)))
 
 pub returns-then-is_refused-clause-most : goal.returns-then-is_refused-clause-most
 returns-then-is_refused-clause-most g c = rw (reads_alone (reads_of c.from_root-walk.result) c.from_root-walk.ensures.own).1 refl

@@ -1,4 +1,4 @@
-use Rattle.std.proofs.Common.{◌≡◌, ◌∙◌, Option, Some, None, Result, Ok, Err, sym, subst}
+use Rattle.std.proofs.Common.{◌≡◌, ◌∙◌, Ok, sym, subst}
 use Rattle.std.specs.Prelude.{IfSome}
 use Rattle.jwalk_job.specs.Entry.{item}
 use Rattle.jwalk_iter.specs.Skip.{skip_behind}

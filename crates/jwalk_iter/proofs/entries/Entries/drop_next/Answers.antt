@@ -2,7 +2,7 @@ use Rattle.std.proofs.Common.{◌≡◌, ◌∙◌, true, false, cond, drop, sym
 use Rattle.jwalk_model.specs.Entry.{has_directory}
 use Rattle.jwalk_job.specs.Entry.{item}
 use Rattle.jwalk_iter.specs.Entries.{unread_of}
-use Rattle.jwalk_iter.proofs.SkipFacts.{popped_behind, below_behind_too, one_dropped, next_goes}
+use Rattle.jwalk_iter.proofs.SkipFacts.{one_dropped}
 use Rattle.jwalk_iter.proofs.entries.Entries.drop_next.Goals as goal
 use Rattle.jwalk_iter.proofs.entries.Entries.drop_next.Goals.{then-has_directory+in_ok-skip_next, else-has_directory}
 

@@ -3,9 +3,10 @@ use Rattle.std.proofs.lemmas.List.{append-nil}
 use Rattle.jwalk_job.specs.ReadDir.{reading}
 use Rattle.jwalk_job.specs.Entry.{item}
 use Rattle.jwalk_job.specs.Job.{greatest_depth}
-use Rattle.jwalk_iter.specs.DirEntryIter.{job_of, items_of}
+use Rattle.jwalk_iter.specs.DirEntryIter.{job_of, items_of, unread_of}
 use Rattle.jwalk_iter.proofs.AheadFacts.{begins_with_none}
 use Rattle.jwalk_iter.proofs.StartFacts.{holds_refusal, refusal_sourced, holds_root, at_root, within_root, root_sourced}
+use Rattle.jwalk_iter.proofs.PlacedFacts.{none_placed, root_placed}
 use Rattle.jwalk_iter.proofs.entries.starts.DirEntryIter+C+S+P+A+L.from_root.Goals as goal
 
 pub returns-in-Ok-clause-within : goal.returns-in-Ok-clause-within
@@ -92,3 +93,15 @@ returns-in-Err-clause-refused g c = λ refused. record { tells = holds_refusal (
 
 pub returns-in-Err-clause-sourced : goal.returns-in-Err-clause-sourced
 returns-in-Err-clause-sourced g c = refusal_sourced (record c.begin.new.self { reads = c.stop.new.self; items = c.clear.new.self }) (c.begin.ensures.refused ∙ c.refused-walk.ensures.refused) (ap (λ l. map item (reverse l)) c.clear.ensures.items) c.stop.ensures.to_read
+
+pub returns-in_default-clause-placed : goal.returns-in_default-clause-placed
+returns-in_default-clause-placed g c = none_placed (items_of c.refused-walk.result) (unread_of c.refused-walk.result) c.refused-walk.ensures.unread
+
+pub returns-in-Ok-clause-placed : goal.returns-in-Ok-clause-placed
+returns-in-Ok-clause-placed g c =
+    root_placed g.C.ReadDirState.Clone.is_clone (reading c.in-Some.read) (items_of c.begin.new.self) (unread_of c.begin.new.self)
+    (c.in-Ok.ensures.items ∙ ap (λ l. (reading c.in-Some.read).list ++ l) c.refused-walk.ensures.items ∙ append-nil (reading c.in-Some.read).list)
+    c.in-Ok.ensures.children
+
+pub returns-in-Err-clause-placed : goal.returns-in-Err-clause-placed
+returns-in-Err-clause-placed g c = none_placed _ _ c.stop.ensures.to_read
