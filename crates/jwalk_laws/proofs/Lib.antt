@@ -1,3 +1,4 @@
 mod CallbackFacts
+mod ListedFacts
 mod OwnReadersFacts
 pub mod SkippedFacts

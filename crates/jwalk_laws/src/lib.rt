@@ -3,5 +3,6 @@
 
 pub mod bound;
 pub mod callbacks;
+pub mod listed;
 pub mod own_readers;
 pub mod states;
