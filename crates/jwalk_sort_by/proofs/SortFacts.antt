@@ -1,5 +1,5 @@
 -- Lists in an order of one's own.
-use Rattle.std.proofs.Common.{◌≡◌, ℕ, Bool, true, false, cond, List, [], ◌∷◌, map, Result, Ok, Err, refl, sym, ap, ◌∙◌, subst}
+use Rattle.std.proofs.Common.{◌≡◌, ℕ, Bool, true, false, cond, List, [], ◌∷◌, map, Option, Some, None, Result, Ok, Err, refl, sym, ap, ◌∙◌, subst}
 use Rattle.std.specs.Prelude.{IsPermutation, OnOk}
 use Rattle.std.specs.Cmp.{IsStrictWeakOrder}
 use Rattle.std.specs.Ordering.{is_lt}
@@ -16,7 +16,7 @@ use Rattle.jwalk_job.specs.Entry.{entry, item}
 use Rattle.jwalk_job.specs.Given.{Given, counted_entry, counted_item}
 use Rattle.jwalk_job.specs.declared.dir_entry.DirEntry.{DirEntry}
 use Rattle.jwalk_job.specs.declared.error.Error.{Error}
-use Rattle.jwalk_sort_by.specs.SortBy.{goes_before, put, ordered, IsOrdered, OrderedIsTheOne, IsBy, gives_of}
+use Rattle.jwalk_sort_by.specs.SortBy.{goes_before, put, ordered, ordered_at, IsOrdered, OrderedIsTheOne, IsBy, gives_of}
 
 -- what holds of every result holds of an `Ok`
 pub on_ok : {T F : Type 0} {P : Type 0} (r : Result T F) → P → OnOk r P
@@ -113,10 +113,15 @@ module _ {C A R E : Type 0} (given : Given R E) (less : Entry Worth Worth → En
   same_items (Err e) y = refl
 
   -- items in order are in order as they count
-  pub counted-ordered : (l m : List (Result (DirEntry C A R E) (Error A))) → m ≡ ordered less_of l → ordered less (map (counted_item given) (map item l)) ≡ map (counted_item given) (map item m)
+  counted-ordered : (l m : List (Result (DirEntry C A R E) (Error A))) → m ≡ ordered less_of l → ordered less (map (counted_item given) (map item l)) ≡ map (counted_item given) (map item m)
   counted-ordered l m is =
       sym (map-counted given less (map item l))
       ∙ ap (map (counted_item given)) (sym (ordered-map item less_of (less_counted given less) same_items l) ∙ ap (map item) (sym is))
+
+  -- the same where the list that a walk begins with stays as it is
+  pub counted-ordered_at : (depth : Option ℕ) (l m : List (Result (DirEntry C A R E) (Error A))) → m ≡ ordered_at less_of depth l → ordered_at less depth (map (counted_item given) (map item l)) ≡ map (counted_item given) (map item m)
+  counted-ordered_at None l m is = ap (λ k. map (counted_item given) (map item k)) (sym is)
+  counted-ordered_at (Some depth) l m is = counted-ordered l m is
 
 -- the same reading
 pub reading_as : {R E : Type 0} (a b : R) (l m : List (Item R E)) → a ≡ b → l ≡ m → ◌≡◌ {A = Reading R E} (record { state = a; list = l }) (record { state = b; list = m })

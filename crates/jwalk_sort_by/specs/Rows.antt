@@ -18,7 +18,7 @@ use Rattle.jwalk_model.specs.TreeRows.{d, f}
 use Rattle.jwalk_model.specs.Walk.{whole_walk}
 use Rattle.jwalk_model.specs.WalkRows.{tree_by, sorted}
 use Rattle.jwalk_job.specs.Entry.{entry as value}
-use Rattle.jwalk_job.specs.Given.{Given, counted_entry}
+use Rattle.jwalk_job.specs.Given.{counted_entry}
 use Rattle.jwalk_job.specs.declared.dir_entry.DirEntry.{DirEntry}
 use Rattle.jwalk_sort_by.specs.SortBy.{sorts, sorting, IsBy, SortsAs}
 
@@ -65,8 +65,12 @@ longer_first : sorts (λ x y. shorter y x) (Some 0) (codes "/r") tt items
     ≡ left (entry (codes "target") File false ∷ entry (codes "target") Dir true ∷ entry (codes "src") Dir true ∷ fault ∷ [])
 longer_first = refl
 
-errors_keep_their_order : sorts shorter None (codes "/") tt (fault ∷ Err (io 1 None kind.NotFound) ∷ []) ≡ left (fault ∷ Err (io 1 None kind.NotFound) ∷ [])
+errors_keep_their_order : sorts shorter (Some 0) (codes "/r") tt (fault ∷ Err (io 1 None kind.NotFound) ∷ []) ≡ left (fault ∷ Err (io 1 None kind.NotFound) ∷ [])
 errors_keep_their_order = refl
+
+-- the list that a walk begins with
+root_stays : sorts shorter None (codes "/") tt items ≡ left items
+root_stays = refl
 
 -- the lines of a walk from a root over a tree, by name
 abbrev walk_with : Processing Nothing Nothing → List ℕ → List (List ℕ)

@@ -1,5 +1,5 @@
 -- Entries in an order of one's own, with the errors behind them.
-use Rattle.std.specs.Prelude.{◌≡◌, ◌↔◌, ℕ, Bool, true, false, List, [], ◌∷◌, Option, Result, Ok, Err, if◌then◌else◌, IsPermutation}
+use Rattle.std.specs.Prelude.{◌≡◌, ◌↔◌, ℕ, Bool, true, false, List, [], ◌∷◌, Option, Some, None, Result, Ok, Err, if◌then◌else◌, IsPermutation}
 use Rattle.std.specs.Cmp.{IsStrictWeakOrder}
 use Rattle.std.specs.Ordering.{is_lt}
 use Rattle.std.specs.List.Sorted.{IsSortedBy, IsStableBy}
@@ -45,6 +45,11 @@ module _ {X F : Type 0} (less : X → X → Bool) where
   ordered [] = []
   ordered (x ∷ xs) = put x (ordered xs)
 
+  -- the list of a directory in order, and the one that a walk begins with as it is
+  abbrev pub ordered_at : Option ℕ → List (Result X F) → List (Result X F)
+  ordered_at None l = l
+  ordered_at (Some depth) l = ordered l
+
   -- The second list has the items of the first, ascending, where those that tie keep their order.
   pub record IsOrdered (l m : List (Result X F)) : Type 0 where
     pub same_items : IsPermutation l m
@@ -69,7 +74,7 @@ IsBy {X} gives less = (x y : X) (order : Ordering) → gives x y order → is_lt
 module _ {R E : Type 0} (less : Entry R E → Entry R E → Bool) where
   -- what the callback makes of a list
   abbrev pub sorts : Processing R E
-  sorts depth path state list = record { state = state; list = ordered less list }
+  sorts depth path state list = record { state = state; list = ordered_at less depth list }
 
   put_at : (depth : ℕ) (x : Item R E) (ys : List (Item R E)) → AtDepth depth (x ∷ []) → AtDepth depth ys → AtDepth depth (put less x ys)
   put_at depth x [] h k = h
@@ -88,7 +93,8 @@ module _ {R E : Type 0} (less : Entry R E → Entry R E → Bool) where
 
   -- An entry keeps its depth.
   pub sorts-KeepsDepthsOf : KeepsDepthsOf sorts
-  sorts-KeepsDepthsOf depth path state list h = all_at (list_depth depth) list h
+  sorts-KeepsDepthsOf None path state list h = h
+  sorts-KeepsDepthsOf (Some depth) path state list h = all_at (list_depth (Some depth)) list h
 
 -- What is given if entries are sorted, and states count as nothing.
 abbrev pub sorting : {R E : Type 0} → (Entry Worth Worth → Entry Worth Worth → Bool) → Given R E

@@ -1,5 +1,5 @@
 //! Entries in an order of one's own.
-ghost use Rattle.std.specs.Prelude.{◌≡◌, OnOk, IsPermutation};
+ghost use Rattle.std.specs.Prelude.{◌≡◌, None, OnOk, IsPermutation};
 ghost use Rattle.std.specs.Cmp.{IsStrictWeakOrder};
 ghost use Rattle.jwalk_sort_by.specs.SortBy.{gives_of, ordered, IsBy};
 
@@ -91,15 +91,17 @@ fn sort_items<C: ClientState, A: Allocator + Copy, O: Compares<DirEntry<C, A>>>(
 
 impl<C: ClientState, A: Allocator + Copy, O: Compares<DirEntry<C, A>>> ProcessReadDir<C, A>
     for SortBy<O> {
-    ghost use Rattle.jwalk_sort_by.specs.SortBy.{SortsAs, order_of};
+    ghost use Rattle.jwalk_sort_by.specs.SortBy.{SortsAs, order_of, ordered_at};
 
     ghost IsLawful = { λ s. O.IsCallable (order_of s) };
 
     ghost Makes = { λ s g. SortsAs (O.gives (order_of s)) g };
 
+    ghost KeepsRoot = { λ _. Unit {0} };
+
     fn process(
         &self,
-        _depth: Option<usize>,
+        depth: Option<usize>,
         _path: &str,
         _state: &mut C::ReadDirState,
         list: &mut List<C, A>,
@@ -107,9 +109,13 @@ impl<C: ClientState, A: Allocator + Copy, O: Compares<DirEntry<C, A>>> ProcessRe
         requires { O.IsCallable (order_of self.now) }
         ensures state { _state.new ≡ _state.old }
         ensures same { IsPermutation list.old.items list.new.items }
+        ensures root { depth ≡ None → list.new.items ≡ list.old.items }
         ensures ordered { OnOk result ((less : _) → IsStrictWeakOrder less → IsBy (O.gives (order_of self.now)) less
-            → list.new.items ≡ ordered less list.old.items) }
+            → list.new.items ≡ ordered_at less depth list.old.items) }
     {
+        if depth.is_none() {
+            return Ok(());
+        }
         sort_items(&self.order, list)
     }
 }

@@ -1,9 +1,10 @@
-use Rattle.std.proofs.Common.{map, ap, sym, ◌∙◌}
+use Rattle.std.proofs.Common.{map, refl, ap, sym, ◌∙◌, subst, rules}
 use Rattle.std.proofs.lemmas.List.Sorted.{IsPermutation-map}
 use Rattle.std.proofs.lemmas.Result.{on_ok_weaker}
 use Rattle.jwalk_model.specs.ReadDir.{list_depth}
 use Rattle.jwalk_job.specs.Entry.{item}
-use Rattle.jwalk_sort_by.proofs.SortFacts.{counted-ordered, less_of, less_of-order, moved-AtDepth, on_ok, reading_as}
+use Rattle.jwalk_job.specs.Given.{AddsErrors}
+use Rattle.jwalk_sort_by.proofs.SortFacts.{counted-ordered_at, less_of, less_of-order, moved-AtDepth, on_ok, reading_as}
 use Rattle.jwalk_sort_by.proofs.sort_by.SortByProcessReadDir.TheImpl.Goals as goal
 
 pub process-tells : goal.process-tells
@@ -16,7 +17,7 @@ process-tells g _ _ _ _ c =
           (λ sorted.
           made.3 c.args.depth c.args.path.now _ _
           ∙ reading_as _ _ _ _ (ap given.read_dir_state (sym c.ensures.state))
-          (counted-ordered given made.0 old new (sorted (less_of given made.0) (less_of-order given made.0 made.1) made.2)))
+          (counted-ordered_at given made.0 c.args.depth old new (sorted (less_of given made.0) (less_of-order given made.0 made.1) made.2)))
           c.ensures.ordered;
-      root = λ keeps at. absurd keeps;
+      root = λ keeps at. on_ok c.result (subst (λ l. AddsErrors (map item old) (map item l)) (sym (c.ensures.root at)) (record { entries = refl; longer = search rules }));
     }
