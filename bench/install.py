@@ -174,16 +174,21 @@ def typed(program):
     found = [(f"{name} {last[:-1]}", [last], [])] if last.startswith("--") else []
     for it in program.options:
         for word in man.names_of(it):
-            if it.value in man.FILES:
-                found.append((f"{name} {word} some_f", ["some_file", "some_folder"], []))
-            if it.value in man.FOLDERS:
-                found.append((f"{name} {word} some_f", ["some_folder"], ["some_file"]))
-            if man.choices_of(it):
-                found.append((f"{name} {word} ", man.choices_of(it), ["some_file"]))
-            if man.choices_of(it) and word.startswith("--"):
-                found.append((f"{name} {word}=", man.choices_of(it), ["some_file"]))
-    ahead = "".join(f" {it.value.lower()}" for it in program.words if it.value not in man.FOLDERS)
-    return found + [(f"{name}{ahead} some_f", ["some_folder"], [])] * bool(program.words)
+            for joint in " =" if word.startswith("--") and program.joins else " ":
+                if it.value in man.FILES:
+                    found.append((f"{name} {word}{joint}some_f", ["some_file", "some_folder"], []))
+                if it.value in man.FOLDERS:
+                    found.append((f"{name} {word}{joint}some_f", ["some_folder"], ["some_file"]))
+                if man.choices_of(it):
+                    found.append((f"{name} {word}{joint}", man.choices_of(it), ["some_file"]))
+    ahead = name
+    for it in program.words:
+        if it.value in man.FILES:
+            found.append((f"{ahead} some_f", ["some_file", "some_folder"], []))
+        if it.value in man.FOLDERS:
+            found.append((f"{ahead} some_f", ["some_folder"], []))
+        ahead += f" {it.value.lower()}"
+    return found
 
 
 def completes(to, room):

@@ -31,12 +31,12 @@ FOLDERS, FILES = ["ROOT", "DIR", "PATH"], ["FILE"]
 # The variables that programs read. Their documents name them too.
 VARIABLES = {
     "seek": [
-        ("COLUMNS", "the greatest width of lines of `-h`, if it is a number"),
+        ("COLUMNS", "the greatest width of lines of `-h`, if it is a number, in place of 80"),
         ("LS_COLORS", "the colors of types and of names, as `dircolors` writes them"),
         ("NO_COLOR", "with `--color auto` nothing is printed in colors if this is set and isn't empty"),
         ("XDG_CONFIG_HOME", "the folder with `git/config` and `git/ignore`, in place of `~/.config`"),
     ],
-    "tally": [("COLUMNS", "the width of tables on a terminal, and of lines of `-h`, if it is a number, in place of 80")],
+    "tally": [("COLUMNS", "the width of tables on a terminal, and the greatest of lines of `--help`, if it is a number, in place of 80")],
     "since": [("COLUMNS", "the greatest width of lines of `-h`, if it is a number, in place of 80")],
     "walk": [],
 }
@@ -199,11 +199,10 @@ def by_clap(path):
 
 def add_sizes(made, page):
     """What the document says of sizes, and of the times that words have."""
-    if "## Sizes" in read(page).split("\n"):
-        made.add("SIZES", [], "\n".join(paragraphs(section(page, "## Sizes"))))
+    lines = section(page, "## Sizes") if "## Sizes" in read(page).split("\n") else []
     rows = [row for row in table(section(page, "## Options"), "word") if " SIZE" in row[0]]
-    if rows:
-        made.add("SIZES", [(rows[0][0].split(",")[0], rows[0][1])])
+    if lines or rows:
+        made.add("SIZES", [(row[0].split(",")[0], row[1]) for row in rows], "\n".join(paragraphs(lines)))
     if any(it.value == "TIME" for it in made.options):
         made.add("TIMES", [], bullet(section(page, "## What is found"), "A time"))
 

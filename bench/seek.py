@@ -26,8 +26,7 @@ and ignore files. What they print is compared as lists without order, without a 
 without `.git`, which `seek` leaves out.
 
 The times are of one warm run after another: each turn runs all programs once, and the least of nine turns counts. The
-second tree has 20,000 directories and 500 ignore files of 20 patterns; it is made in FOLDER, or in a temporary folder,
-and so are 2,000 roots of one file each, over which `-j4` is beside `-j1`.
+second tree has 20,000 directories and 500 ignore files of 20 patterns; it is made in FOLDER, or in a temporary folder.
 """
 import os
 import random
@@ -313,15 +312,6 @@ def large(folder):
     return top
 
 
-def roots_of_one_file(folder):
-    """2,000 directories, each with one file."""
-    roots = [os.path.join(folder, "roots", f"d{number:04}") for number in range(2000)]
-    for root in roots:
-        os.makedirs(root, exist_ok=True)
-        write(os.path.join(root, "one"), b"")
-    return roots
-
-
 def least_times(rows, turns=9):
     """The least time of each of these calls, which take turns."""
     least = [float("inf")] * len(rows)
@@ -335,7 +325,6 @@ def least_times(rows, turns=9):
 
 def speed(folder):
     top = large(folder)
-    roots = roots_of_one_file(folder)
     fd = [FD] if FD else ["fd"]
     tables = [
         ("/usr without ignore files, 4 threads", [[PROGRAM, "-HI", "-j4", ".", "/usr"], fd + ["-HI", "-j4", ".", "/usr"], ["find", "/usr"]]),
@@ -346,7 +335,6 @@ def speed(folder):
         ("/usr by size without ignore files, 4 threads", [[PROGRAM, "-HI", "-j4", "-S", "+1M", ".", "/usr"], fd + ["-HI", "-j4", "-S", "+1M", ".", "/usr"], ["find", "/usr", "-type", "f", "-size", "+999999c"]]),
         ("/usr by size, one thread", [[PROGRAM, "-HI", "-j1", "-S", "+1M", ".", "/usr"], fd + ["-HI", "-j1", "-S", "+1M", ".", "/usr"], ["find", "/usr", "-type", "f", "-size", "+999999c"]]),
         ("/usr by time without ignore files, 4 threads", [[PROGRAM, "-HI", "-j4", "--changed-within", "1d", ".", "/usr"], fd + ["-HI", "-j4", "--changed-within", "1d", ".", "/usr"], ["find", "/usr", "-mtime", "-1"]]),
-        ("2,000 roots of one file", [[PROGRAM, "-HI", "-j4", ".", *roots], [PROGRAM, "-HI", "-j1", ".", *roots], fd + ["-HI", "-j4", ".", *roots], ["find", *roots]]),
         ("/usr by time, 4 threads", [[PROGRAM, "-j4", "--changed-within", "1d", ".", "/usr"], fd + ["-j4", "--changed-within", "1d", ".", "/usr"], ["find", "/usr", "-mtime", "-1"]]),
     ]
     for name, rows in tables:
@@ -354,8 +342,7 @@ def speed(folder):
         times = least_times(rows)
         print(name)
         for words, passed in zip(rows, times):
-            shown = " ".join(word for word in words[1:] if word not in roots)
-            print(f"  {passed * 1000:6.0f} ms  {times[0] / passed:4.2f}  {os.path.basename(words[0])} {shown}")
+            print(f"  {passed * 1000:6.0f} ms  {times[0] / passed:4.2f}  {os.path.basename(words[0])} {' '.join(words[1:])}")
 
 
 def main():

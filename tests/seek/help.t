@@ -20,6 +20,10 @@ $ seek -h
 $ seek -h
 ~   [ROOT]...  Where to look
 
+# lines of at most 80 characters
+$ seek -h
+~   -S, --size <SIZE>               The size of a file: +N and a unit for at\x0a                                  least, -N for at most, N for exactly that\x0a
+
 # lines as wide as COLUMNS says
 $ seek -h
 ~   -H, --hidden                    Hidden names come too

@@ -19,6 +19,9 @@ $ seek --hiden
 $ seek -qz
 ! seek: unknown option '-z' (see seek --help)
 = 2
+$ seek -k
+! seek: unknown option '-k' (see seek --help)
+= 2
 $ seek --quiet=yes
 !~ seek: unexpected value 'yes' for '--quiet
 = 2
