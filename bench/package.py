@@ -109,7 +109,8 @@ def unpack_tar(top, path, room):
     subprocess.run(["tar", "-C", f"{room}/tar", "-xzf", path], check=True)
     (folder,) = glob.glob(f"{room}/tar/*")
     check("it is a folder named as the archive", os.path.basename(path) == os.path.basename(folder) + ".tar.gz")
-    check("it has the licence", bytes_of(f"{folder}/LICENSE") == bytes_of(f"{top}/LICENSE"))
+    for it in ["LICENSE", "CHANGELOG.md", "VERSION"]:
+        check(f"it has {it}", bytes_of(f"{folder}/{it}") == bytes_of(f"{top}/{it}"))
     to = f"{room}/installed"
     for words in [["--prefix", to], ["--prefix", to, "--check"]]:
         environment = {"PATH": "/usr/bin:/bin", "HOME": room}
