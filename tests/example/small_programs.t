@@ -221,3 +221,18 @@ $ example changed old new
   - lib/c.txt
   ~ x
 $ example changed old old
+
+# the names in a snapshot
+tree
+  f 1 p/a
+  f 1 p/b/c
+  d p/d
+$ since -j1 --save s p
+$ example snapshot s
+  a
+  b
+  d
+  b/c
+$ example snapshot p/a
+!~ not a snapshot
+= 1

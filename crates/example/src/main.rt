@@ -3,7 +3,7 @@
 
 use examples::{
     all_errors, archive, batch_walk, branches, changed, crew_walk, finder, ignore_walk, newest,
-    newest_first, one_disk, remove_tree, sources, to_csv, totals, unmarked, usage_walk,
+    newest_first, one_disk, remove_tree, snapshot, sources, to_csv, totals, unmarked, usage_walk,
 };
 use jwalk::file_system::{FileSystem, RealFs};
 use jwalk::read_dir::NoProcess;
@@ -14,7 +14,7 @@ use std::{env, io};
 /// The names that there are.
 const NAMES: &str =
     "usage_walk ignore_walk batch_walk crew_walk totals finder unmarked newest newest_first one_disk to_csv \
-                     archive remove_tree branches changed sources all_errors";
+                     archive remove_tree branches changed snapshot sources all_errors";
 
 /// Runs an example that is given a walk.
 fn run<R: Host + AllocGlobal, S: FileSystem + Send + Sync + 'static, W: Write>(
@@ -50,6 +50,7 @@ fn main(rt: HostRuntime) -> anyhow::Result<()> {
     let out = &mut io::writer(&rt);
     match name.as_deref().unwrap_or("") {
         "ignore_walk" => ignore_walk::run(&rt, &root, out),
+        "snapshot" => snapshot::run(&rt, &root, out),
         "sources" => sources::run(&rt, &root, word, out),
         "remove_tree" => {
             remove_tree::run(

@@ -14,6 +14,7 @@ pub mod newest;
 pub mod newest_first;
 pub mod one_disk;
 pub mod remove_tree;
+pub mod snapshot;
 pub mod sources;
 pub mod to_csv;
 pub mod totals;
