@@ -1,4 +1,3 @@
 mod CallbackFacts
-mod ListedFacts
 mod OwnReadersFacts
 pub mod SkippedFacts

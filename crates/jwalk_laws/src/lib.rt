@@ -3,6 +3,5 @@
 
 pub mod bound;
 pub mod callbacks;
-pub mod listed;
 pub mod own_readers;
 pub mod states;
