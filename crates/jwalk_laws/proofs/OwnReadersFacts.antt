@@ -27,7 +27,7 @@ use Rattle.jwalk.specs.jwalk_job.ReadDirSpec.{spec}
 use Rattle.jwalk.specs.jwalk_job.Given.{Given, counted_spec, counted_outcome}
 use Rattle.jwalk.specs.jwalk_job.declared.job.Job.{Job}
 use Rattle.jwalk.specs.jwalk_job.declared.read_dir.ReadDir.{ReadDir}
-use Rattle.jwalk.specs.jwalk_readings.Reads.{IsListedReading}
+use Rattle.jwalk.specs.jwalk_job.Job.{IsReadingOf}
 use Rattle.jwalk.specs.jwalk_job.ReadDir.{outcome}
 use Rattle.jwalk.specs.jwalk_readings.Message.{Message, IsLawfulMessage}
 use Rattle.jwalk.specs.jwalk_readings.Wanted.{Fits}
@@ -120,7 +120,7 @@ module _ {C S P A R E : Type 0} (files : FileSystem.Ghosts S) (process : Process
 
   -- and those that were found in a directory at the addresses of its children.
   below_at : (a : List ℕ) (of : Spec R) (r : Result (Result (ReadDir C A R E) (Error A)) AllocError) (job : Job C S P A R E) (below : List (ReadDirSpec C A R E)) → job ≡ origin.job → IsAt files process clone defaults origin a of
-      → IfOk r (λ o. IsListedReading files process clone defaults job of (outcome o)) → MatchResult r (λ o. AreClones clone.is_clone (children_of (outcome o)) (map spec below)) (λ _. below ≡ [])
+      → IfOk r (λ o. IsReadingOf files process clone defaults job of (outcome o)) → MatchResult r (λ o. AreClones clone.is_clone (children_of (outcome o)) (map spec below)) (λ _. below ≡ [])
       → All At (numbered a 0 (map spec below))
   below_at a of (Ok o) job below own there lawful clones =
       first_at a (map spec below) (λ i s is. child_at files process clone defaults origin a of (map spec below) i s there (below_read files process clone defaults origin job of (outcome o) (map spec below) own lawful clones) is)

@@ -1,5 +1,5 @@
 -- What a crew says of its messages, where its plan is a job.
-use Rattle.std.proofs.Common.{◌≡◌, ◌∙◌, ℕ, List, [], map, length, Ok, Err, Result, IfOk, MatchResult, sym, ap, ap₂, subst}
+use Rattle.std.proofs.Common.{◌≡◌, ◌∙◌, ℕ, List, map, length, Ok, Err, Result, IfOk, sym, ap, ap₂, subst}
 use Rattle.std.specs.declared.alloc.AllocError.{AllocError}
 use Rattle.std.specs.declared.clone.Clone as Clone
 use Rattle.std.specs.declared.default.Default as Default
@@ -26,10 +26,8 @@ use Rattle.jwalk_job.specs.Plan.{tree_of}
 use Rattle.jwalk_job.specs.PlanReading.{IsPlanReading}
 use Rattle.jwalk_job.specs.ReadDir.{outcome}
 use Rattle.tree_crew.specs.Origin as tree
-use Rattle.jwalk_readings.specs.Message.{Message, Told, told, IsLawfulMessage}
+use Rattle.jwalk_readings.specs.Message.{Message, Told, told}
 use Rattle.jwalk_readings.specs.Origin.{begun, CountAlike, IsAt, IsMessageOf}
-use Rattle.jwalk_readings.specs.Reads.{IsListedReading}
-use Rattle.jwalk_readings.proofs.ReadFacts.{plan_reading}
 
 module _ {C S P A R E : Type 0} (files : FileSystem.Ghosts S) (process : ProcessReadDir.Ghosts P C A R E) (clone : Clone.Ghosts R) (defaults : Default.Ghosts E) where
   -- a job as a plan
@@ -70,18 +68,3 @@ module _ {C S P A R E : Type 0} (files : FileSystem.Ghosts S) (process : Process
         = ap₂ (λ a m. at_item a m (child_count_of given)) (ap address path) value ∙ ap (at_item (address_of item) (told item.value)) count in
         subst (IsMessageOf files process clone defaults (begun origin)) (sym same)
         (record { job = is.plan; at = at_walk (address_of item) item.value.of is.at; count = found item.value.of (child_count_of item) item.value.outcome is.reading })
-
-    -- what a worker read by the walk's own plan is of one listing
-    read_lawfully : (of : ReadDirSpec C A R E) (count : ℕ) (r : Result (Result (ReadDir C A R E) (Error A)) AllocError) → IfOk r (tree.IsReadingWith job_plan origin.plan of count) → IfOk r (λ o. IsListedReading files process clone defaults origin.plan (spec of) (outcome o))
-    read_lawfully of count (Ok read) is = plan_reading files process clone defaults origin.plan (IsSteadyJob files process clone defaults origin.plan) (λ given steady. steady) of read is.children is.made
-    read_lawfully of count (Err refused) is = tt
-
-    pub lawful_message : (item : Ordered (Told C S P A R E) A) → tree.IsMessageOf job_plan origin (addressed item) → IsLawfulMessage files process clone defaults (told item.value)
-    lawful_message item is =
-        subst (λ j. IfOk item.value.outcome (λ o. IsListedReading files process clone defaults j (spec item.value.of) (outcome o))) (sym is.plan)
-        (read_lawfully item.value.of (child_count_of item) item.value.outcome is.reading)
-
-  -- and so is what it reads by any plan
-  pub lawful_reading : (job : Job C S P A R E) (of : ReadDirSpec C A R E) (r : Result (Result (ReadDir C A R E) (Error A)) AllocError) (below : List (ReadDirSpec C A R E)) → MatchResult r (λ read. IsPlanReading files process clone defaults job of read below) (λ _. below ≡ []) → IfOk r (λ o. IsListedReading files process clone defaults job (spec of) (outcome o))
-  lawful_reading job of (Ok read) below is = plan_reading files process clone defaults job (IsSteadyJob files process clone defaults job) (λ given steady. steady) of read below is
-  lawful_reading job of (Err refused) below none = tt

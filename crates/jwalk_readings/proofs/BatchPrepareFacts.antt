@@ -42,12 +42,12 @@ module _ {C S P A R E : Type 0} (files : FileSystem.Ghosts S) (process : Process
     | inr more ↦ absurd (more.0 ready.read)
   ]
 
-  module _ (old new : Option (Board (ReadDirSpec C A R E) (Read C A R E))) (early : All (IsMade files process clone defaults job) (early_on old)) where
+  module _ (old new : Option (Board (ReadDirSpec C A R E) (Read C A R E))) (early : All (IsMade clone job) (early_on old)) where
     abbrev Counts : Given R E → Type 0
     Counts = IsSteadyWith files process clone defaults job (early_on old)
 
-    was_sound : All (IsSoundOver files process clone defaults Counts job) (early_on old)
-    was_sound = all_sound_over files process clone defaults Counts job (early_on old) early (λ given steady. steady.early)
+    was_sound : All (IsSoundOver files clone Counts job) (early_on old)
+    was_sound = all_sound_over files clone Counts job (early_on old) early (λ given steady. steady.early)
 
     abbrev Reads : Type 0
     Reads = tree.ReadsForNext (IsPlanReading files process clone defaults job) width old new
@@ -55,23 +55,23 @@ module _ {C S P A R E : Type 0} (files : FileSystem.Ghosts S) (process : Process
     abbrev Prepares : {F : Type 0} → Result (Unit {0}) F → Type 0
     Prepares result = tree.Prepares (IsPlanReading files process clone defaults job) width old result new
 
-    sound_after : (new ≡ old) ⊎ Reads → All (IsSoundOver files process clone defaults Counts job) (early_on new)
+    sound_after : (new ≡ old) ⊎ Reads → All (IsSoundOver files clone Counts job) (early_on new)
     sound_after reads =
         ⊎_elim
-        (λ (same : new ≡ old). subst (λ b. All (IsSoundOver files process clone defaults Counts job) (early_on b)) (sym same) was_sound)
+        (λ (same : new ≡ old). subst (λ b. All (IsSoundOver files clone Counts job) (early_on b)) (sym same) was_sound)
         (λ (r : Reads). joins_sound files process clone defaults job Counts (λ given steady. steady.steady) r.reads.readings old new r.reads.sound r.reads.join was_sound)
         reads
 
-    sound : {F : Type 0} (result : Result (Unit {0}) F) → Prepares result → All (IsSoundOver files process clone defaults Counts job) (early_on new)
+    sound : {F : Type 0} (result : Result (Unit {0}) F) → Prepares result → All (IsSoundOver files clone Counts job) (early_on new)
     sound (Ok done) p = sound_after p.reads
-    sound (Err e) p = subst (λ b. All (IsSoundOver files process clone defaults Counts job) (early_on b)) (sym p.stopped) (All-nil _)
+    sound (Err e) p = subst (λ b. All (IsSoundOver files clone Counts job) (early_on b)) (sym p.stopped) (All-nil _)
 
     -- what is kept was made lawfully
-    pub made_prepared : {F : Type 0} (result : Result (Unit {0}) F) → Prepares result → All (IsMade files process clone defaults job) (early_on new)
-    made_prepared result p = all_made files process clone defaults Counts job (early_on new) (sound result p)
+    pub made_prepared : {F : Type 0} (result : Result (Unit {0}) F) → Prepares result → All (IsMade clone job) (early_on new)
+    made_prepared result p = all_made files clone Counts job (early_on new) (sound result p)
 
     pub steady_prepared : {F : Type 0} (result : Result (Unit {0}) F) → Prepares result → (given : Given R E) → IsSteadyWith files process clone defaults job (early_on old) given → IsSteadyWith files process clone defaults job (early_on new) given
-    steady_prepared result p given steady = record { steady = steady.steady; early = all_as_given files process clone defaults Counts job (early_on new) (sound result p) given steady }
+    steady_prepared result p given steady = record { steady = steady.steady; early = all_as_given files clone Counts job (early_on new) (sound result p) given steady }
 
     pub stopped_prepared : {F : Type 0} (result : Result (Unit {0}) F) → Prepares result → OnErr result (to_read_on new ≡ [])
     stopped_prepared (Ok done) p = tt

@@ -25,18 +25,18 @@ use Rattle.jwalk_readings.proofs.SeenFacts.{seen_enters_next}
 use Rattle.jwalk_readings.proofs.ReadFacts.{all_sound_over, all_made, all_as_given, plan_sound, keeps_sound, gives_first, passes_first}
 
 module _ {C S P A R E : Type 0} (files : FileSystem.Ghosts S) (process : ProcessReadDir.Ghosts P C A R E) (clone : Clone.Ghosts R) (defaults : Default.Ghosts E) (job : Job C S P A R E) (width : ℕ)
-    (old new : Option (Board (ReadDirSpec C A R E) (Read C A R E))) (early : All (IsMade files process clone defaults job) (early_on old)) where
+    (old new : Option (Board (ReadDirSpec C A R E) (Read C A R E))) (early : All (IsMade clone job) (early_on old)) where
   abbrev Counts : Given R E → Type 0
   Counts = IsSteadyWith files process clone defaults job (early_on old)
 
-  was_sound : All (IsSoundOver files process clone defaults Counts job) (early_on old)
-  was_sound = all_sound_over files process clone defaults Counts job (early_on old) early (λ given steady. steady.early)
+  was_sound : All (IsSoundOver files clone Counts job) (early_on old)
+  was_sound = all_sound_over files clone Counts job (early_on old) early (λ given steady. steady.early)
 
-  sound_after : (o : Option (Result (ReadDir C A R E) (Error A))) → GivesNext (IsPlanReading files process clone defaults job) width old o new → All (IsSoundOver files process clone defaults Counts job) (early_on new)
-  sound_after None g = subst (λ b. All (IsSoundOver files process clone defaults Counts job) (early_on b)) (sym g.1) was_sound
+  sound_after : (o : Option (Result (ReadDir C A R E) (Error A))) → GivesNext (IsPlanReading files process clone defaults job) width old o new → All (IsSoundOver files clone Counts job) (early_on new)
+  sound_after None g = subst (λ b. All (IsSoundOver files clone Counts job) (early_on b)) (sym g.1) was_sound
   sound_after (Some read) g = keeps_sound files process clone defaults job Counts (λ given steady. steady.steady) width old new read g was_sound
 
-  next_given : (o : Option (Result (ReadDir C A R E) (Error A))) → GivesNext (IsPlanReading files process clone defaults job) width old o new → ReadsNext files process clone defaults Counts job (to_read_on old) (option_map outcome o) (to_read_on new)
+  next_given : (o : Option (Result (ReadDir C A R E) (Error A))) → GivesNext (IsPlanReading files process clone defaults job) width old o new → ReadsNext files clone Counts job (to_read_on old) (option_map outcome o) (to_read_on new)
   next_given None g = (ap (map spec) g.0, ap to_read_on g.1 ∙ ap (map spec) g.0)
   next_given (Some read) g = gives_first files process clone defaults job Counts (λ given steady. steady.steady) width old new read g was_sound
 
@@ -48,16 +48,16 @@ module _ {C S P A R E : Type 0} (files : FileSystem.Ghosts S) (process : Process
     abbrev Answers : Result (Option (Result (ReadDir C A R E) (Error A))) F → Type 0
     Answers answer = tree.Answers (IsPlanReading files process clone defaults job) width old answer new
 
-    sound : (answer : Result (Option (Result (ReadDir C A R E) (Error A))) F) → Answers answer → All (IsSoundOver files process clone defaults Counts job) (early_on new)
+    sound : (answer : Result (Option (Result (ReadDir C A R E) (Error A))) F) → Answers answer → All (IsSoundOver files clone Counts job) (early_on new)
     sound (Ok o) a = sound_after o a.next
-    sound (Err e) a = subst (λ b. All (IsSoundOver files process clone defaults Counts job) (early_on b)) (sym a.stopped) (All-nil _)
+    sound (Err e) a = subst (λ b. All (IsSoundOver files clone Counts job) (early_on b)) (sym a.stopped) (All-nil _)
 
     -- what is kept was made lawfully
-    pub made_after : (answer : Result (Option (Result (ReadDir C A R E) (Error A))) F) → Answers answer → All (IsMade files process clone defaults job) (early_on new)
-    made_after answer a = all_made files process clone defaults Counts job (early_on new) (sound answer a)
+    pub made_after : (answer : Result (Option (Result (ReadDir C A R E) (Error A))) F) → Answers answer → All (IsMade clone job) (early_on new)
+    made_after answer a = all_made files clone Counts job (early_on new) (sound answer a)
 
     pub steady_after : (answer : Result (Option (Result (ReadDir C A R E) (Error A))) F) → Answers answer → (given : Given R E) → IsSteadyWith files process clone defaults job (early_on old) given → IsSteadyWith files process clone defaults job (early_on new) given
-    steady_after answer a given steady = record { steady = steady.steady; early = all_as_given files process clone defaults Counts job (early_on new) (sound answer a) given steady }
+    steady_after answer a given steady = record { steady = steady.steady; early = all_as_given files clone Counts job (early_on new) (sound answer a) given steady }
 
     pub ahead_after : (answer : Result (Option (Result (ReadDir C A R E) (Error A))) F) → Answers answer → length (early_on new) + 1 ≤ length (early_on old) + width
     ahead_after answer a = omega (arith, a.ahead, length-map (left_on old).made seen_made, length-map (left_on new).made seen_made)
@@ -74,7 +74,7 @@ module _ {C S P A R E : Type 0} (files : FileSystem.Ghosts S) (process : Process
     some_before (Ok o) a = tt
     some_before (Err e) a = λ none. a.some (nil_from_length (left_on old).to_read (sym (length-map (left_on old).to_read spec) ∙ ap length none))
 
-    pub next_after : (answer : Result (Option (Result (ReadDir C A R E) (Error A))) F) → Answers answer → IfOk answer (λ o. ReadsNext files process clone defaults Counts job (to_read_on old) (option_map outcome o) (to_read_on new))
+    pub next_after : (answer : Result (Option (Result (ReadDir C A R E) (Error A))) F) → Answers answer → IfOk answer (λ o. ReadsNext files clone Counts job (to_read_on old) (option_map outcome o) (to_read_on new))
     next_after (Ok o) a = next_given o a.next
     next_after (Err e) a = tt
 

@@ -2,14 +2,11 @@
 use Rattle.std.proofs.Common.{◌≡◌, List, [], map, sym, ap, subst}
 use Rattle.std.specs.Prelude.{All, Option, None, Result, Ok, Err, OnOk, OnErr}
 use Rattle.std.specs.declared.clone.Clone as Clone
-use Rattle.std.specs.declared.default.Default as Default
 use Rattle.std.proofs.lemmas.List.Elements.{All-nil}
-use Rattle.jwalk_fs.specs.declared.file_system.FileSystem as FileSystem
 use Rattle.jwalk_board.specs.Board.{Board}
 use Rattle.tree_walk.specs.BoardWalk as tree
 use Rattle.tree_walk.specs.BoardWalk.{left_on}
 use Rattle.tree_walk.specs.ReadAhead as trees
-use Rattle.jwalk_job.specs.declared.process_read_dir.ProcessReadDir as ProcessReadDir
 use Rattle.jwalk_job.specs.declared.read_dir_spec.ReadDirSpec.{ReadDirSpec}
 use Rattle.jwalk_job.specs.ReadDirSpec.{spec}
 use Rattle.jwalk_job.specs.declared.job.Job.{Job}
@@ -25,8 +22,8 @@ module _ {C A R E X F : Type 0} where
   begun_early (Err e) b none stopped = ap early_on stopped
 
   -- so all of it was made lawfully
-  pub begun_made : {S P : Type 0} (files : FileSystem.Ghosts S) (process : ProcessReadDir.Ghosts P C A R E) (clone : Clone.Ghosts R) (defaults : Default.Ghosts E) (job : Job C S P A R E) (r : Result X F) (b : Option (Board (ReadDirSpec C A R E) (Read C A R E))) → OnOk r ((left_on b).made ≡ []) → OnErr r (b ≡ None) → All (IsMade files process clone defaults job) (early_on b)
-  begun_made files process clone defaults job r b none stopped = subst (All (IsMade files process clone defaults job)) (sym (begun_early r b none stopped)) (All-nil _)
+  pub begun_made : {S P : Type 0} (clone : Clone.Ghosts R) (job : Job C S P A R E) (r : Result X F) (b : Option (Board (ReadDirSpec C A R E) (Read C A R E))) → OnOk r ((left_on b).made ≡ []) → OnErr r (b ≡ None) → All (IsMade clone job) (early_on b)
+  begun_made clone job r b none stopped = subst (All (IsMade clone job)) (sym (begun_early r b none stopped)) (All-nil _)
 
   pub begun_to_read : (r : Result X F) (roots : List (ReadDirSpec C A R E)) (b : Option (Board (ReadDirSpec C A R E) (Read C A R E))) → OnOk r ((left_on b).to_read ≡ roots) → OnOk r (to_read_on b ≡ map spec roots)
   begun_to_read (Ok x) roots b same = ap (map spec) same

@@ -12,8 +12,7 @@ use Rattle.jwalk_job.specs.declared.process_read_dir.ProcessReadDir as ProcessRe
 use Rattle.jwalk_job.specs.declared.job.Job.{Job}
 use Rattle.jwalk_job.specs.ReadDirSpec.{spec}
 use Rattle.jwalk_job.specs.ReadDir.{outcome}
-use Rattle.jwalk_job.specs.Job.{options_of, greatest_depth, IsReadingBy}
-use Rattle.jwalk_readings.specs.Reads.{IsListedReading}
+use Rattle.jwalk_job.specs.Job.{options_of, greatest_depth, IsReadingOf, IsReadingBy}
 use Rattle.jwalk_readings.specs.declared.wanted.Wanted.{Wanted}
 use Rattle.jwalk_readings.specs.Message.{Message}
 use Rattle.jwalk_readings.specs.Wanted.{IsFor, Fits}
@@ -26,7 +25,7 @@ lawful_there max_depth reads_to of s (Err f) same there lawful = (omega (arith, 
 
 module _ {C S P A R E : Type 0} (files : FileSystem.Ghosts S) (process : ProcessReadDir.Ghosts P C A R E) (clone : Clone.Ghosts R) (defaults : Default.Ghosts E) (job : Job C S P A R E) (s : Spec R) (o : Outcome R E) where
   -- a message that fits what is awaited reports the directory's reading
-  pub told : (at : List ℕ) (wanted : Wanted A) (item : Ordered (Message C S P A R E) A) → IsFor at s (options_of job) wanted → Fits wanted item → IsOkAnd item.value.outcome (λ read. outcome read ≡ o) → IsListedReading files process clone defaults item.value.job (spec item.value.of) o → IsTold files process clone defaults job at s o
+  pub told : (at : List ℕ) (wanted : Wanted A) (item : Ordered (Message C S P A R E) A) → IsFor at s (options_of job) wanted → Fits wanted item → IsOkAnd item.value.outcome (λ read. outcome read ≡ o) → IsReadingOf files process clone defaults item.value.job (spec item.value.of) o → IsTold files process clone defaults job at s o
   told at wanted item is fits came reading = record {
     message = item;
     address = fits.at ∙ is.at;

@@ -21,8 +21,7 @@ use Rattle.jwalk_job.specs.declared.error.Error.{Error}
 use Rattle.jwalk_job.specs.declared.read_dir.ReadDir.{ReadDir}
 use Rattle.jwalk_job.specs.Given.{Given, counted_spec}
 use Rattle.jwalk_job.specs.Options.{options_value}
-use Rattle.jwalk_job.specs.Job.{options_of, job_by, IsSteadyJob, IsAsGiven}
-use Rattle.jwalk_readings.specs.Reads.{IsListedReading}
+use Rattle.jwalk_job.specs.Job.{options_of, job_by, IsSteadyJob, IsReadingOf, IsAsGiven}
 use Rattle.jwalk_job.specs.declared.read_dir_spec.ReadDirSpec.{ReadDirSpec}
 use Rattle.jwalk_job.specs.ReadDirSpec.{spec}
 use Rattle.jwalk_job.specs.ReadDir.{outcome}
@@ -163,7 +162,7 @@ module _ {C S P A L R E : Type 0} (files : FileSystem.Ghosts S) (process : Proce
   module _ (job : Job C S P A R E) (before after : L) (addresses : List (List ℕ)) (first : Spec R) (o : Outcome R E) (item : Ordered (Message C S P A R E) A)
       (here : address_of item ≡ next_address addresses)
       (of : (origin : Origin C S P A R E) → readers.comes_from before origin → IsMessageOf files process clone defaults origin (addressed item))
-      (reading : IsListedReading files process clone defaults item.value.job (spec item.value.of) o) (rest : List (Spec R)) (given : Given R E) (was : IsSteadyOver files process clone defaults readers job (Some before) addresses (first ∷ rest) given) where
+      (reading : IsReadingOf files process clone defaults item.value.job (spec item.value.of) o) (rest : List (Spec R)) (given : Given R E) (was : IsSteadyOver files process clone defaults readers job (Some before) addresses (first ∷ rest) given) where
     abbrev pub origin : Origin C S P A R E
     origin = record { job = job; roots = was.roots }
 
@@ -181,7 +180,7 @@ module _ {C S P A L R E : Type 0} (files : FileSystem.Ghosts S) (process : Proce
     pub value_of : IsAsGiven files given job first o
     value_of =
         let own : IsAsGiven files given job (spec item.value.of) o
-        = subst (λ j. IsSteadyJob files process clone defaults j given → IsAsGiven files given j (spec item.value.of) o) message.job (reading.value.given given) was.steady in
+        = subst (λ j. IsSteadyJob files process clone defaults j given → IsAsGiven files given j (spec item.value.of) o) message.job (reading.value given) was.steady in
         own ∙ ap (value.reading (job_by files given job)) same_there
 
     -- and its children's addresses are those of the directories that were found
@@ -201,7 +200,7 @@ module _ {C S P A L R E : Type 0} (files : FileSystem.Ghosts S) (process : Proce
   module _ (old new : CrewReads C S P A L R E) (before after : L) (first : Spec R) (read : Result (ReadDir C A R E) (Error A)) (item : Ordered (Message C S P A R E) A) (had : old.readers ≡ Some before) (has : new.readers ≡ Some after)
       (here : address_of item ≡ next_address old.matcher) (further : new.matcher ≡ passed old.matcher (child_count_of item))
       (of : (origin : Origin C S P A R E) → readers.comes_from before origin → IsMessageOf files process clone defaults origin (addressed item)) (same : (origin : Origin C S P A R E) → readers.comes_from before origin → readers.comes_from after origin) (goes_on : readers.awaits after ≡ passed (readers.awaits before) (child_count_of item))
-      (came : item.value.outcome ≡ Ok read) (reading : IsListedReading files process clone defaults item.value.job (spec item.value.of) (outcome read)) where
+      (came : item.value.outcome ≡ Ok read) (reading : IsReadingOf files process clone defaults item.value.job (spec item.value.of) (outcome read)) where
     -- the message says how many directories are in it
     message_count : (origin : Origin C S P A R E) → IsMessageOf files process clone defaults origin (addressed item) → child_count_of item ≡ length (children_of (outcome read))
     message_count origin message =

@@ -11,18 +11,17 @@ use Rattle.jwalk_fs.specs.declared.file_system.FileSystem as FileSystem
 use Rattle.jwalk_job.specs.declared.process_read_dir.ProcessReadDir as ProcessReadDir
 use Rattle.jwalk_job.specs.declared.job.Job.{Job}
 use Rattle.jwalk_job.specs.Given.{Given, counted_spec}
-use Rattle.jwalk_job.specs.Job.{IsSteadyJob, IsAsGiven, job_by}
-use Rattle.jwalk_readings.specs.Reads.{IsListedReading}
+use Rattle.jwalk_job.specs.Job.{IsSteadyJob, IsReadingOf, IsAsGiven, job_by}
 use Rattle.tree_crew.proofs.OriginFacts.{at_child}
 use Rattle.jwalk_readings.specs.Origin.{Origin, IsAt}
 
 module _ {C S P A R E : Type 0} (files : FileSystem.Ghosts S) (process : ProcessReadDir.Ghosts P C A R E) (clone : Clone.Ghosts R) (defaults : Default.Ghosts E) (origin : Origin C S P A R E) where
   -- below a directory that the walk's own job read are the directories that were found
-  pub below_read : (job : Job C S P A R E) (s : Spec R) (o : Outcome R E) (front : List (Spec R)) → job ≡ origin.job → IsListedReading files process clone defaults job s o → AreClones clone.is_clone (children_of o) front
+  pub below_read : (job : Job C S P A R E) (s : Spec R) (o : Outcome R E) (front : List (Spec R)) → job ≡ origin.job → IsReadingOf files process clone defaults job s o → AreClones clone.is_clone (children_of o) front
       → (given : Given R E) → IsSteadyJob files process clone defaults origin.job given → children_of (reading (job_by files given origin.job) (counted_spec given s)) ≡ map (counted_spec given) front
   below_read job s o front own read clones given steady =
       let as_given : IsAsGiven files given origin.job s o
-      = subst (λ j. IsSteadyJob files process clone defaults j given → IsAsGiven files given j s o) own (read.value.given given) steady in
+      = subst (λ j. IsSteadyJob files process clone defaults j given → IsAsGiven files given j s o) own (read.value given) steady in
       ap children_of (sym as_given)
       ∙ counted-children_of given.read_dir_state given.dir_entry_state o
       ∙ sym (counted_clones clone.is_clone given.read_dir_state steady.clones (children_of o) front clones)

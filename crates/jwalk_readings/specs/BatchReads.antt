@@ -12,7 +12,7 @@ use Rattle.jwalk_job.specs.declared.read_dir_spec.ReadDirSpec.{ReadDirSpec}
 use Rattle.jwalk_job.specs.ReadDirSpec.{spec}
 use Rattle.jwalk_job.specs.Given.{Given}
 use Rattle.jwalk_job.specs.declared.job.Job.{Job}
-use Rattle.jwalk_readings.specs.Reads.{Read, IsSteadyWith, ReadsNext}
+use Rattle.jwalk_readings.specs.Reads.{Read, IsSteadyWith}
 use Rattle.jwalk_readings.specs.ReadAhead.{ReadAhead, seen_ahead, MakesReady}
 
 -- What reads, how many directories are read together, and the board, which is gone once they were stopped.
@@ -69,10 +69,6 @@ module _ {C S P A R E : Type 0} (files : FileSystem.Ghosts S) (process : Process
   -- They stay steady over all that they were steady over.
   abbrev pub StaysSteady : BatchReads C S P A R E → BatchReads C S P A R E → Type 0
   StaysSteady old new = (given : Given R E) → IsSteadyBatches old given → IsSteadyBatches new given
-
-  -- The next reading is handed on, or none is left.
-  abbrev pub HandsOnNext : BatchReads C S P A R E → Option (Outcome R E) → BatchReads C S P A R E → Type 0
-  HandsOnNext old given new = ReadsNext files process clone defaults (IsSteadyBatches old) old.job (to_read old) given (to_read new)
 
   -- The next reading isn't made yet, and is made together with others. What is still to be given stays the same.
   pub record ReadsForNext (old new : BatchReads C S P A R E) : Type 0 where

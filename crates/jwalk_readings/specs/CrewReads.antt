@@ -16,8 +16,7 @@ use Rattle.jwalk_job.specs.declared.job.Job.{Job}
 use Rattle.jwalk_job.specs.ReadDirSpec.{spec}
 use Rattle.jwalk_job.specs.ReadDir.{outcome as view}
 use Rattle.jwalk_job.specs.Given.{Given, counted_spec}
-use Rattle.jwalk_job.specs.Job.{options_of, greatest_depth, IsReadingBy, IsSteadyJob, IsGivenOver}
-use Rattle.jwalk_readings.specs.Reads.{IsListedReading}
+use Rattle.jwalk_job.specs.Job.{options_of, greatest_depth, IsReadingOf, IsReadingBy, IsSteadyJob, IsGivenOver}
 use Rattle.jwalk_readings.specs.Message.{Message}
 use Rattle.jwalk_readings.specs.Origin.{Origin, spec_at}
 use Rattle.jwalk_readings.specs.declared.readers.Readers as Readers
@@ -55,14 +54,14 @@ IsNextBelow false x specs = Unit {0}
 IsNextBelow true x [] = Unit {0}
 IsNextBelow true x (spec ∷ specs) = IsBelow x spec
 
--- What a worker reported: the message at this address was made of this directory, whatever its state, by a job that reads by the same options, of one listing.
+-- What a worker reported: the message at this address was made of this directory, whatever its state, by a job that reads by the same options.
 pub record IsTold {C S P A R E : Type 0} (files : FileSystem.Ghosts S) (process : ProcessReadDir.Ghosts P C A R E) (clone : Clone.Ghosts R) (defaults : Default.Ghosts E) (job : Job C S P A R E) (at : List ℕ) (asked : Spec R) (outcome : Outcome R E) : Type 0 where
   pub message : Ordered (Message C S P A R E) A
   pub address : address_of message ≡ at
   pub options : ReadsAs (options_of message.value.job) (options_of job)
   pub place : (spec message.value.of).directory ≡ asked.directory
   pub told : IsOkAnd message.value.outcome (λ o. view o ≡ outcome)
-  pub reading : IsListedReading files process clone defaults message.value.job (spec message.value.of) outcome
+  pub reading : IsReadingOf files process clone defaults message.value.job (spec message.value.of) outcome
 
 -- why a reading didn't come, as an error
 abbrev pub failure_of : Missed → Failure

@@ -11,7 +11,7 @@ use Rattle.jwalk_job.specs.declared.read_dir.ReadDir.{ReadDir}
 use Rattle.jwalk_job.specs.declared.read_dir_spec.ReadDirSpec.{ReadDirSpec}
 use Rattle.jwalk_job.specs.ReadDirSpec.{spec}
 use Rattle.jwalk_job.specs.ReadDir.{outcome}
-use Rattle.jwalk_readings.specs.Reads.{IsListedReading}
+use Rattle.jwalk_job.specs.Job.{IsReadingOf}
 use Rattle.tree_crew.specs.Message as tree
 
 -- the job that read, the directory that was read, and the outcome, or that memory ran out
@@ -33,6 +33,6 @@ abbrev pub told : {C S P A R E : Type 0} → Told C S P A R E → Message C S P 
 told m = record { job = m.plan; of = m.of; outcome = m.outcome }
 
 module _ {C S P A R E : Type 0} (files : FileSystem.Ghosts S) (process : ProcessReadDir.Ghosts P C A R E) (clone : Clone.Ghosts R) (defaults : Default.Ghosts E) where
-  -- The outcome is the job's reading of the directory, of one listing, unless memory ran out.
+  -- The outcome is the job's reading of the directory, unless memory ran out.
   abbrev pub IsLawfulMessage : Message C S P A R E → Type 0
-  IsLawfulMessage m = IfOk m.outcome (λ o. IsListedReading files process clone defaults m.job (spec m.of) (outcome o))
+  IsLawfulMessage m = IfOk m.outcome (λ o. IsReadingOf files process clone defaults m.job (spec m.of) (outcome o))

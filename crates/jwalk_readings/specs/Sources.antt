@@ -9,7 +9,7 @@ use Rattle.jwalk_fs.specs.declared.file_system.FileSystem as FileSystem
 use Rattle.jwalk_job.specs.declared.process_read_dir.ProcessReadDir as ProcessReadDir
 use Rattle.jwalk_job.specs.declared.job.Job.{Job}
 use Rattle.jwalk_job.specs.Job.{options_of, greatest_depth, job_by}
-use Rattle.jwalk_readings.specs.Reads.{IsListed, ReadsNextBy}
+use Rattle.jwalk_readings.specs.Reads.{ReadsNextBy}
 use Rattle.jwalk_readings.specs.ReadAhead.{ReadAhead, Enters}
 use Rattle.jwalk_readings.specs.CrewReads as crew
 use Rattle.jwalk_readings.specs.CrewReads.{IsTold, IsNextBelow}
@@ -34,9 +34,9 @@ module _ {C S P A R E : Type 0} (files : FileSystem.Ghosts S) (process : Process
   EntersBy false job width at old new = Enters files process clone defaults job width at old new
   EntersBy true job width at old new = (new ≡ old) × (1 ≤ width)
 
-  -- Of a walk's own reading it is known that it is of one listing, and of a crew's what a worker reported.
+  -- Of a reading that a crew made it is known what a worker reported.
   abbrev pub ToldBy : Bool → Job C S P A R E → List ℕ → Spec R → Outcome R E → Type 0
-  ToldBy false job at spec outcome = IsListed files process clone defaults job spec outcome
+  ToldBy false job at spec outcome = Unit {0}
   ToldBy true job at spec outcome = IsTold files process clone defaults job at spec outcome
 
   abbrev pub source_by : Base C S P A R E → Source R E

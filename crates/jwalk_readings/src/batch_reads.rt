@@ -4,6 +4,7 @@ ghost use Rattle.jwalk_order.specs.Frontier.{passed};
 ghost use Rattle.jwalk_job.specs.ReadDirSpec.{spec};
 ghost use Rattle.jwalk_job.specs.ReadDir.{outcome};
 ghost use Rattle.jwalk_job.specs.Job.{callback};
+ghost use Rattle.jwalk_readings.specs.Reads.{ReadsNext};
 ghost use Rattle.jwalk_readings.specs.ReadAhead.{nothing_ahead, BeginsWith, EntersNext};
 
 use jwalk_fs::file_system::FileSystem;
@@ -19,24 +20,17 @@ use tree_walk::board_walk::BoardWalk;
 
 /// Readings in preorder: a directory's, and then those of all that is below it. Up to `width` directories are read
 /// together, when a reading is asked for that isn't made yet.
-pub struct BatchReads<
-    C: ClientState,
-    S: FileSystem,
-    P: ProcessReadDir<C, A>,
-    A: Allocator + Copy = Global,
-> {
+pub struct BatchReads<C: ClientState, S, P, A: Allocator + Copy = Global> {
     walk: BoardWalk<ReadDirSpec<C, A>, Outcome<C, A>, Job<C, S, P, A>, A>,
 }
 
-impl<C: ClientState, S: FileSystem, P: ProcessReadDir<C, A>, A: Allocator + Copy> Drop
-    for BatchReads<C, S, P, A> {
+impl<C: ClientState, S: Drop, P: Drop, A: Allocator + Copy> Drop for BatchReads<C, S, P, A> {
     fn drop(self) {
         let BatchReads { walk: _ } = self;
     }
 }
 
-impl<C: ClientState, S: FileSystem, P: ProcessReadDir<C, A>, A: Allocator + Copy> Model
-    for BatchReads<C, S, P, A> {
+impl<C: ClientState, S, P, A: Allocator + Copy> Model for BatchReads<C, S, P, A> {
     ghost use Rattle.std.specs.Prelude.{All};
     ghost use Rattle.jwalk_readings.specs.Reads.{IsMade};
     ghost use Rattle.jwalk_readings.specs.BatchReads.{BatchReads as State, early_on};
@@ -45,8 +39,7 @@ impl<C: ClientState, S: FileSystem, P: ProcessReadDir<C, A>, A: Allocator + Copy
 
     ghost view = { λ w. record { job = w.walk.plan; width = w.walk.width; board = w.walk.board } };
 
-    ghost invariant = { λ w. All (IsMade S.FileSystem P.ProcessReadDir C.ReadDirState.Clone C.DirEntryState.Default
-        w.walk.plan) (early_on w.walk.board) };
+    ghost invariant = { λ w. All (IsMade C.ReadDirState.Clone w.walk.plan) (early_on w.walk.board) };
 }
 
 impl<C: ClientState, S: FileSystem, P: ProcessReadDir<C, A>, A: Allocator + Copy> BatchReads<
@@ -55,7 +48,7 @@ impl<C: ClientState, S: FileSystem, P: ProcessReadDir<C, A>, A: Allocator + Copy
     P,
     A,
 > {
-    ghost use Rattle.jwalk_readings.specs.BatchReads.{to_read, early_of, read_ahead, frontier_of, next_of, HandsOnNext, PassesAddress, StaysSteady};
+    ghost use Rattle.jwalk_readings.specs.BatchReads.{to_read, early_of, read_ahead, frontier_of, next_of, PassesAddress, IsSteadyBatches, StaysSteady};
 
     pub(crate) fn new(alloc: A, job: Job<C, S, P, A>, width: usize) -> Self
         requires { 1 ≤ width }
@@ -130,8 +123,9 @@ impl<C: ClientState, S: FileSystem, P: ProcessReadDir<C, A>, A: Allocator + Copy
         ensures some { OnErr result (to_read self.old ≢ []) }
         ensures steady { StaysSteady S.FileSystem P.ProcessReadDir C.ReadDirState.Clone C.DirEntryState.Default
             self.old self.new }
-        ensures next { IfOk result (λ o. HandsOnNext S.FileSystem P.ProcessReadDir C.ReadDirState.Clone
-            C.DirEntryState.Default self.old (option_map outcome o) self.new) }
+        ensures next { IfOk result (λ o. ReadsNext S.FileSystem C.ReadDirState.Clone
+            (IsSteadyBatches S.FileSystem P.ProcessReadDir C.ReadDirState.Clone C.DirEntryState.Default self.old)
+            self.old.job (to_read self.old) (option_map outcome o) (to_read self.new)) }
         ensures enters { IfOk result (λ o. EntersNext S.FileSystem P.ProcessReadDir C.ReadDirState.Clone
             C.DirEntryState.Default self.old.job self.old.width (next_of self.old) (read_ahead self.old)
             (option_map outcome o) (read_ahead self.new)) }

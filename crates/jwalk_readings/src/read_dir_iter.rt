@@ -37,20 +37,14 @@ use std::alloc::{AllocError, Allocator, Global};
 ///
 /// Over a crew, calls may block: `next` and `next_of`, on threads or not, for a reading, and these, `ahead` and the drop
 /// for a lock.
-pub enum ReadDirIter<
-    C: ClientState,
-    S: FileSystem,
-    P: ProcessReadDir<C, A>,
-    A: Allocator + Copy = Global,
-    L = NoCrew,
-> {
+pub enum ReadDirIter<C: ClientState, S, P, A: Allocator + Copy = Global, L = NoCrew> {
     /// One directory or several are read together, when a reading is asked for that isn't there yet.
     Walk(BatchReads<C, S, P, A>),
     /// The workers of a crew read ahead.
     CrewWalk(CrewReads<C, S, P, A, L>),
 }
 
-impl<C: ClientState, S: FileSystem, P: ProcessReadDir<C, A>, A: Allocator + Copy, L: Drop> Drop
+impl<C: ClientState, S: Drop, P: Drop, A: Allocator + Copy, L: Drop> Drop
     for ReadDirIter<C, S, P, A, L> {
     fn drop(self) {
         match self {

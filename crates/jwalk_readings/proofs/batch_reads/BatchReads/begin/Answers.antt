@@ -2,7 +2,7 @@ use Rattle.jwalk_readings.proofs.BeginFacts.{begun_early, begun_made, begun_to_r
 use Rattle.jwalk_readings.proofs.batch_reads.BatchReads.begin.Goals as goal
 
 pub invariant_of-self : goal.invariant_of-self
-invariant_of-self g c = begun_made _ _ _ _ _ c.begin.result c.begin.new.self.board c.begin.ensures.early c.begin.ensures.stopped
+invariant_of-self g c = begun_made _ _ c.begin.result c.begin.new.self.board c.begin.ensures.early c.begin.ensures.stopped
 
 pub returns-clause-to_read : goal.returns-clause-to_read
 returns-clause-to_read g c = begun_to_read c.begin.result c.args.roots.items c.begin.new.self.board c.begin.ensures.to_read

@@ -9,7 +9,7 @@ pub invariant_of-self : goal.invariant_of-self
 invariant_of-self g c =
     let w = c.self.inside.walk in
     let now = c.prepare_on.new.self in
-    subst (λ j. All (IsMade g.S.FileSystem g.P.ProcessReadDir g.C.ReadDirState.Clone g.C.DirEntryState.Default j) (early_on now.board)) (sym c.prepare_on.ensures.plan)
+    subst (λ j. All (IsMade g.C.ReadDirState.Clone j) (early_on now.board)) (sym c.prepare_on.ensures.plan)
     (made_prepared g.S.FileSystem g.P.ProcessReadDir g.C.ReadDirState.Clone g.C.DirEntryState.Default w.plan w.width w.board now.board c.self.invariant c.prepare_on.result c.prepare_on.ensures.prepares)
 
 pub returns-clause-wide : goal.returns-clause-wide

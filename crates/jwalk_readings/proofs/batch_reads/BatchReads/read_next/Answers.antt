@@ -9,7 +9,7 @@ pub invariant_of-self : goal.invariant_of-self
 invariant_of-self g c =
     let w = c.self.inside.walk in
     let now = c.read_next.new.self in
-    subst (λ j. All (IsMade g.S.FileSystem g.P.ProcessReadDir g.C.ReadDirState.Clone g.C.DirEntryState.Default j) (early_on now.board)) (sym c.read_next.ensures.plan)
+    subst (λ j. All (IsMade g.C.ReadDirState.Clone j) (early_on now.board)) (sym c.read_next.ensures.plan)
     (made_after g.S.FileSystem g.P.ProcessReadDir g.C.ReadDirState.Clone g.C.DirEntryState.Default w.plan w.width w.board now.board c.self.invariant c.read_next.result c.read_next.ensures.answers)
 
 pub returns-clause-ahead : goal.returns-clause-ahead

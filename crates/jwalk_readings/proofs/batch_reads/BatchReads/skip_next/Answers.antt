@@ -3,7 +3,7 @@ use Rattle.jwalk_readings.proofs.SkipFacts.{skipped_to_read, skipped_frontier, s
 use Rattle.jwalk_readings.proofs.batch_reads.BatchReads.skip_next.Goals as goal
 
 pub invariant_of-self : goal.invariant_of-self
-invariant_of-self g c = rw c.skip_next.ensures.plan (skipped_early _ _ (IsMade g.S.FileSystem g.P.ProcessReadDir g.C.ReadDirState.Clone g.C.DirEntryState.Default c.self.inside.walk.plan) c.skip_next.ensures.skips c.self.invariant)
+invariant_of-self g c = rw c.skip_next.ensures.plan (skipped_early _ _ (IsMade g.C.ReadDirState.Clone c.self.inside.walk.plan) c.skip_next.ensures.skips c.self.invariant)
 
 pub returns-clause-to_read : goal.returns-clause-to_read
 returns-clause-to_read g c = rw (← c.self.view_is) (skipped_to_read _ _ c.skip_next.ensures.skips)

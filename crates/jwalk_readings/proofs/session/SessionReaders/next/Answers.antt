@@ -5,7 +5,7 @@ use Rattle.tree_crew.specs.Session.{origin_of}
 use Rattle.jwalk_readings.specs.Due.{IsDue}
 use Rattle.jwalk_readings.specs.Origin.{begun, IsMessageOf}
 use Rattle.jwalk_readings.specs.Session.{awaited_by}
-use Rattle.jwalk_readings.proofs.AtJob.{message_of, lawful_message}
+use Rattle.jwalk_readings.proofs.AtJob.{message_of}
 use Rattle.jwalk_readings.proofs.DueFacts.{due_fits}
 use Rattle.jwalk_readings.proofs.session.SessionReaders.next.Goals as goal
 
@@ -26,6 +26,3 @@ returns-else-fits-clause-due g c lost origin from due =
     (message_of g.S.FileSystem g.P.ProcessReadDir g.C.ReadDirState.Clone g.C.DirEntryState.Default began c.in-Some.item c.new-item.result
     (c.new-item.ensures.value ∙ c.of_crew.ensures) c.new-item.ensures.index_path (c.new-item.ensures.child_count ∙ c.child_count-child_count.ensures) (rw c.in-Some.is at c.in_ok-item.ensures.answer).of) in
     let no : false ≡ true = sym c.if-fits.false ∙ c.fits.ensures.1 fits in absurd cc
-
-pub of_crew-requires : goal.of_crew-requires
-of_crew-requires g c = lawful_message g.S.FileSystem g.P.ProcessReadDir g.C.ReadDirState.Clone g.C.DirEntryState.Default (origin_of c.args.self.now.readings) c.in-Some.item (rw c.in-Some.is at c.in_ok-item.ensures.answer).of
