@@ -27,13 +27,16 @@ tells_memory true f is = inl is
 one_leaves : {R : Type 0} (at : List ℕ) (old new : ReadAhead R) → HandsOnAt at old new → length old.done ≡ length new.done + 1
 one_leaves at old new hands = omega (arith, length_permutation old.done (at ∷ new.done) hands.done)
 
--- a clone of a directory below an entry is below it
+-- a clone of the directory below an entry is below it
 clone_below : {R E : Type 0} (is_clone : R → R → Type 0) (state : R) (e : Entry R E) (c : Children R) (made : Spec R) → IsClone is_clone (spec_below state e c) made → (o : Option (Children R)) → o ≡ Some c → e.read_children ≡ o → IsBelow (Ok e) made
 clone_below is_clone state e c made clone o is same = rw (same, is) clone.0
 
+pub found_there : {R E : Type 0} (is_clone : R → R → Type 0) (e : Entry R E) (c : Children R) (state : R) (made : Spec R) → e.read_children ≡ Some c → IsClone is_clone (spec_below state e c) made → IsBelow (Ok e) made
+found_there is_clone e c state made is same = clone_below is_clone state e c made same e.read_children is refl
+
 found_below : {R E : Type 0} (b : Bool) (is_clone : R → R → Type 0) (state : R) (e : Entry R E) (c : Children R) (made : Spec R) → e.read_children ≡ Some c → IsClone is_clone (spec_below state e c) made → IsNextBelow b (Ok e) (made ∷ [])
 found_below false is_clone state e c made is same = tt
-found_below true is_clone state e c made is same = clone_below is_clone state e c made same e.read_children is refl
+found_below true is_clone state e c made is same = found_there is_clone e c state made is same
 
 module _ {C S P A R E : Type 0} (files : FileSystem.Ghosts S) (process : ProcessReadDir.Ghosts P C A R E) (clone : Clone.Ghosts R) (defaults : Default.Ghosts E) (job : Job C S P A R E) (width : ℕ) where
   least_join : (old new : ReadAhead R) → ReadsLeast files process clone defaults job width old new → length new.done ≤ length old.done + width
