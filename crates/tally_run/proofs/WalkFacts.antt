@@ -45,7 +45,7 @@ use Rattle.tally_run.specs.OneDevice.{on_devices, root_before, root_of as device
 use Rattle.tally_run.specs.Results.{Row, Takes, row_of, rows_of}
 use Rattle.tally_run.specs.Shown.{shown_asked}
 use Rattle.tally_run.specs.Walks.{CountsAnswers, CountsBelow, CountsWalk, TakesSubtotals, all_below, counted_below, kept_below, subtotals_asked, subtotals_taken}
-use Rattle.tally_run.specs.Yielded.{Honours, IsHonouring, IsPlain, Walked, YieldedBy, crew_at, found_in, has_folders}
+use Rattle.tally_run.specs.Yielded.{Honours, IsHonouring, IsPlain, Walked, YieldedBy}
 use Rattle.tally_run.specs.declared.counting.Counted.{Counted}
 use Rattle.tally_run.specs.declared.followed_root.FollowedRoot.{FollowedRoot}
 use Rattle.tally_run.specs.declared.one_device.OneDevice.{OneDevice}
@@ -141,13 +141,6 @@ module _ {T Z X C E G H F : Type 0} (plain : CrewCallsOf T G (Arc (FollowedRoot 
 
   pub by_itself : asked.ignore ≡ false → Walked plain (IsPlain disk crew asked root) asked.one_file_system answers → YieldedBy plain honouring disk texts crew asked root answers
   by_itself is y = subst By (sym is) y
-
--- the crew that reads below a root
-pub crew_below : {W : Type 0} (fs : Functions) (follow : Bool) (root : List ℕ) (crew : Option W) → has_folders follow (found_in (fs.meta_of root)) ≡ true → crew ≡ crew_at fs follow root crew
-crew_below {W} fs follow root crew is = ap (λ (b : Bool). if b then crew else None) (sym is)
-
-pub no_crew_below : {W : Type 0} (fs : Functions) (follow : Bool) (root : List ℕ) (crew : Option W) → has_folders follow (found_in (fs.meta_of root)) ≡ false → None ≡ crew_at fs follow root crew
-no_crew_below {W} fs follow root crew is = ap (λ (b : Bool). if b then crew else None) (sym is)
 
 -- what is counted below a root, with ignore files and without
 pub kept_counted : (fs : Functions) (texts : Texts) (asked : Asked) (root : List ℕ) → asked.ignore ≡ true → on_devices asked.one_file_system (kept_below fs texts asked root) ≡ counted_below fs texts asked root

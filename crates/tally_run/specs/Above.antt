@@ -7,7 +7,7 @@ use Rattle.jwalk.specs.jwalk_model.Metadata.{identity_of, same_file, type_of}
 use Rattle.jwalk.specs.jwalk_model.Paths.{dot, dots, join, parent}
 use Rattle.jwalk.specs.jwalk_model.declared.metadata.Identity.{Identity}
 use Rattle.jwalk.specs.jwalk_model.declared.metadata.Metadata.{Metadata}
-use Rattle.tally_run.specs.Yielded.{found_in}
+use Rattle.program_walks.specs.Folders.{found_in}
 
 -- which directory something is, if it is one and that is known
 abbrev pub folder_in : Option Metadata → Option Identity

@@ -2,7 +2,7 @@
 use Rattle.std.specs.Prelude.{◌≡◌, Bool, true, false, Result}
 use Rattle.std.specs.declared.io.ErrorKind.{ErrorKind}
 use Rattle.jwalk.specs.jwalk_model.declared.metadata.Metadata.{Metadata}
-use Rattle.tally_run.specs.Yielded.{found_in, has_folders}
+use Rattle.program_walks.specs.Folders.{found_in, has_folders}
 use Rattle.tally_run.specs.declared.roots.RootKind.{RootKind}
 use Rattle.tally_run.specs.declared.roots.RootKind.TheVariants.{LeftOut, Directory, Other}
 

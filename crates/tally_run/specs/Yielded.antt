@@ -1,16 +1,11 @@
 -- The answers of the walks that a call counts, whatever the disk and the texts return.
-use Rattle.std.specs.Prelude.{◌≡◌, ℕ, ◌==◌, Bool, ◌&&◌, ◌||◌, not, false, List, Option, None, Some, Result, Ok, Err, is_some, MatchBool, if◌then◌else◌}
+use Rattle.std.specs.Prelude.{◌≡◌, ℕ, Bool, false, List, Option, Result, is_some, MatchBool}
 use Rattle.std.specs.Arc.{arc_value}
 use Rattle.std.specs.Iterator.{Drains}
-use Rattle.std.specs.declared.io.ErrorKind.{ErrorKind}
 use Rattle.std.specs.declared.sync.Arc.{Arc}
 use Rattle.jwalk.specs.jwalk_model.Counted.{Worth}
 use Rattle.jwalk.specs.jwalk_model.Entry.{Item}
 use Rattle.jwalk.specs.jwalk_model.FileSystem.{Functions}
-use Rattle.jwalk.specs.jwalk_model.FileType.{is_dir}
-use Rattle.jwalk.specs.jwalk_model.Metadata.{details_of, type_of}
-use Rattle.jwalk.specs.jwalk_model.declared.metadata.Details.{Details}
-use Rattle.jwalk.specs.jwalk_model.declared.metadata.Metadata.{Metadata}
 use Rattle.jwalk.specs.jwalk_model.Options.{with_skip_hidden}
 use Rattle.jwalk.specs.jwalk_job.Given.{Given, counted_list}
 use Rattle.jwalk.specs.jwalk_job.declared.dir_entry.DirEntry.{DirEntry}
@@ -28,6 +23,7 @@ use Rattle.jwalk_ignore.specs.declared.callback.excluding.Excluding.{Excluding}
 use Rattle.jwalk_ignore.specs.declared.callback.ignore_files.IgnoreFiles.{IgnoreFiles}
 use Rattle.jwalk_ignore.specs.declared.callback.states.RulesState.{RulesState}
 use Rattle.program_walks.specs.Crew.{CrewCallsOf, ReadsBy, with_crew}
+use Rattle.program_walks.specs.Folders.{IsCrewAt}
 use Rattle.tally_words.specs.declared.asked.Asked.{Asked}
 use Rattle.tally_run.specs.FollowedRoot.{disk_in, root_in}
 use Rattle.tally_run.specs.OneDevice.{on_devices}
@@ -70,33 +66,14 @@ pub record IsHonouring {T C Z B X A E : Type 0} (disk : Z) (texts : X) (crew : O
   pub excluded : excluded_of (next_of (callback_of walk)) ≡ excluded_asked asked root
   pub begins : rules_held (state_of walk) ≡ no_rules
 
--- what a path leads to, if that is known
-abbrev pub found_in : Result Metadata ErrorKind → Option Metadata
-found_in (Ok m) = Some m
-found_in (Err k) = None
-
--- whether something has two names, as a directory has that no other is in, where a file system counts them
-abbrev has_two_names : Option Details → Bool
-has_two_names None = false
-has_two_names (Some d) = d.links == 2
-
--- whether directories may be in something, or in what links in it lead to if links are followed
-abbrev pub has_folders : Bool → Option Metadata → Bool
-has_folders follow None = false
-has_folders follow (Some m) = is_dir (type_of m) && (follow || not (has_two_names (details_of m)))
-
--- the crew that reads below a root: where no directory is in it, none is needed
-abbrev pub crew_at : {W : Type 0} → Functions → Bool → List ℕ → Option W → Option W
-crew_at fs follow root crew = if has_folders follow (found_in (fs.meta_of root)) then crew else None
-
 module _ {T C Z B X A E G H F : Type 0} (plain : CrewCallsOf T G (Arc (FollowedRoot Z) B) Excluding A H F) (honouring : CrewCallsOf T C (Arc (FollowedRoot Z) B) (Honours X B) A RulesState E) where
   -- The answers are those of the walk that is asked for below this root, for which this crew reads, if there is one.
   abbrev pub YieldedBy : Z → X → Option (Arc (Crew T) A) → Asked → List ℕ → List (Item Worth Worth) → Type 0
   YieldedBy disk texts crew asked root answers =
       MatchBool asked.ignore (Walked honouring (IsHonouring disk texts crew asked root) asked.one_file_system answers) (Walked plain (IsPlain disk crew asked root) asked.one_file_system answers)
 
-  -- The same, where the crew reads below directories that others may be in alone. Whether the root is one is known if the disk always returns the same.
+  -- The same, where the crew reads below directories that others may be in alone.
   pub record YieldedBelow (fixed : Type 0) (fs : Functions) (disk : Z) (texts : X) (crew : Option (Arc (Crew T) A)) (asked : Asked) (root : List ℕ) (answers : List (Item Worth Worth)) : Type 0 where
     pub reads : Option (Arc (Crew T) A)
-    pub by : fixed → reads ≡ crew_at fs asked.follow root crew
+    pub by : IsCrewAt fixed fs asked.follow crew root reads
     pub yielded : YieldedBy disk texts reads asked root answers

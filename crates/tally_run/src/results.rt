@@ -201,21 +201,21 @@ impl Results {
         &mut self,
         alloc: Global,
         root: &str,
-        found: &WithSubtotal<C, A>,
+        one: &WithSubtotal<C, A>,
         out: &mut W,
     ) -> Result<(), Failure>
-        ensures { OnOk result (Takes (row root.now (entry found.now.entry) found.now.subtotal ∷ [])
+        ensures { OnOk result (Takes (row root.now (entry one.now.entry) one.now.subtotal ∷ [])
             self.old (W.contents out.old) self.new (W.contents out.new)) }
     {
-        let (depth, bytes) = (found.entry.depth(), found.subtotal.bytes);
+        let (depth, bytes) = (one.entry.depth(), one.subtotal.bytes);
         self.add(depth, bytes)?;
         if !is_large(self.threshold, bytes) {
             self.shape.leave_out(depth);
             return Ok(());
         }
-        let (folder, name) = (folder_shown(&found.entry), name_shown(root, &found.entry));
+        let (folder, name) = (folder_shown(&one.entry), name_shown(root, &one.entry));
         self.shape
-            .take(alloc, depth, folder, name, &found.subtotal, out)
+            .take(alloc, depth, folder, name, &one.subtotal, out)
     }
 
     /// Returns what is left to be written, with the sum of all roots behind it if that is asked for.

@@ -2,11 +2,11 @@
 ghost use Rattle.std.specs.Prelude.{◌≡◌, ◌≢◌, true, false, length, Some, IfOk, if◌then◌else◌, None};
 ghost use Rattle.tally_run.specs.Above.{folder_at, folder_in, folder_of, LeadsInto, LiesBelow};
 ghost use Rattle.tally_run.specs.RootKind.{IsKindOf};
-ghost use Rattle.tally_run.specs.Yielded.{found_in, has_folders};
 ghost use Rattle.tally_run.specs.declared.roots.RootKind.TheVariants.{LeftOut};
 
 use jwalk::file_system::{Fault, FileSystem, Identity, Metadata};
 use jwalk::path_text::{join, parent};
+use program_walks::folders::{has_folders, look_at};
 use std::alloc::{AllocError, Global};
 
 /// How many folders are looked at above a root. A path has at most 4,096 bytes, so no path of `..` leads further up.
@@ -31,17 +31,6 @@ pub(crate) struct Roots {
     one_file_system: bool,
 }
 
-/// Returns what a path leads to, if that is known.
-fn look_at<S: FileSystem>(disk: &S, path: &str) -> Result<Option<Metadata>, AllocError>
-    ensures { S.IsFixed disk.now → IfOk result (λ found. found ≡ found_in ((S.functions disk.now).meta_of path.now)) }
-{
-    match disk.metadata(path) {
-        Ok(found) => Ok(Some(found)),
-        Err(Fault::Io(_)) => Ok(None),
-        Err(Fault::Memory) => Err(AllocError),
-    }
-}
-
 /// Returns whether something is a directory, and which file it is, if that is known.
 fn folder_and_identity(found: Option<Metadata>) -> (bool, Option<Identity>)
     ensures { folder_in found ≡ (if result.0 then result.1 else None) }
@@ -50,17 +39,6 @@ fn folder_and_identity(found: Option<Metadata>) -> (bool, Option<Identity>)
         Some(found) => (found.is_dir(), found.identity()),
         None => (false, None),
     }
-}
-
-/// Returns whether directories may be in something. A directory without one has two names, where a file system counts them.
-/// Where links are followed, one may lead to a directory.
-fn has_folders(found: Option<Metadata>, follow: bool) -> bool
-    ensures { result ≡ has_folders follow found }
-{
-    let Some(found) = found else {
-        return false;
-    };
-    found.is_dir() && (follow || !matches!(found.details(), Some(details) if details.links == 2))
 }
 
 /// Returns `None` for what is no directory, and where its identity isn't known.
@@ -150,7 +128,7 @@ impl Roots {
         own: Option<Identity>,
     ) -> Result<bool, AllocError>
         ensures above { S.IsFixed disk.now
-            → IfOk result (λ is. is ≡ true → LeadsInto (S.functions disk.now) self.now.counted.items (folder_of path.now)) }
+            → IfOk result (λ b. b ≡ true → LeadsInto (S.functions disk.now) self.now.counted.items (folder_of path.now)) }
     {
         if !is_there(disk, path)? {
             return Ok(false);

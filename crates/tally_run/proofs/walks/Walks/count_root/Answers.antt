@@ -1,8 +1,9 @@
 use Rattle.std.proofs.Common.{None, inl, inr, refl, subst}
 use Rattle.std.specs.Arc.{arc_value}
 use Rattle.std.proofs.lemmas.Result.{IfOk-weaker}
+use Rattle.program_walks.proofs.FolderFacts.{none_reads_below, reads_below}
 use Rattle.tally_run.specs.RootKind.{IsKindOf}
-use Rattle.tally_run.proofs.WalkFacts.{below_as, crew_below, no_crew_below}
+use Rattle.tally_run.proofs.WalkFacts.{below_as}
 use Rattle.tally_run.proofs.walks.Walks.count_root.Goals as goal
 
 pub returns-in_ok-report_root-in-LeftOut-clause-counts : goal.returns-in_ok-report_root-in-LeftOut-clause-counts
@@ -16,7 +17,7 @@ returns-in-Directory-clause-first g c = λ _.
     below_as (λ always. always)
     (λ answers yielded. record {
       reads = self.crew;
-      by = λ fixed. crew_below (g.S.FileSystem.functions (arc_value self.disk)) self.asked.now.follow c.args.root.now self.crew (subst (IsKindOf self.asked.now.follow ((g.S.FileSystem.functions (arc_value self.disk)).meta_of c.args.root.now)) c.in-Directory.is (c.in_ok-add.ensures.kind fixed));
+      by = reads_below self.crew (λ fixed. subst (IsKindOf self.asked.now.follow ((g.S.FileSystem.functions (arc_value self.disk)).meta_of c.args.root.now)) c.in-Directory.is (c.in_ok-add.ensures.kind fixed));
       yielded = yielded;
     })
     refl)
@@ -29,7 +30,7 @@ returns-in-Directory-clause-counts g c =
     (λ counted counts. inr (below_as (λ always. always)
     (λ answers yielded. record {
       reads = self.crew;
-      by = λ fixed. crew_below (g.S.FileSystem.functions (arc_value self.disk)) self.asked.now.follow c.args.root.now self.crew (subst (IsKindOf self.asked.now.follow ((g.S.FileSystem.functions (arc_value self.disk)).meta_of c.args.root.now)) c.in-Directory.is (c.in_ok-add.ensures.kind fixed));
+      by = reads_below self.crew (λ fixed. subst (IsKindOf self.asked.now.follow ((g.S.FileSystem.functions (arc_value self.disk)).meta_of c.args.root.now)) c.in-Directory.is (c.in_ok-add.ensures.kind fixed));
       yielded = yielded;
     })
     refl counts))
@@ -43,7 +44,7 @@ returns-in-Other-clause-first g c = λ _.
     below_as (λ always. always)
     (λ answers yielded. record {
       reads = None;
-      by = λ fixed. no_crew_below (g.S.FileSystem.functions (arc_value self.disk)) self.asked.now.follow c.args.root.now self.crew (subst (IsKindOf self.asked.now.follow ((g.S.FileSystem.functions (arc_value self.disk)).meta_of c.args.root.now)) c.in-Other.is (c.in_ok-add.ensures.kind fixed));
+      by = none_reads_below self.crew (λ fixed. subst (IsKindOf self.asked.now.follow ((g.S.FileSystem.functions (arc_value self.disk)).meta_of c.args.root.now)) c.in-Other.is (c.in_ok-add.ensures.kind fixed));
       yielded = yielded;
     })
     refl)
@@ -56,7 +57,7 @@ returns-in-Other-clause-counts g c =
     (λ counted counts. inr (below_as (λ always. always)
     (λ answers yielded. record {
       reads = None;
-      by = λ fixed. no_crew_below (g.S.FileSystem.functions (arc_value self.disk)) self.asked.now.follow c.args.root.now self.crew (subst (IsKindOf self.asked.now.follow ((g.S.FileSystem.functions (arc_value self.disk)).meta_of c.args.root.now)) c.in-Other.is (c.in_ok-add.ensures.kind fixed));
+      by = none_reads_below self.crew (λ fixed. subst (IsKindOf self.asked.now.follow ((g.S.FileSystem.functions (arc_value self.disk)).meta_of c.args.root.now)) c.in-Other.is (c.in_ok-add.ensures.kind fixed));
       yielded = yielded;
     })
     refl counts))
