@@ -6,7 +6,8 @@ _since() {
     case $before in
     -j | --threads) compopt +o default; return ;;
     -d | --max-depth) compopt +o default; return ;;
+    -E | --exclude) compopt +o default; return ;;
     esac
-    if [[ $word == -* ]]; then COMPREPLY=($(compgen -W "--save --quick --rows -l --long -0 --print0 -q --quiet -j --threads --exclude-hidden -x --one-file-system -d --max-depth -h --help -V --version" -- "$word")); fi
+    if [[ $word == -* ]]; then COMPREPLY=($(compgen -W "--save --quick --rows -l --long -0 --print0 --json -q --quiet -j --threads --exclude-hidden -x --one-file-system -d --max-depth -E --exclude --ignore -h --help -V --version" -- "$word")); fi
 }
 complete -o default -F _since since

@@ -66,7 +66,7 @@ fn main(rt: HostRuntime) -> ExitCode {
             rt.alloc(),
             threads_for(&rt, 0),
             disk,
-            &texts,
+            texts,
             &mut store,
             start,
             words.as_slice(),

@@ -2,6 +2,7 @@ mod ChoiceFacts
 mod FoundFacts
 mod ListingFacts
 mod HeldFacts
+mod JsonFacts
 mod SavedFacts
 mod TreeFacts
 mod RecordFacts

@@ -6,6 +6,7 @@ pub mod Listing
 pub mod Found
 pub mod Differences
 pub mod Line
+pub mod Json
 pub mod Row
 pub mod Saved
 pub mod Records

@@ -5,6 +5,7 @@ use Rattle.std.specs.declared.alloc.Global.{Global}
 use Rattle.std.specs.declared.string.String.{String}
 use Rattle.jwalk_model.specs.Paths.{dot, file_name, join, parent}
 use Rattle.jwalk_ignore_rules.specs.Rules.Texts.{Texts}
+use Rattle.since_parts.specs.Choice.{keeps_names}
 use Rattle.since_parts.specs.declared.tree.Tree.{Tree}
 
 -- what is behind a front in a path that begins with it
@@ -82,9 +83,9 @@ abbrev pub keeps_own : Option (List ℕ) → List ℕ → Bool
 keeps_own None path = true
 keeps_own (Some own) path = not (holds own path)
 
--- whether no name is left out of the directory with this path behind the root: neither hidden ones, nor the file's
+-- whether no name is left out of the directory with this path behind the root: neither by what is chosen, nor the file's
 abbrev pub keeps_all : Tree → List ℕ → Bool
-keeps_all tree path = not tree.choice.exclude_hidden && keeps_own (own_in tree) path
+keeps_all tree path = keeps_names tree.choice && keeps_own (own_in tree) path
 
 -- The tree below a root without a file, by what absolute paths are.
 pub record IsTree (texts : Texts) (file root : List ℕ) (tree : Tree) : Type 0 where

@@ -7,6 +7,7 @@ mod facts;
 pub mod failure;
 pub mod found;
 pub mod held;
+pub mod json;
 pub mod line;
 mod listing;
 pub mod records;

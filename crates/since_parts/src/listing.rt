@@ -13,8 +13,8 @@ use jwalk_snapshot::{Listing, Stamp as KeptStamp};
 use std::alloc::Allocator;
 
 /// Returns whether the directory of an entry was listed: if it is one, and isn't at the greatest depth.
-fn is_listed<C: ClientState, A: Allocator + Copy>(choice: Choice, found: &DirEntry<C, A>) -> bool
-    ensures { result ≡ is_listed choice (entry found.now) }
+fn is_listed<C: ClientState, A: Allocator + Copy>(choice: &Choice, found: &DirEntry<C, A>) -> bool
+    ensures { result ≡ is_listed choice.now (entry found.now) }
 {
     found.read_children.is_some() && found.depth() < choice.max_depth()
 }
@@ -42,7 +42,7 @@ pub(crate) fn listing_seen<C: ClientState, A: Allocator + Copy>(
     ensures { result ≡ listing_seen tree.now path.now (entry found.now) }
 {
     match found.metadata_seen() {
-        Some(seen) if tree.keeps_all(path) && is_listed(tree.choice, found) => {
+        Some(seen) if tree.keeps_all(path) && is_listed(&tree.choice, found) => {
             listing_by(tree.start, Stamp::of(seen))
         }
         _ => Listing::Unstamped,

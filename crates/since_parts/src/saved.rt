@@ -199,7 +199,7 @@ fn have_listings(blocks: &[Block<'_>], listings: &[Listing]) -> bool
 }
 
 /// Returns texts that are borrowed.
-fn texts_of<'t>(alloc: Global, words: &'t [String]) -> Result<Vec<&'t str>, AllocError>
+pub fn texts_of<'t>(alloc: Global, words: &'t [String]) -> Result<Vec<&'t str>, AllocError>
     ensures { IfOk result (λ texts. map text_in texts.items ≡ map string_bytes words.now) }
 {
     let mut texts = Vec::new(alloc);

@@ -179,7 +179,7 @@ impl Tree {
     pub fn keeps_all(&self, path: &str) -> bool
         ensures { result ≡ keeps_all self.now path.now }
     {
-        if self.choice.exclude_hidden {
+        if !self.choice.keeps_names() {
             return false;
         }
         match &self.own {

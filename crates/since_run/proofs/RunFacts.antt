@@ -9,6 +9,8 @@ use Rattle.std.specs.declared.vec.Vec.{Vec}
 use Rattle.jwalk.specs.jwalk_model.declared.metadata.Moment.{Moment}
 use Rattle.jwalk.specs.jwalk_fs.declared.file_system.FileSystem as FileSystem
 use Rattle.jwalk.specs.declared.crew.Crew.{Crew}
+use Rattle.jwalk_ignore.specs.declared.callback.excluding.Excluding.{Excluding}
+use Rattle.jwalk_ignore.specs.declared.callback.states.RulesState.{RulesState}
 use Rattle.jwalk_ignore_rules.specs.declared.rules.texts.Texts as Texts
 use Rattle.jwalk_indexed_fs.specs.declared.indexed_fs.IndexedFs.{IndexedFs}
 use Rattle.jwalk_snapshot.specs.Text.{Content}
@@ -21,6 +23,7 @@ use Rattle.since_parts.specs.declared.tree.Tree.{Tree}
 use Rattle.since_run.specs.Compared.{ComparesAll, ComparesBytes, ComparesQuickly}
 use Rattle.since_run.specs.Done.{Begins, ComparesFile, DoesAsked, EndsWith, Lists, ListsFile, MakesFile, SavesAsked, Tells}
 use Rattle.since_run.specs.Run.{status_for, HasTextAsked, IsLoaded, ReplacesBy}
+use Rattle.since_run.specs.Yielded.{Honours}
 use Rattle.since_run.specs.declared.compare.Told.{Told}
 use Rattle.since_run.specs.declared.screen.Screen.{Screen}
 use Rattle.since_run.specs.declared.store.Store as Store
@@ -53,23 +56,23 @@ module _ {K : Type 0} (replaces : K → List ℕ → List ℕ → K → Type 0) 
   ends_unsaved (inl (clean, is, saves)) two = absurd (none_above told.status low (sym is ∙ two))
   ends_unsaved (inr (unclean, is, unsaved)) two = unsaved
 
-module _ {T Z X K C N R E D M H F : Type 0} (files : FileSystem.Ghosts Z) (texts : Texts.Ghosts X) (store : Store.Ghosts K) (calls : CrewCallsOf T C (Arc Z Global) N Global R E) (quick_calls : CrewCallsOf T D (Arc (IndexedFs Z) Global) M Global H F)
+module _ {T Z X K C E G H F D M P Q : Type 0} (files : FileSystem.Ghosts Z) (texts : Texts.Ghosts X) (store : Store.Ghosts K) (plain : CrewCallsOf T G (Arc Z Global) Excluding Global H F) (honouring : CrewCallsOf T C (Arc Z Global) (Honours X) Global RulesState E) (quick_calls : CrewCallsOf T D (Arc (IndexedFs Z) Global) M Global P Q)
     (disk : Z) (reads : X) (cores : ℕ) (start : Moment) (asked : Asked) (screen : Screen) (before after : Option (List ℕ)) (old new : K) where
   told_either : (crew : Option (Arc (Crew T) Global)) (snapshot : Content) (told : Told)
-      → ((asked.quick ≡ false) × ComparesAll files texts calls disk reads crew start asked screen snapshot before after told)
+      → ((asked.quick ≡ false) × ComparesAll files texts plain honouring disk reads crew start asked screen snapshot before after told)
       ⊎ ((asked.quick ≡ true) × ComparesQuickly files texts quick_calls disk reads crew start asked screen snapshot before after told) → told.status ≤ 1
   told_either crew snapshot told (inl (all, it)) = subst (λ (n : ℕ). n ≤ 1) (sym it.writes.tells) (status_low it.writes.changes)
   told_either crew snapshot told (inr (quick, it)) = subst (λ (n : ℕ). n ≤ 1) (sym it.compares.writes.tells) (status_low it.compares.writes.changes)
 
-  told_low : (crew : Option (Arc (Crew T) Global)) (bytes : List ℕ) (told : Told) → ComparesBytes files texts calls quick_calls disk reads crew start asked screen bytes before after told → told.status ≤ 1
+  told_low : (crew : Option (Arc (Crew T) Global)) (bytes : List ℕ) (told : Told) → ComparesBytes files texts plain honouring quick_calls disk reads crew start asked screen bytes before after told → told.status ≤ 1
   told_low crew bytes told it = told_either crew it.snapshot told it.either
 
   zero_low : (n : ℕ) → n ≡ 0 → n ≤ 1
   zero_low n is = omega (arith, is)
 
   abbrev Either : Option (Arc (Crew T) Global) → ℕ → Type 0
-  Either crew status = MakesFile files texts store calls quick_calls disk reads crew start asked before after old new status
-      ⊎ (ListsFile files texts store calls quick_calls reads asked screen before after old new status ⊎ ComparesFile files texts store calls quick_calls disk reads crew start asked screen before after old new status)
+  Either crew status = MakesFile files texts store plain honouring quick_calls disk reads crew start asked before after old new status
+      ⊎ (ListsFile files texts store plain honouring quick_calls reads asked screen before after old new status ⊎ ComparesFile files texts store plain honouring quick_calls disk reads crew start asked screen before after old new status)
 
   low_either : (crew : Option (Arc (Crew T) Global)) (status : ℕ) → Either crew status → status ≤ 2
   low_either crew status (inl it) = ends_low store.Replaces asked it.begins.told (zero_low it.begins.told.status it.begins.none) old new status it.begins.ends
@@ -83,7 +86,7 @@ module _ {T Z X K C N R E D M H F : Type 0} (files : FileSystem.Ghosts Z) (texts
 
   -- what a call did that ended with this status
   abbrev pub Does : ℕ → Type 0
-  Does = Tells files texts store calls quick_calls disk reads cores start asked screen before after old new
+  Does = Tells files texts store plain honouring quick_calls disk reads cores start asked screen before after old new
 
   -- the status of a call is 0, 1 or 2
   pub run_low : {Y : Type 0} (ended : Result ℕ Y) (status : ℕ) → IfOk ended Does → IfOk ended (λ n. status ≡ n) → OnErr ended (status ≡ 2) → status ≤ 2
@@ -92,7 +95,7 @@ module _ {T Z X K C N R E D M H F : Type 0} (files : FileSystem.Ghosts Z) (texts
 
   -- it did what is asked for, or ended early
   pub run_ends : {Y : Type 0} (ended : Result ℕ Y) (words : List (List ℕ)) (status : ℕ) (IsTold : Type 0) → AskFor words asked → IfOk ended Does → IfOk ended (λ n. status ≡ n) → OnErr ended (status ≡ 2) → OnErr ended IsTold
-      → DoesAsked files texts store calls quick_calls disk reads cores start words screen before after old new status ⊎ ((status ≡ 2) × IsTold)
+      → DoesAsked files texts store plain honouring quick_calls disk reads cores start words screen before after old new status ⊎ ((status ≡ 2) × IsTold)
   run_ends (Ok n) words status IsTold asks does same failed told = inl (asked, asks, subst Does (sym same) does)
   run_ends (Err e) words status IsTold asks does same failed told = inr (failed, told)
 
@@ -103,7 +106,7 @@ module _ {T Z X K C N R E D M H F : Type 0} (files : FileSystem.Ghosts Z) (texts
 
   -- a first snapshot that is saved where there is no file
   pub tells_made : {Y : Type 0} (ended : Result ℕ Y) (threads : ℕ) (crew : Option (Arc (Crew T) Global)) (found : Option (Vec ℕ Global)) → threads ≡ threads_in cores asked.threads → IsCrewOf threads crew → IsLoaded texts reads asked found → found ≡ None → after ≡ before
-      → IfOk ended (Begins files texts store calls disk reads crew start asked old new) → IfOk ended Does
+      → IfOk ended (Begins files texts store plain honouring disk reads crew start asked old new) → IfOk ended Does
   tells_made ended threads crew found many is_crew loaded none silent =
       let missing = subst (IsLoaded texts reads asked) none loaded in
       IfOk-weaker ended _ _ (λ status begins. record {
@@ -130,7 +133,7 @@ module _ {T Z X K C N R E D M H F : Type 0} (files : FileSystem.Ghosts Z) (texts
 
   -- a snapshot in a file that is compared
   pub tells_compared : {Y : Type 0} (ended : Result ℕ Y) (threads : ℕ) (crew : Option (Arc (Crew T) Global)) (found : Option (Vec ℕ Global)) (bytes : Vec ℕ Global) (told : Told) → threads ≡ threads_in cores asked.threads → IsCrewOf threads crew → IsLoaded texts reads asked found → found ≡ Some bytes
-      → asked.lists ≡ false → ComparesBytes files texts calls quick_calls disk reads crew start asked screen bytes.items before after told
+      → asked.lists ≡ false → ComparesBytes files texts plain honouring quick_calls disk reads crew start asked screen bytes.items before after told
       → IfOk ended (EndsWith store.Replaces asked told old new) → IfOk ended Does
   tells_compared ended threads crew found bytes told many is_crew loaded some compared compares =
       IfOk-weaker ended _ _ (λ status ends. record {
@@ -145,3 +148,7 @@ module _ {T Z X K C N R E D M H F : Type 0} (files : FileSystem.Ghosts Z) (texts
           ends = ends;
         }));
       })
+
+  -- what it did with texts that are shared
+  pub tells_over : {Y : Type 0} (others : X) (same : reads ≡ others) (ended : Result ℕ Y) → IfOk ended Does → IfOk ended (Tells files texts store plain honouring quick_calls disk others cores start asked screen before after old new)
+  tells_over others same ended = subst (λ (r : X). IfOk ended (Tells files texts store plain honouring quick_calls disk r cores start asked screen before after old new)) same

@@ -8,16 +8,20 @@ use Rattle.jwalk.specs.jwalk_model.Paths.{dot}
 use Rattle.jwalk.specs.jwalk_model.declared.metadata.Moment.{Moment}
 use Rattle.jwalk.specs.jwalk_fs.declared.file_system.FileSystem as FileSystem
 use Rattle.jwalk.specs.declared.crew.Crew.{Crew}
+use Rattle.jwalk_ignore.specs.declared.callback.excluding.Excluding.{Excluding}
+use Rattle.jwalk_ignore.specs.declared.callback.states.RulesState.{RulesState}
 use Rattle.jwalk_ignore_rules.specs.declared.rules.texts.Texts as Texts
 use Rattle.jwalk_indexed_fs.specs.declared.indexed_fs.IndexedFs.{IndexedFs}
 use Rattle.jwalk_snapshot.specs.Text.{Content, IsSnapshot, text_of}
 use Rattle.program_walks.specs.Crew.{CrewCallsOf, IsCrewOf, threads_in}
 use Rattle.since_words.specs.Asks.{AskFor, AskForText}
 use Rattle.since_words.specs.declared.asked.Asked.{Asked}
-use Rattle.since_run.specs.Run.{all_chosen, choice_asked, root_asked, rows_asked}
+use Rattle.since_parts.specs.Choice.{words_of}
+use Rattle.since_run.specs.Run.{root_asked, rows_asked, words_in}
 use Rattle.since_parts.specs.Saved.{IsTextOf}
 use Rattle.since_run.specs.Compared.{ComparesBytes, IsTreeAt}
-use Rattle.since_run.specs.Walks.{Finds}
+use Rattle.since_run.specs.Finds.{FindsAll}
+use Rattle.since_run.specs.Yielded.{Honours}
 use Rattle.since_run.specs.declared.compare.Told.{Told}
 use Rattle.since_run.specs.declared.screen.Screen.{Screen}
 use Rattle.since_run.specs.declared.store.Store as Store
@@ -42,17 +46,17 @@ abbrev pub EndsWith : {K : Type 0} → (K → List ℕ → List ℕ → K → Ty
 EndsWith replaces asked told old new status =
     ((told.found.clean ≡ true) × (status ≡ told.status) × SavesAsked replaces asked told.tree told.found old new) ⊎ ((told.found.clean ≡ false) × (status ≡ 2) × (new ≡ old))
 
-module _ {T Z X K C N R E : Type 0} (files : FileSystem.Ghosts Z) (texts : Texts.Ghosts X) (store : Store.Ghosts K) (calls : CrewCallsOf T C (Arc Z Global) N Global R E) where
+module _ {T Z X K C E G H F : Type 0} (files : FileSystem.Ghosts Z) (texts : Texts.Ghosts X) (store : Store.Ghosts K) (plain : CrewCallsOf T G (Arc Z Global) Excluding Global H F) (honouring : CrewCallsOf T C (Arc Z Global) (Honours X) Global RulesState E) where
   -- A first snapshot is saved.
   pub record Begins (disk : Z) (reads : X) (crew : Option (Arc (Crew T) Global)) (start : Moment) (asked : Asked) (old new : K) (status : ℕ) : Type 0 where
     pub told : Told
     pub none : told.status ≡ 0
     pub tree_is : IsTreeAt texts reads asked.file.now (root_asked asked dot) start told.tree
-    pub chosen : told.tree.choice ≡ choice_asked asked all_chosen
-    pub finds : Finds calls (files.IsFixed disk) (files.functions disk) disk crew false told.tree told.found
+    pub chosen : words_of told.tree.choice ≡ words_in asked
+    pub finds : FindsAll files texts plain honouring disk reads crew told.tree told.found
     pub ends : EndsWith store.Replaces asked told old new status
 
-module _ {T Z X K C N R E D M H F : Type 0} (files : FileSystem.Ghosts Z) (texts : Texts.Ghosts X) (store : Store.Ghosts K) (calls : CrewCallsOf T C (Arc Z Global) N Global R E) (quick_calls : CrewCallsOf T D (Arc (IndexedFs Z) Global) M Global H F) where
+module _ {T Z X K C E G H F D M P Q : Type 0} (files : FileSystem.Ghosts Z) (texts : Texts.Ghosts X) (store : Store.Ghosts K) (plain : CrewCallsOf T G (Arc Z Global) Excluding Global H F) (honouring : CrewCallsOf T C (Arc Z Global) (Honours X) Global RulesState E) (quick_calls : CrewCallsOf T D (Arc (IndexedFs Z) Global) M Global P Q) where
   -- The file has a snapshot, whose entries are listed. Nothing is saved.
   pub record ListsFile (reads : X) (asked : Asked) (screen : Screen) (before after : Option (List ℕ)) (old new : K) (status : ℕ) : Type 0 where
     pub listed : asked.lists ≡ true
@@ -67,14 +71,14 @@ module _ {T Z X K C N R E D M H F : Type 0} (files : FileSystem.Ghosts Z) (texts
     pub bytes : List ℕ
     pub read : texts.IsFixed reads → (texts.functions reads).bytes_of asked.file.now ≡ Ok bytes
     pub told : Told
-    pub compares : ComparesBytes files texts calls quick_calls disk reads crew start asked screen bytes before after told
+    pub compares : ComparesBytes files texts plain honouring quick_calls disk reads crew start asked screen bytes before after told
     pub ends : EndsWith store.Replaces asked told old new status
 
   -- There is no such file, and it is made: nothing is written.
   pub record MakesFile (disk : Z) (reads : X) (crew : Option (Arc (Crew T) Global)) (start : Moment) (asked : Asked) (before after : Option (List ℕ)) (old new : K) (status : ℕ) : Type 0 where
     pub missing : texts.IsFixed reads → (texts.functions reads).bytes_of asked.file.now ≡ Err NotFound
     pub made : asked.save ≡ true
-    pub begins : Begins files texts store calls disk reads crew start asked old new status
+    pub begins : Begins files texts store plain honouring disk reads crew start asked old new status
     pub silent : after ≡ before
 
   -- What is asked for is done, by a crew of the threads that are asked for, or else of as many as can run at a time.

@@ -1,4 +1,6 @@
 pub mod Walks
+pub mod Yielded
+pub mod Finds
 pub mod Run
 pub mod Compared
 pub mod Done

@@ -1,5 +1,5 @@
 -- The steps of a call.
-use Rattle.std.specs.Prelude.{◌≡◌, ℕ, Bool, true, false, ◌==◌, ◌||◌, List, [], length, is_some, Option, None, Some, option_map, unwrap_or, Ok, Err, string_bytes, if◌then◌else◌}
+use Rattle.std.specs.Prelude.{◌≡◌, ℕ, Bool, true, false, not, ◌==◌, ◌||◌, List, [], length, is_some, Option, None, Some, option_map, unwrap_or, Ok, Err, string_bytes, if◌then◌else◌}
 use Rattle.std.specs.IoError.{error_kind}
 use Rattle.std.specs.declared.alloc.Global.{Global}
 use Rattle.std.specs.declared.io.Error.{Error}
@@ -9,8 +9,10 @@ use Rattle.std.specs.declared.vec.Vec.{Vec}
 use Rattle.jwalk_ignore_rules.specs.declared.rules.texts.Texts as Texts
 use Rattle.program_parts.specs.declared.paths.Style.{Style}
 use Rattle.jwalk_snapshot.specs.Text.{Content}
-use Rattle.since_parts.specs.Choice.{words_of}
+use Rattle.program_parts.specs.Values.{texts_of}
+use Rattle.since_parts.specs.Choice.{words_by, words_of}
 use Rattle.since_parts.specs.Differences.{Difference}
+use Rattle.since_parts.specs.Json.{json_lines}
 use Rattle.since_parts.specs.Line.{lines_of}
 use Rattle.since_parts.specs.Row.{rows_of}
 use Rattle.since_words.specs.declared.asked.Asked.{Asked}
@@ -28,9 +30,10 @@ separator_of print0 = if print0 then 0 else 10
 abbrev pub style_asked : Asked → Screen → Style
 style_asked asked screen = record { here = false; to_terminal = screen.is_terminal; separator = separator_of asked.print0 }
 
--- the text of differences: none if no lines are asked for
+-- the text of differences: none if no lines are asked for, and JSON if that is
 abbrev pub text_asked : Asked → Screen → List Difference → List ℕ
-text_asked asked screen changes = if asked.quiet then [] else lines_of (style_asked asked screen) asked.long changes
+text_asked asked screen changes =
+    if asked.quiet then [] else if asked.json then json_lines asked.long changes else lines_of (style_asked asked screen) asked.long changes
 
 -- the rows of what a snapshot holds: none if no lines are asked for
 abbrev pub rows_asked : Asked → Screen → Content → List ℕ
@@ -46,23 +49,20 @@ root_asked asked other = unwrap_or (option_map (λ it. it.now) asked.root) other
 
 -- whether words ask for what is compared
 abbrev pub asks_choice : Asked → Bool
-asks_choice asked = asked.exclude_hidden || (asked.one_file_system || is_some asked.depth)
+asks_choice asked = asked.exclude_hidden || (asked.one_file_system || (is_some asked.depth || (not (length asked.excludes.items == 0) || asked.ignore)))
 
--- what is compared: what the words ask for, or else this
-abbrev pub choice_asked : Asked → Choice → Choice
-choice_asked asked other =
-    if asks_choice asked then record { exclude_hidden = asked.exclude_hidden; one_file_system = asked.one_file_system; depth = asked.depth } else other
+-- the words for what is compared, as words of a call ask for it
+abbrev pub words_in : Asked → List (List ℕ)
+words_in asked = words_by asked.exclude_hidden asked.one_file_system asked.depth (texts_of asked.excludes.items) asked.ignore
 
--- all of a tree
-abbrev pub all_chosen : Choice
-all_chosen = record { exclude_hidden = false; one_file_system = false; depth = None }
+-- the words for what is compared: what a call asks for, or else these
+abbrev pub words_asked : Asked → List (List ℕ) → List (List ℕ)
+words_asked asked other = if asks_choice asked then words_in asked else other
 
--- What is compared with a snapshot of these words: what the words ask for, or else what the snapshot is of. Only where it is replaced, these may differ.
+-- What is compared with a snapshot of these words: what the words of the call ask for, or else what the snapshot is of. Only where it is replaced, these may differ.
 pub record IsChoice (asked : Asked) (words : List (List ℕ)) (choice : Choice) : Type 0 where
-  pub held : Choice
-  pub kept : words_of held ≡ words
-  pub is : choice ≡ choice_asked asked held
-  pub same : asked.save ≡ false → choice ≡ held
+  pub is : words_of choice ≡ words_asked asked words
+  pub same : asked.save ≡ false → words_of choice ≡ words
 
 -- There is no file, for this reason, and it is to be made.
 pub record IsMissing (asked : Asked) (error : Error) (found : Option (Vec ℕ Global)) : Type 0 where

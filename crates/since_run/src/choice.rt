@@ -1,7 +1,9 @@
 //! What of a tree is compared, by the words and by the snapshot.
-ghost use Rattle.std.specs.Prelude.{◌≡◌, true, map, IfOk};
+ghost use Rattle.std.specs.Prelude.{◌≡◌, map, string_bytes, IfOk};
 ghost use Rattle.jwalk_snapshot.specs.Text.{text_in};
-ghost use Rattle.since_run.specs.Run.{asks_choice, choice_asked, IsChoice};
+ghost use Rattle.program_parts.specs.Values.{texts_of};
+ghost use Rattle.since_parts.specs.Choice.{words_of};
+ghost use Rattle.since_run.specs.Run.{asks_choice, words_in, IsChoice};
 
 use since_parts::choice::Choice;
 use since_parts::failure::Failure;
@@ -12,27 +14,36 @@ use std::alloc::{AllocError, Global};
 fn asks_choice(asked: &Asked<'_>) -> bool
     ensures { result ≡ asks_choice asked.now }
 {
-    asked.exclude_hidden || asked.one_file_system || asked.depth.is_some()
+    asked.exclude_hidden
+        || asked.one_file_system
+        || asked.depth.is_some()
+        || !asked.excludes.is_empty()
+        || asked.ignore
 }
 
-/// Returns what the words ask for, or else this.
-pub(crate) fn choice_asked(asked: &Asked<'_>, other: Choice) -> Choice
-    ensures { result ≡ choice_asked asked.now other }
+/// Returns texts of one's own.
+fn owned(alloc: Global, texts: &[&str]) -> Result<Vec<String>, AllocError>
+    ensures { IfOk result (λ own. map string_bytes own.items ≡ texts_of texts.now) }
 {
-    if !asks_choice(asked) {
-        return other;
+    let mut own = Vec::new(alloc);
+    for text in texts {
+        own.push(String::from_str(alloc, text)?)?;
     }
-    Choice {
+    Ok(own)
+}
+
+/// Returns what the words of a call ask for.
+pub(crate) fn choice_in(alloc: Global, asked: &Asked<'_>) -> Result<Choice, AllocError>
+    ensures { IfOk result (λ choice. words_of choice ≡ words_in asked.now) }
+{
+    let excludes = owned(alloc, &asked.excludes)?;
+    Ok(Choice {
         exclude_hidden: asked.exclude_hidden,
         one_file_system: asked.one_file_system,
         depth: asked.depth,
-    }
-}
-
-fn is_same(one: Choice, other: Choice) -> bool
-    ensures { result ≡ true → one ≡ other }
-{
-    one == other
+        excludes,
+        ignore: asked.ignore,
+    })
 }
 
 /// Returns words with a space in front of each.
@@ -46,7 +57,7 @@ fn spaced(alloc: Global, words: &[String]) -> Result<String, AllocError> {
 }
 
 /// Returns what is said where other words are asked for than those of a file.
-fn said_of_others(alloc: Global, held: Choice) -> Result<String, AllocError> {
+fn said_of_others(alloc: Global, held: &Choice) -> Result<String, AllocError> {
     let words = held.words(alloc)?;
     if words.is_empty() {
         return String::from_str(alloc, "was saved without such words: with them, add --save");
@@ -68,10 +79,16 @@ pub(crate) fn choice_for(
         let what = "was saved with words that aren't known";
         return Err(Failure::at(alloc, asked.file, &what));
     };
-    let choice = choice_asked(asked, held);
-    if asked.save || is_same(choice, held) {
+    if !asks_choice(asked) {
+        return Ok(held);
+    }
+    let choice = choice_in(alloc, asked)?;
+    if asked.save {
         return Ok(choice);
     }
-    let said = said_of_others(alloc, held)?;
+    if choice.has_words(alloc, words)? {
+        return Ok(choice);
+    }
+    let said = said_of_others(alloc, &held)?;
     Err(Failure::at(alloc, asked.file, &said))
 }

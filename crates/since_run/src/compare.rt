@@ -1,15 +1,15 @@
 //! A comparison with a snapshot.
-ghost use Rattle.std.specs.Prelude.{◌≡◌, ◌≤◌, IfOk, OnOk};
+ghost use Rattle.std.specs.Prelude.{◌≡◌, false, IfOk, OnOk};
 ghost use Rattle.std.specs.Arc.{arc_value};
 ghost use Rattle.std.specs.Io.KnownBytes.{Appends};
 ghost use Rattle.jwalk_snapshot.specs.Text.{call_of, content_of, text_of, IsSnapshot};
+ghost use Rattle.since_parts.specs.Choice.{has_rules};
 ghost use Rattle.since_run.specs.Run.{root_asked, status_for, text_asked};
 ghost use Rattle.since_run.specs.Compared.{Compares, ComparesAll, ComparesBytes, ComparesQuickly, IsTreeFor, WritesDifferences};
-ghost use Rattle.since_run.specs.Walks.{Finds};
 
 use crate::choice::choice_for;
-use crate::find::{QuickWalk, WholeWalk, find};
-use crate::lines::write_lines;
+use crate::find::{AllWalk, QuickWalk, RuledWalk, find, find_typed};
+use crate::lines::{write_json, write_lines};
 use crate::screen::Screen;
 use crate::style::style_of;
 use jwalk::file_system::FileSystem;
@@ -20,6 +20,7 @@ use jwalk_indexed_fs::indexed_fs::IndexedFs;
 use jwalk_model::metadata::Moment;
 use jwalk_snapshot::{Head, Snapshot, SnapshotError};
 use program_parts::halt::Halt;
+use since_parts::choice::Choice;
 use since_parts::differences::differences;
 use since_parts::failure::Failure;
 use since_parts::found::Found;
@@ -68,6 +69,9 @@ fn write_changes<W: Write>(
     if asked.quiet {
         return Ok(());
     }
+    if asked.json {
+        return write_json(alloc, asked.long, changes, out);
+    }
     write_lines(alloc, style_of(asked, screen), asked.long, changes, out)
 }
 
@@ -90,37 +94,32 @@ fn root_asked<'a>(asked: &Asked<'a>, other: &'a str) -> &'a str
 /// Returns the tree that is compared with the snapshot of a call.
 fn tree_for<X: Texts>(
     alloc: Global,
-    texts: &X,
+    texts: &Arc<X>,
     start: Moment,
     asked: &Asked<'_>,
     head: &Head<'_>,
 ) -> Result<Tree, Failure>
-    ensures { IfOk result (IsTreeFor X.Texts texts.now start asked.now (call_of head.now)) }
+    ensures { IfOk result (IsTreeFor X.Texts (arc_value texts.now) start asked.now (call_of head.now)) }
 {
     let choice = choice_for(alloc, asked, &head.words)?;
     let root = root_asked(asked, head.absolute);
     Tree::new(alloc, texts, asked.file, root, choice, start)
 }
 
-/// Writes what differs between a snapshot and what a walk finds in a tree.
-fn compare<T: Host, S: FileSystem + Send + Sync + 'static, W: Write, E: Write>(
+/// Writes what differs between a snapshot and what was found in a tree.
+fn compare<W: Write>(
     alloc: Global,
-    disk: Arc<S>,
-    crew: &Option<Arc<Crew<T>>>,
-    quick: bool,
     tree: Tree,
+    found: Found,
     asked: &Asked<'_>,
     screen: Screen,
     snapshot: &Snapshot<'_>,
     out: &mut W,
-    err: &mut E,
 ) -> Result<Told, Failure>
     ensures tree { IfOk result (λ told. told.tree ≡ tree) }
-    ensures finds { IfOk result (λ told. Finds ⟦<WholeWalk<T, S> as Iterator>⟧.next_gives (S.IsFixed (arc_value disk))
-        (S.functions (arc_value disk)) (arc_value disk) crew.now quick told.tree told.found) }
+    ensures found { IfOk result (λ told. told.found ≡ found) }
     ensures writes { IfOk result (WritesDifferences asked.now screen (content_of snapshot.now) (W.contents out.old) (W.contents out.new)) }
 {
-    let found = find(alloc, disk, crew, quick, &tree, err)?;
     let numbers = snapshot.head.absolute == tree.absolute.as_str();
     let old = all_held(alloc, snapshot, numbers)?;
     let changes = differences(alloc, old, &found)?;
@@ -135,11 +134,17 @@ fn compare<T: Host, S: FileSystem + Send + Sync + 'static, W: Write, E: Write>(
 }
 
 /// Writes what differs between a snapshot and a disk.
-fn compare_all<T: Host, S: FileSystem + Send + Sync + 'static, X: Texts, W: Write, E: Write>(
+fn compare_all<
+    T: Host,
+    S: FileSystem + Send + Sync + 'static,
+    X: Texts + Send + Sync + 'static,
+    W: Write,
+    E: Write,
+>(
     alloc: Global,
     disk: S,
     crew: &Option<Arc<Crew<T>>>,
-    texts: &X,
+    texts: &Arc<X>,
     start: Moment,
     asked: &Asked<'_>,
     screen: Screen,
@@ -147,14 +152,30 @@ fn compare_all<T: Host, S: FileSystem + Send + Sync + 'static, X: Texts, W: Writ
     out: &mut W,
     err: &mut E,
 ) -> Result<Told, Failure>
-    ensures { IfOk result (ComparesAll S.FileSystem X.Texts ⟦<WholeWalk<T, S> as Iterator>⟧.next_gives disk texts.now
-        crew.now start asked.now screen (content_of snapshot.now) (W.contents out.old) (W.contents out.new)) }
+    ensures { IfOk result (ComparesAll S.FileSystem X.Texts ⟦<AllWalk<T, S> as Iterator>⟧.next_gives
+        ⟦<RuledWalk<T, S, X> as Iterator>⟧.next_gives disk (arc_value texts.now) crew.now start asked.now screen
+        (content_of snapshot.now) (W.contents out.old) (W.contents out.new)) }
 {
     let tree = tree_for(alloc, texts, start, asked, &snapshot.head)?;
     let disk = Arc::new(alloc, disk)?;
-    compare(
-        alloc, disk, crew, false, tree, asked, screen, snapshot, out, err,
-    )
+    let found = find(alloc, disk, texts, crew, &tree, err)?;
+    compare(alloc, tree, found, asked, screen, snapshot, out)
+}
+
+/// Returns an error if a quick comparison isn't possible of what is chosen.
+fn check_quick(alloc: Global, asked: &Asked<'_>, choice: &Choice) -> Result<(), Failure>
+    ensures one { OnOk result (choice.now.one_file_system ≡ false) }
+    ensures rules { OnOk result (has_rules choice.now ≡ false) }
+{
+    let word = if choice.one_file_system {
+        "--one-file-system"
+    } else if choice.has_rules() {
+        "--exclude or --ignore"
+    } else {
+        return Ok(());
+    };
+    let what = format!(in alloc; "was saved with {word}, which --quick excludes")?;
+    Err(Failure::at(alloc, asked.file, &what))
 }
 
 /// Writes what differs in names and types between a snapshot and a disk, of which only directories are listed whose stamps
@@ -163,7 +184,7 @@ fn compare_quickly<T: Host, S: FileSystem + Send + Sync + 'static, X: Texts, W: 
     alloc: Global,
     disk: S,
     crew: &Option<Arc<Crew<T>>>,
-    texts: &X,
+    texts: &Arc<X>,
     start: Moment,
     asked: &Asked<'_>,
     screen: Screen,
@@ -171,33 +192,29 @@ fn compare_quickly<T: Host, S: FileSystem + Send + Sync + 'static, X: Texts, W: 
     out: &mut W,
     err: &mut E,
 ) -> Result<Told, Failure>
-    ensures { IfOk result (ComparesQuickly S.FileSystem X.Texts ⟦<QuickWalk<T, S> as Iterator>⟧.next_gives disk texts.now
+    ensures { IfOk result (ComparesQuickly S.FileSystem X.Texts ⟦<QuickWalk<T, S> as Iterator>⟧.next_gives disk (arc_value texts.now)
         crew.now start asked.now screen (content_of snapshot.now) (W.contents out.old) (W.contents out.new)) }
 {
     let tree = tree_for(alloc, texts, start, asked, &snapshot.head)?;
-    if tree.choice.one_file_system {
-        let what = "was saved with --one-file-system, which --quick excludes";
-        return Err(Failure::at(alloc, asked.file, &what));
-    }
+    check_quick(alloc, asked, &tree.choice)?;
     let index = index_of(alloc, tree.root.as_str(), &snapshot.blocks)?;
     let disk = Arc::new(alloc, IndexedFs::new(disk, index))?;
-    compare(
-        alloc, disk, crew, true, tree, asked, screen, snapshot, out, err,
-    )
+    let found = find_typed(alloc, disk, crew, &tree, err)?;
+    compare(alloc, tree, found, asked, screen, snapshot, out)
 }
 
 /// Writes what differs from the snapshot in a file, whose bytes are let go.
 pub(crate) fn compare_file<
     T: Host,
     S: FileSystem + Send + Sync + 'static,
-    X: Texts,
+    X: Texts + Send + Sync + 'static,
     W: Write,
     E: Write,
 >(
     alloc: Global,
     disk: S,
     crew: &Option<Arc<Crew<T>>>,
-    texts: &X,
+    texts: &Arc<X>,
     start: Moment,
     asked: &Asked<'_>,
     screen: Screen,
@@ -205,9 +222,9 @@ pub(crate) fn compare_file<
     out: &mut W,
     err: &mut E,
 ) -> Result<Told, Failure>
-    ensures { IfOk result (ComparesBytes S.FileSystem X.Texts ⟦<WholeWalk<T, S> as Iterator>⟧.next_gives
-        ⟦<QuickWalk<T, S> as Iterator>⟧.next_gives disk texts.now crew.now start asked.now screen bytes.items
-        (W.contents out.old) (W.contents out.new)) }
+    ensures { IfOk result (ComparesBytes S.FileSystem X.Texts ⟦<AllWalk<T, S> as Iterator>⟧.next_gives
+        ⟦<RuledWalk<T, S, X> as Iterator>⟧.next_gives ⟦<QuickWalk<T, S> as Iterator>⟧.next_gives disk (arc_value texts.now)
+        crew.now start asked.now screen bytes.items (W.contents out.old) (W.contents out.new)) }
 {
     let snapshot = read_snapshot(alloc, asked.file, &bytes)?;
     if asked.quick {

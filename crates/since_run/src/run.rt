@@ -1,5 +1,6 @@
 //! A call of the program.
 ghost use Rattle.std.specs.Prelude.{◌≡◌, ◌≤◌, ◌⊎◌, true, codes, map, string_bytes, Ok, IfOk, OnErr, OnOk};
+ghost use Rattle.std.specs.Arc.{arc_value};
 ghost use Rattle.std.specs.Io.KnownBytes.{Appends};
 ghost use Rattle.jwalk_model.specs.Paths.{dot};
 ghost use Rattle.jwalk_snapshot.specs.Text.{content_of};
@@ -7,9 +8,9 @@ ghost use Rattle.program_parts.specs.Errors.{IsTold};
 ghost use Rattle.since_run.specs.Run.{root_asked, rows_asked, HasTextAsked, IsLoaded, IsMissing, ReplacesBy};
 ghost use Rattle.since_run.specs.Done.{Begins, Ends, EndsWith, Lists, Tells};
 
-use crate::choice::choice_asked;
+use crate::choice::choice_in;
 use crate::compare::{Told, compare_file, read_snapshot};
-use crate::find::{QuickWalk, WholeWalk, find};
+use crate::find::{AllWalk, QuickWalk, RuledWalk, find};
 use crate::rows::write_rows;
 use crate::screen::Screen;
 use crate::store::Store;
@@ -23,7 +24,6 @@ use program_parts::errors::Errors;
 use program_parts::halt::Halt;
 use program_parts::refusal::RefusalBy;
 use program_walks::crew::{crew_with, threads_in};
-use since_parts::choice::Choice;
 use since_parts::failure::Failure;
 use since_parts::found::Found;
 use since_parts::saved::saved_text;
@@ -45,8 +45,12 @@ fn missing(alloc: Global, asked: &Asked<'_>, error: io::Error) -> Result<Option<
 }
 
 /// Returns the bytes of the file with the snapshot. It may only be missing if it is to be made.
-fn load<X: Texts>(alloc: Global, texts: &X, asked: &Asked<'_>) -> Result<Option<Vec<u8>>, Failure>
-    ensures { IfOk result (IsLoaded X.Texts texts.now asked.now) }
+fn load<X: Texts>(
+    alloc: Global,
+    texts: &Arc<X>,
+    asked: &Asked<'_>,
+) -> Result<Option<Vec<u8>>, Failure>
+    ensures { IfOk result (IsLoaded X.Texts (arc_value texts.now) asked.now) }
 {
     match texts.read(alloc, asked.file) {
         Ok(bytes) => Ok(Some(bytes)),
@@ -143,24 +147,30 @@ fn save_told<K: Store, E: Write>(
 }
 
 /// Saves a first snapshot. Returns the status.
-fn begin<T: Host, S: FileSystem + Send + Sync + 'static, X: Texts, K: Store, E: Write>(
+fn begin<
+    T: Host,
+    S: FileSystem + Send + Sync + 'static,
+    X: Texts + Send + Sync + 'static,
+    K: Store,
+    E: Write,
+>(
     alloc: Global,
     disk: S,
     crew: &Option<Arc<Crew<T>>>,
-    texts: &X,
+    texts: &Arc<X>,
     store: &mut K,
     start: Moment,
     asked: &Asked<'_>,
     err: &mut E,
 ) -> Result<u8, Failure>
-    ensures begins { IfOk result (Begins S.FileSystem X.Texts K.Store ⟦<WholeWalk<T, S> as Iterator>⟧.next_gives
-        disk texts.now crew.now start asked.now store.old store.new) }
+    ensures begins { IfOk result (Begins S.FileSystem X.Texts K.Store ⟦<AllWalk<T, S> as Iterator>⟧.next_gives
+        ⟦<RuledWalk<T, S, X> as Iterator>⟧.next_gives disk (arc_value texts.now) crew.now start asked.now store.old store.new) }
     ensures kept { OnErr result (store.new ≡ store.old) }
 {
-    let choice = choice_asked(asked, Choice::ALL);
+    let choice = choice_in(alloc, asked)?;
     let tree = Tree::new(alloc, texts, asked.file, root_or_here(asked), choice, start)?;
     let disk = Arc::new(alloc, disk)?;
-    let found = find(alloc, disk, crew, false, &tree, err)?;
+    let found = find(alloc, disk, texts, crew, &tree, err)?;
     let told = Told {
         tree,
         found,
@@ -188,12 +198,19 @@ fn list<W: Write>(
 }
 
 /// Returns the status.
-fn since<T: Host, S: FileSystem + Send + Sync + 'static, X: Texts, K: Store, W: Write, E: Write>(
+fn since<
+    T: Host,
+    S: FileSystem + Send + Sync + 'static,
+    X: Texts + Send + Sync + 'static,
+    K: Store,
+    W: Write,
+    E: Write,
+>(
     rt: &T,
     alloc: Global,
     cores: usize,
     disk: S,
-    texts: &X,
+    texts: X,
     store: &mut K,
     start: Moment,
     asked: &Asked<'_>,
@@ -201,20 +218,21 @@ fn since<T: Host, S: FileSystem + Send + Sync + 'static, X: Texts, K: Store, W: 
     out: &mut W,
     err: &mut E,
 ) -> Result<u8, Failure>
-    ensures tells { IfOk result (Tells S.FileSystem X.Texts K.Store ⟦<WholeWalk<T, S> as Iterator>⟧.next_gives
-        ⟦<QuickWalk<T, S> as Iterator>⟧.next_gives disk texts.now cores start asked.now screen
-        (W.contents out.old) (W.contents out.new) store.old store.new) }
+    ensures tells { IfOk result (Tells S.FileSystem X.Texts K.Store ⟦<AllWalk<T, S> as Iterator>⟧.next_gives
+        ⟦<RuledWalk<T, S, X> as Iterator>⟧.next_gives ⟦<QuickWalk<T, S> as Iterator>⟧.next_gives
+        disk texts cores start asked.now screen (W.contents out.old) (W.contents out.new) store.old store.new) }
     ensures kept { OnErr result (store.new ≡ store.old) }
 {
+    let texts = Arc::new(alloc, texts)?;
     let crew = crew_with(rt, alloc, threads_in(cores, asked.threads))?;
-    let Some(bytes) = load(alloc, texts, asked)? else {
-        return begin(alloc, disk, &crew, texts, store, start, asked, err);
+    let Some(bytes) = load(alloc, &texts, asked)? else {
+        return begin(alloc, disk, &crew, &texts, store, start, asked, err);
     };
     if asked.lists {
         return list(alloc, asked, screen, &bytes, out);
     }
     let told = compare_file(
-        alloc, disk, &crew, texts, start, asked, screen, bytes, out, err,
+        alloc, disk, &crew, &texts, start, asked, screen, bytes, out, err,
     )?;
     save_told(alloc, store, asked, &told, err)
 }
@@ -241,12 +259,19 @@ fn status_of<E: Write>(alloc: Global, ended: Result<u8, Failure>, err: &mut Erro
 /// The status is 0 if nothing differs, or if rows or a text were asked for and written. It is 1 if something differs. It is 2 for
 /// bad words, if not all could be read, if memory ran out, and if the lines or the snapshot can't be written: if not all
 /// was written, `err` tells why last.
-pub fn run<T: Host, S: FileSystem + Send + Sync + 'static, X: Texts, K: Store, W: Write, E: Write>(
+pub fn run<
+    T: Host,
+    S: FileSystem + Send + Sync + 'static,
+    X: Texts + Send + Sync + 'static,
+    K: Store,
+    W: Write,
+    E: Write,
+>(
     rt: &T,
     alloc: Global,
     cores: usize,
     disk: S,
-    texts: &X,
+    texts: X,
     store: &mut K,
     start: Moment,
     words: &[String],
@@ -255,8 +280,9 @@ pub fn run<T: Host, S: FileSystem + Send + Sync + 'static, X: Texts, K: Store, W
     err: &mut Errors<E>,
 ) -> u8
     ensures status { result ≤ 2 }
-    ensures ends { Ends S.FileSystem X.Texts K.Store ⟦<WholeWalk<T, S> as Iterator>⟧.next_gives ⟦<QuickWalk<T, S> as Iterator>⟧.next_gives
-        disk texts.now cores start (map string_bytes words.now) screen (W.contents out.old) (W.contents out.new)
+    ensures ends { Ends S.FileSystem X.Texts K.Store ⟦<AllWalk<T, S> as Iterator>⟧.next_gives
+        ⟦<RuledWalk<T, S, X> as Iterator>⟧.next_gives ⟦<QuickWalk<T, S> as Iterator>⟧.next_gives
+        disk texts cores start (map string_bytes words.now) screen (W.contents out.old) (W.contents out.new)
         store.old store.new result (IsTold E.contents (codes "since") err.new) }
     // Where the status is 2, nothing was saved.
     ensures unsaved { result ≡ 2 → store.new ≡ store.old }

@@ -4,7 +4,7 @@ use Rattle.std.specs.Borrow.{Bor}
 use Rattle.clap.specs.Words.{Row, Text, first_of, one_of}
 use Rattle.program_parts.specs.Matches.{GiveValues}
 use Rattle.program_parts.specs.Refusal as refusal
-use Rattle.program_parts.specs.Values.{is_named, IsNumberOf}
+use Rattle.program_parts.specs.Values.{is_named, texts_of, values_in, IsNumberOf}
 use Rattle.since_words.specs.Command.{since_app}
 use Rattle.since_words.specs.Refusal.{has_conflict}
 use Rattle.since_words.specs.declared.asked.Asked.{Asked}
@@ -25,10 +25,13 @@ pub record Asks (rows : List Row) (asked : Asked) : Type 0 where
   pub lists : asked.lists ≡ is_named rows (codes "rows")
   pub long : asked.long ≡ is_named rows (codes "long")
   pub print0 : asked.print0 ≡ is_named rows (codes "print0")
+  pub json : asked.json ≡ is_named rows (codes "json")
   pub quiet : asked.quiet ≡ is_named rows (codes "quiet")
   pub exclude_hidden : asked.exclude_hidden ≡ is_named rows (codes "exclude-hidden")
   pub one_file_system : asked.one_file_system ≡ is_named rows (codes "one-file-system")
   pub depth : IsNumberOf (one_of (codes "max-depth") rows) asked.depth
+  pub excludes : texts_of asked.excludes.items ≡ values_in rows (codes "exclude")
+  pub ignore : asked.ignore ≡ is_named rows (codes "ignore")
   pub threads : IsNumberOf (one_of (codes "threads") rows) asked.threads
 
 -- The words ask for this: they are those of the command line, no two options exclude each other, and what is asked for is what the values say.

@@ -3,7 +3,7 @@ use Rattle.std.specs.Prelude.{true, List, [], ◌∷◌, codes, Some}
 use Rattle.clap.specs.Simple.{new_shape}
 use Rattle.clap.specs.Words.{App, Rule, new_app, new_rule}
 use Rattle.clap.specs.declared.builder.value_parser.ValueParser.TheVariants.{Unsigned}
-use Rattle.program_parts.specs.Rules.{with_rules, flag_rule, long_flag_rule, number_rule, threads_rule}
+use Rattle.program_parts.specs.Rules.{with_rules, flag_rule, listed_rule, long_flag_rule, number_rule, threads_rule}
 
 -- the file, which has to be named
 abbrev pub file_rule : Rule
@@ -20,7 +20,8 @@ place_rules = file_rule ∷ tree_rule ∷ []
 -- the options
 abbrev pub option_rules : List Rule
 option_rules =
-    long_flag_rule (codes "save") ∷ long_flag_rule (codes "quick") ∷ long_flag_rule (codes "rows") ∷ flag_rule (codes "long") 108 ∷ flag_rule (codes "print0") 48 ∷ flag_rule (codes "quiet") 113 ∷ threads_rule ∷ []
+    long_flag_rule (codes "save") ∷ long_flag_rule (codes "quick") ∷ long_flag_rule (codes "rows") ∷ flag_rule (codes "long") 108 ∷ flag_rule (codes "print0") 48
+    ∷ long_flag_rule (codes "json") ∷ flag_rule (codes "quiet") 113 ∷ threads_rule ∷ []
 
 -- the greatest depth, which is at least 1
 abbrev pub depth_rule : Rule
@@ -28,7 +29,8 @@ depth_rule = record (number_rule (codes "max-depth")) { short = Some 100; parser
 
 -- the options for what of a tree is compared
 abbrev pub choice_rules : List Rule
-choice_rules = long_flag_rule (codes "exclude-hidden") ∷ flag_rule (codes "one-file-system") 120 ∷ depth_rule ∷ []
+choice_rules =
+    long_flag_rule (codes "exclude-hidden") ∷ flag_rule (codes "one-file-system") 120 ∷ depth_rule ∷ listed_rule (codes "exclude") 69 ∷ long_flag_rule (codes "ignore") ∷ []
 
 -- the command with its name and its version
 abbrev pub named_app : App

@@ -1,7 +1,8 @@
 //! What a call asks for.
+use std::alloc::Global;
 
 /// What a call asks for.
-#[derive(Clone, Copy, Debug, PartialEq, Eq)]
+#[derive(Drop)]
 pub struct Asked<'w> {
     /// The file with the snapshot.
     pub file: &'w str,
@@ -17,6 +18,8 @@ pub struct Asked<'w> {
     pub long: bool,
     /// Each line ends with a zero byte.
     pub print0: bool,
+    /// Each line is a JSON object.
+    pub json: bool,
     /// No line is written.
     pub quiet: bool,
     /// Hidden names are left out.
@@ -25,6 +28,10 @@ pub struct Asked<'w> {
     pub one_file_system: bool,
     /// The greatest depth, if one was named: 1 for what is in the root.
     pub depth: Option<usize>,
+    /// Lines of an ignore file. What they name is left out.
+    pub excludes: Vec<&'w str, Global>,
+    /// What ignore files name is left out.
+    pub ignore: bool,
     /// How many threads read directories, if that was named.
     pub threads: Option<usize>,
 }

@@ -5,7 +5,7 @@ ghost use Rattle.program_parts.specs.Rules.{HaveRules};
 ghost use Rattle.since_words.specs.Command.{choice_rules, depth_rule, file_rule, named_app, option_rules, place_rules, since_app, tree_rule};
 
 use clap::{Arg, Command};
-use program_parts::options::{flag, long_flag, number, threads_option};
+use program_parts::options::{flag, listed, long_flag, number, threads_option};
 use program_parts::version::VERSION;
 use std::alloc::{AllocError, Global};
 
@@ -66,6 +66,7 @@ fn options<'a>(alloc: Global) -> Result<Vec<Arg<'a>>, AllocError>
             '0',
             "Write a zero byte behind each line, in place of a line feed"
         ),
+        long_flag(alloc, "json", "Write a JSON object for each difference"),
         flag(alloc, "quiet", 'q', "Write no lines"),
         threads_option(alloc),
     ]?)
@@ -102,6 +103,14 @@ fn choice_options<'a>(alloc: Global) -> Result<Vec<Arg<'a>>, AllocError>
             "Leave out what is on other file systems"
         ),
         depth_option(alloc),
+        listed(
+            alloc,
+            "exclude",
+            'E',
+            "LINE",
+            "Leave out what this line of an ignore file names"
+        ),
+        long_flag(alloc, "ignore", "Leave out what ignore files name"),
     ]?)
 }
 

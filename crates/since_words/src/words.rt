@@ -2,14 +2,14 @@
 ghost use Rattle.std.specs.Prelude.{◌≡◌, is_some, map, IfOk, IfErr, option_map};
 ghost use Rattle.clap.specs.Words.{first_of, found_of, rows_of};
 ghost use Rattle.since_words.specs.Asks.{file_in, text_in, AskFor, Asks};
-ghost use Rattle.since_words.specs.Refusal.{asks_compared, asks_more, has_conflict, IsRefusedFor};
+ghost use Rattle.since_words.specs.Refusal.{asks_compared, asks_more, asks_rules, has_conflict, IsRefusedFor};
 
 use crate::asked::Asked;
 use crate::command::command;
 use clap::ArgMatches;
 use program_parts::refusal::CommonRefusal;
-use program_parts::values::{has_value, is_named, matches_of, number_of};
-use std::alloc::Global;
+use program_parts::values::{has_value, is_named, matches_of, number_of, values_of};
+use std::alloc::{AllocError, Global};
 use std::convert::AsStr;
 
 /// Returns the value of an option, if it has one.
@@ -29,10 +29,11 @@ fn file_of<'w>(found: &ArgMatches<'w>) -> &'w str
     }
 }
 
-fn asked_of<'w>(found: &ArgMatches<'w>) -> Asked<'w>
-    ensures { Asks (rows_of (found_of found.now)) result }
+fn asked_of<'w>(alloc: Global, found: &ArgMatches<'w>) -> Result<Asked<'w>, AllocError>
+    ensures { IfOk result (Asks (rows_of (found_of found.now))) }
 {
-    Asked {
+    let excludes = values_of(alloc, found, "exclude")?;
+    Ok(Asked {
         file: file_of(found),
         root: value_of(found, "root"),
         save: is_named(found, "save"),
@@ -40,11 +41,27 @@ fn asked_of<'w>(found: &ArgMatches<'w>) -> Asked<'w>
         lists: is_named(found, "rows"),
         long: is_named(found, "long"),
         print0: is_named(found, "print0"),
+        json: is_named(found, "json"),
         quiet: is_named(found, "quiet"),
         exclude_hidden: is_named(found, "exclude-hidden"),
         one_file_system: is_named(found, "one-file-system"),
         depth: number_of(found, "max-depth"),
+        excludes,
+        ignore: is_named(found, "ignore"),
         threads: number_of(found, "threads"),
+    })
+}
+
+/// Returns an option that leaves out names by rules.
+fn rules_option(found: &ArgMatches<'_>) -> Option<&'static str>
+    ensures { is_some result ≡ asks_rules (rows_of (found_of found.now)) }
+{
+    if has_value(found, "exclude") {
+        Some("exclude")
+    } else if is_named(found, "ignore") {
+        Some("ignore")
+    } else {
+        None
     }
 }
 
@@ -56,6 +73,8 @@ fn compared_option(found: &ArgMatches<'_>) -> Option<&'static str>
         Some("save")
     } else if is_named(found, "quick") {
         Some("quick")
+    } else if is_named(found, "json") {
+        Some("json")
     } else if is_named(found, "exclude-hidden") {
         Some("exclude-hidden")
     } else if is_named(found, "one-file-system") {
@@ -63,11 +82,11 @@ fn compared_option(found: &ArgMatches<'_>) -> Option<&'static str>
     } else if has_value(found, "max-depth") {
         Some("max-depth")
     } else {
-        None
+        rules_option(found)
     }
 }
 
-/// Returns an option that needs more than names and types.
+/// Returns an option that quick comparisons can't have.
 fn more_option(found: &ArgMatches<'_>) -> Option<&'static str>
     ensures { is_some result ≡ asks_more (rows_of (found_of found.now)) }
 {
@@ -76,11 +95,12 @@ fn more_option(found: &ArgMatches<'_>) -> Option<&'static str>
     } else if is_named(found, "one-file-system") {
         Some("one-file-system")
     } else {
-        None
+        rules_option(found)
     }
 }
 
-/// Returns two options that exclude each other: rows are of a file as it is, and quick comparisons of names and types.
+/// Returns two options that exclude each other: rows are of a file as it is, quick comparisons of names and types, and a
+/// line that is a JSON object ends with a line feed.
 fn conflict_of(found: &ArgMatches<'_>) -> Option<(&'static str, &'static str)>
     ensures { is_some result ≡ has_conflict (rows_of (found_of found.now)) }
 {
@@ -93,6 +113,9 @@ fn conflict_of(found: &ArgMatches<'_>) -> Option<(&'static str, &'static str)>
         && let Some(other) = more_option(found)
     {
         return Some(("quick", other));
+    }
+    if is_named(found, "json") && is_named(found, "print0") {
+        return Some(("json", "print0"));
     }
     None
 }
@@ -110,5 +133,5 @@ pub fn read_words<'w, S: AsStr>(alloc: Global, words: &'w [S]) -> Result<Asked<'
     if let Some((one, other)) = conflict_of(&found) {
         return Err(CommonRefusal::Conflict(one, other));
     }
-    Ok(asked_of(&found))
+    Ok(asked_of(alloc, &found)?)
 }

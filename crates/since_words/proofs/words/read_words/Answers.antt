@@ -24,5 +24,5 @@ returns-clause-asked g c =
       rows = rows;
       values = subst (λ (a : App). GiveValues a (map g.S.AsStr.text c.args.words.now) rows) c.in_ok-command.ensures c.in_ok-found.ensures.read;
       free = sym c.conflict_of.ensures ∙ ap is_some c.in_default.is;
-      asks = c.asked_of.ensures;
+      asks = c.in_ok-asked_of.ensures;
     }
