@@ -4,4 +4,3 @@ mod ListingFacts
 mod HeldFacts
 mod SavedFacts
 mod TreeFacts
-mod RecordFacts

@@ -8,4 +8,3 @@ pub mod Differences
 pub mod Line
 pub mod Row
 pub mod Saved
-pub mod Records

@@ -9,7 +9,6 @@ pub mod found;
 pub mod held;
 pub mod line;
 mod listing;
-pub mod records;
 pub mod row;
 pub mod saved;
 pub mod tree;

@@ -23,7 +23,7 @@ use Rattle.jwalk_snapshot.specs.declared.block.Block.{Block}
 use Rattle.program_walks.specs.Crew.{CrewCallsOf}
 use Rattle.since_words.specs.declared.asked.Asked.{Asked}
 use Rattle.since_parts.specs.Differences.{Difference}
-use Rattle.since_parts.specs.Records.{IsIndexOf}
+use Rattle.jwalk_snapshot_index.specs.Records.{IsIndexOf}
 use Rattle.since_parts.specs.Tree.{front_in, front_of, IsTree}
 use Rattle.since_parts.specs.declared.choice.Choice.{Choice}
 use Rattle.since_parts.specs.declared.found.Found.{Found}

@@ -16,7 +16,7 @@ use Rattle.program_walks.specs.Crew.{CrewCallsOf}
 use Rattle.since_words.specs.declared.asked.Asked.{Asked}
 use Rattle.since_parts.specs.Differences.{AreDifferences, Difference}
 use Rattle.since_parts.specs.Held.{HoldsAll, seen_in}
-use Rattle.since_parts.specs.Records.{IsIndexOf}
+use Rattle.jwalk_snapshot_index.specs.Records.{IsIndexOf}
 use Rattle.since_parts.specs.Tree.{front_in, front_of, IsTree}
 use Rattle.since_parts.specs.declared.held.Held.{Held}
 use Rattle.since_parts.specs.declared.tree.Tree.{Tree}
