@@ -8,6 +8,7 @@ use Rattle.jwalk_model.specs.declared.seen.Seen.TheVariants.{TypeAlone, Whole}
 use Rattle.jwalk_model.specs.FileSystem.{Named, Listed, Functions}
 use Rattle.jwalk_model.specs.FileType.{is_symlink}
 use Rattle.jwalk_model.specs.Seen.{type_seen}
+use Rattle.jwalk_model.specs.Options.{with_keep_metadata}
 use Rattle.jwalk_model.specs.Entry.{Entry, Item, is_hidden}
 use Rattle.jwalk_model.specs.Error.{io, unnamed}
 use Rattle.jwalk_model.specs.ReadDir.{Spec, Outcome}
@@ -105,19 +106,27 @@ types_are_enough {R} {E} job needs =
 
 -- over listings whose names are asked for
 module _ {R E : Type 0} (job : Job R E) (needs : NeedsTypesAlone job.options) where
-  asked_answered : (spec : Spec R) (listed : Result (List Listed) ErrorKind) → asked_items job.fs spec.path listed ≡ listed → either (λ items. Ok (job.processed (Some spec.depth) spec.path spec.state (ordered (over_asked job) spec items))) (λ kind. Err (io spec.depth (Some spec.path) kind)) (asked_items job.fs spec.path (typed_answer listed)) ≡ either (λ items. Ok (job.processed (Some spec.depth) spec.path spec.state (ordered job spec items))) (λ kind. Err (io spec.depth (Some spec.path) kind)) listed
+  asked_answered : (spec : Spec R) (listed : Result (List Listed) ErrorKind) → asked_items job.fs spec.path listed ≡ listed → either (λ items. Ok (job.processed (Some spec.depth) spec.path spec.state (ordered (over_asked true job) spec items))) (λ kind. Err (io spec.depth (Some spec.path) kind)) (asked_items job.fs spec.path (typed_answer listed)) ≡ either (λ items. Ok (job.processed (Some spec.depth) spec.path spec.state (ordered job spec items))) (λ kind. Err (io spec.depth (Some spec.path) kind)) listed
   asked_answered spec (Ok items) whole =
       ap (λ l. Ok (job.processed (Some spec.depth) spec.path spec.state l)) (ap (ordered job spec) (asked_order job.fs spec.path items (same_items whole)) ∙ ordered_first job needs spec items)
   asked_answered spec (Err kind) whole = refl
 
-  asked_reading : ListsWhole job.fs → (spec : Spec R) → reading (over_asked job) spec ≡ reading job spec
+  asked_reading : ListsWhole job.fs → (spec : Spec R) → reading (over_asked true job) spec ≡ reading job spec
   asked_reading whole spec = ap (λ (o : Outcome R E). if nat_le job.options.max_depth spec.depth then Ok (record { state = spec.state; list = [] }) else o) (asked_answered spec (job.fs.list_of spec.path) (whole spec.path))
 
-asked_walk : {R E : Type 0} (job : Job R E) → NeedsTypesAlone job.options → ListsWhole job.fs → (root : List ℕ) (state : R) → whole_walk (over_asked job) root state ≡ whole_walk job root state
+asked_walk : {R E : Type 0} (job : Job R E) → NeedsTypesAlone job.options → ListsWhole job.fs → (root : List ℕ) (state : R) → whole_walk (over_asked true job) root state ≡ whole_walk job root state
 unfolding whole_walk
 asked_walk {R} {E} job needs whole root state =
-    let readings : ◌≡◌ {A = Spec R → Outcome R E} (reading (over_asked job)) (reading job) = λ i spec. asked_reading job needs whole spec i in
+    let readings : ◌≡◌ {A = Spec R → Outcome R E} (reading (over_asked true job)) (reading job) = λ i spec. asked_reading job needs whole spec i in
     ap (λ (r : Spec R → Outcome R E). to_come r job.options.min_depth job.options.max_depth (paired (root_list job root state))) readings
 
+-- without names that are asked for no metadata is kept
+not_kept : (kept : Bool) → (kept ≡ true → false ≡ true) → kept ≡ false
+not_kept true asks = sym (asks refl)
+not_kept false asks = refl
+
 pub asking_is_enough : {R E : Type 0} → AskingIsEnough R E
-asking_is_enough job needs whole root state = asked_walk job needs whole root state
+asking_is_enough job true needs keeps whole root state = asked_walk job needs (whole refl) root state
+asking_is_enough {R} {E} job false needs keeps whole root state =
+    let forgets : job ≡ keeping_none job = ap (λ (k : Bool). let j : Job R E = record job { options = with_keep_metadata k job.options } in j) (not_kept job.options.keep_metadata keeps) in
+    ap (λ (j : Job R E). whole_walk (over_asked false j) root state) forgets ∙ same_walk job needs root state ∙ ap (λ (j : Job R E). whole_walk j root state) (sym forgets)

@@ -36,14 +36,14 @@ module _ {R E : Type 0} where
     pub filtered : (test : Entry R E → Result Metadata ErrorKind → Bool) (root : List ℕ) (state : R)
         → filter (passing test (typed_functions job.fs)) (whole_walk (over_types job) root state) ≡ filter (passing test job.fs) (whole_walk (keeping_none job) root state)
 
--- the job over such listings, whose names are asked for
-abbrev pub over_asked : {R E : Type 0} → Job R E → Job R E
-over_asked job = record job { fs = asking_functions true (typed_functions job.fs) }
+-- the job over such listings, whose names are asked for if that is wanted
+abbrev pub over_asked : {R E : Type 0} → Bool → Job R E → Job R E
+over_asked asks job = record job { fs = asking_functions asks (typed_functions job.fs) }
 
--- Where listings say of names what asking returns, a walk over listings that say types alone, whose names are asked for, is the same.
+-- A walk over such listings is the same as over the listings themselves, if names are asked for where metadata is kept, and the listings say what asking returns.
 abbrev pub AskingIsEnough : Type 0 → Type 0 → Type 0
 AskingIsEnough R E =
-    (job : Job R E) → NeedsTypesAlone job.options → ListsWhole job.fs → (root : List ℕ) (state : R) → whole_walk (over_asked job) root state ≡ whole_walk job root state
+    (job : Job R E) (asks : Bool) → NeedsTypesAlone job.options → (job.options.keep_metadata ≡ true → asks ≡ true) → (asks ≡ true → ListsWhole job.fs) → (root : List ℕ) (state : R) → whole_walk (over_asked asks job) root state ≡ whole_walk job root state
 
 -- Under such options types are enough, whatever the callback is.
 abbrev pub TypesAreEnough : Type 0 → Type 0 → Type 0

@@ -14,8 +14,8 @@ pub fn types_are_enough<R, E>()
     ensures { TypesAreEnough R E }
 {}
 
-/// Where listings say of each name what asking for it returns, such a walk yields the same over listings that say types
-/// alone and whose names are then asked for, metadata included.
+/// Such a walk yields the same over listings that say types alone, metadata included, if their names are asked for where
+/// it keeps metadata, and the listings themselves say what asking returns.
 pub fn asking_is_enough<R, E>()
     ensures { AskingIsEnough R E }
 {}
