@@ -1,5 +1,5 @@
 -- The statuses of words and patterns that are rejected.
-use Rattle.std.proofs.Common.{◌≡◌, ◌<◌, ◌≤◌, ◌⊎◌, ℕ, zero, suc, List, inl, inr, refl, sym, ◌∙◌, arith}
+use Rattle.std.proofs.Common.{◌≡◌, ◌<◌, ◌≤◌, ◌⊎◌, ℕ, zero, suc, List, Some, inl, inr, refl, sym, option_map, ◌∙◌, arith}
 use Rattle.program_parts.proofs.StatusFacts.{told_zero}
 use Rattle.seek_words.proofs.EndFacts.{asked_for_text, refusal_most}
 use Rattle.seek_words.specs.AsksFor.{AskFor, AskForText}
@@ -55,13 +55,22 @@ rejected_ends words asked ask bad.Memory is status told = inr (inr told)
 -- a call that names what isn't an owner ends with its status
 pub unowned_ends : (words : List (List ℕ)) (asked : Asked) → AskFor words asked → (told : Type 0) (texts : Texts) (why : Unowned) → (status_of_owner why ≡ 2 → NamesNoOwner told texts asked) → (status : ℕ) → status ≡ status_of_owner why → Ends words status
 unowned_ends words asked ask told texts (Text text) refused status is =
-    let names = refused refl in inl (inr (inr (asked, ask, names.0, names.1, names.2.accounts, names.2.is.accounts, sym names.2.is.is)), is)
+    let names = refused refl in inl (inr (inr (inl (asked, ask, names.0, names.1, names.2.accounts, names.2.is.accounts, sym names.2.is.is))), is)
 unowned_ends words asked ask told texts (File file error) refused status is = inr (inr is)
 unowned_ends words asked ask told texts Memory refused status is = inr (inr is)
 
 -- a search ends with 0 or 1
 pub searched_ends : (words : List (List ℕ)) (asked : Asked) → AskFor words asked → (sought : Sought) → IsFor asked sought → (status : ℕ) → status ≤ 1 → Ends words status
 searched_ends words asked ask sought is status most = inr (inl (inr (asked, ask, sought, is), most))
+
+-- a search over an index ends with 2 as well, if the index can't be used
+pub indexed_ends : (words : List (List ℕ)) (asked : Asked) → AskFor words asked → (sought : Sought) → IsFor asked sought → (file : List ℕ) → option_map (λ it. it.now) asked.index ≡ Some file → (status : ℕ) → status ≤ 2 → Ends words status
+indexed_ends words asked ask sought is file named status most =
+    elim (at_most_two status most) [
+      | inl none ↦ inr (inl (inr (asked, ask, sought, is), omega (arith, none)))
+      | inr (inl one) ↦ inr (inr one)
+      | inr (inr two) ↦ inl (inr (inr (inr (asked, ask, file, named))), two)
+    ]
 
 -- no status is above 2
 pub ends_most : (words : List (List ℕ)) (status : ℕ) → Ends words status → status ≤ 2

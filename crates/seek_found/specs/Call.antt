@@ -23,11 +23,15 @@ abbrev pub NameNoOwner : List (List ℕ) → Type 0
 NameNoOwner words = (asked : Asked) × AskFor words asked × (text : List ℕ) × (option_map (λ it. it.now) asked.owner_text ≡ Some text)
     × (users : List ℕ) × (groups : List ℕ) × (owner_in users groups text ≡ None)
 
--- A call ends with 2 for bad words, a bad pattern or what isn't an owner, and with 0 or 1 if a text or a search is asked for. If memory runs
+-- The words name an index.
+abbrev pub NameIndex : List (List ℕ) → Type 0
+NameIndex words = (asked : Asked) × AskFor words asked × (file : List ℕ) × (option_map (λ it. it.now) asked.index ≡ Some file)
+
+-- A call ends with 2 for bad words, a bad pattern, what isn't an owner or an index that can't be used, and with 0 or 1 if a text or a search is asked for. If memory runs
 -- out, it ends with 1.
 abbrev pub Ends : List (List ℕ) → ℕ → Type 0
 Ends words status =
-    ((AreBad words ⊎ HaveBadPattern words ⊎ NameNoOwner words) × (status ≡ 2)) ⊎ ((AskForText words ⊎ AskForSearch words) × (status ≤ 1)) ⊎ (status ≡ 1)
+    ((AreBad words ⊎ HaveBadPattern words ⊎ NameNoOwner words ⊎ NameIndex words) × (status ≡ 2)) ⊎ ((AskForText words ⊎ AskForSearch words) × (status ≤ 1)) ⊎ (status ≡ 1)
 
 -- The words ask for this search, and the names that are looked for are those of the patterns.
 abbrev pub AskToSearch : List (List ℕ) → Asked × Sought → Type 0

@@ -2,4 +2,5 @@ pub mod PaintingFacts
 pub mod OptionFacts
 pub mod SearchFacts
 pub mod BeginFacts
+pub mod DiskFacts
 pub mod RunFacts

@@ -55,7 +55,12 @@ use Rattle.seek_search.specs.Printing.{IsFront}
 use Rattle.seek_search.specs.RulesRead.{lines_asked}
 use Rattle.program_walks.specs.Crew.{CrewCallsOf}
 use Rattle.seek_search.specs.Run.{FindsAsked, IsDone, IsFailed, PrintsAsked, Searches, SearchesFor, SearchesTimed}
-use Rattle.seek_search.specs.Search.{form_before, front_if, roots_asked, sought_before, yielded_by}
+use Rattle.seek_search.specs.Search.{asks_names, form_before, front_if, roots_asked, sought_before, yielded_by}
+use Rattle.jwalk_indexed_fs.specs.declared.index.Index.{Index}
+use Rattle.seek_search.specs.Disk.{disk_over, functions_over, MayVouch}
+use Rattle.seek_search.specs.Index.{IsIndexAsked}
+use Rattle.seek_search.specs.declared.disk.Disk.{Disk}
+use Rattle.seek_search.proofs.DiskFacts.{enough_asked}
 use Rattle.seek_search.specs.Based.{base_asked, functions_based, has_folder, texts_based, IsBased}
 use Rattle.seek_search.specs.declared.based.Based.{Based}
 use Rattle.seek_search.specs.declared.kept_links.KeptLinks.{KeptLinks}
@@ -297,13 +302,14 @@ module _ {T C Z B X A E G H F : Type 0} (plain : CrewCallsOf T G (Arc (KeptLinks
         };
       }
 
-module _ {T C Z B X A E G H F : Type 0} (plain : CrewCallsOf T G (Arc (KeptLinks (Based Z)) B) LeavesOut A H F) (honouring : CrewCallsOf T C (Arc (KeptLinks (Based Z)) B) (Honours (UserTexts (Based X)) B) A RulesState E) {disk : Z} {reads : X} {still told : Type 0} {fs : Functions} {texts : Texts} {home : Home} {cores : ℕ} {screen : Screen} {old new : Option (List ℕ)} where
-  -- the words ask for a search by what is known of their owner and their folder
-  pub words_searched : {words : List (List ℕ)} {asked : Asked} {sought : Looked} {over : Based Z} {from : Based X} {still' told' : Type 0} {fs' : Functions} {texts' : Texts} {old' : Option (List ℕ)} {success : Bool} (owner : Option Owner)
+module _ {T C Z B X A E G H F : Type 0} (plain : CrewCallsOf T G (Arc (KeptLinks (Disk (Based Z))) B) LeavesOut A H F) (honouring : CrewCallsOf T C (Arc (KeptLinks (Disk (Based Z))) B) (Honours (UserTexts (Based X)) B) A RulesState E) {disk : Z} {reads : X} {still told : Type 0} {fs : Functions} {texts : Texts} {home : Home} {cores : ℕ} {screen : Screen} {old new : Option (List ℕ)} where
+  -- the words ask for a search by what is known of their owner, their folder and their index
+  pub words_searched : {words : List (List ℕ)} {asked : Asked} {sought : Looked} {over : Based Z} {from : Based X} {searched : Disk (Based Z)} {still' told' : Type 0} {fs' : Functions} {texts' : Texts} {old' : Option (List ℕ)} {success : Bool} (owner : Option Owner) (index : Option Index) (asks : Bool)
       → AskFor words asked → IsFor asked sought → IsOwnerOf told texts asked owner → IsBased disk asked over → IsBased reads asked from → (still → has_folder (functions_based (base_asked asked) fs) asked ≡ true)
-      → (still → still') → (told → told') → fs' ≡ functions_based (base_asked asked) fs → texts' ≡ texts_based (base_asked asked) texts → old' ≡ old
-      → SearchesTimed plain honouring over from still' told' fs' texts' home cores screen (record asked { owner = owner }) sought old' new success → Searches plain honouring disk reads still told fs texts home cores screen words old new success
-  words_searched {asked} {sought} {over} {from} owner ask is_for is_owner is_over is_from folder stays tells over_is from_is before s = record {
+      → IsIndexAsked told (texts_based (base_asked asked) texts) asked index → asks ≡ asks_names screen (record asked { owner = owner }) → searched ≡ disk_over over index asks
+      → (still × MayVouch (functions_based (base_asked asked) fs) index → still') → (told → told') → fs' ≡ functions_over index asks (functions_based (base_asked asked) fs) → texts' ≡ texts_based (base_asked asked) texts → old' ≡ old
+      → SearchesTimed plain honouring searched from still' told' fs' texts' home cores screen (record asked { owner = owner }) sought old' new success → Searches plain honouring disk reads still told fs texts home cores screen words old new success
+  words_searched {asked} {sought} {over} {from} owner index asks ask is_for is_owner is_over is_from folder is_index asks_is searched_is stays tells over_is from_is before s = record {
     asked = _;
     ask = shown_ask_for _ _ s.times s.colored owner ask;
     sought = sought;
@@ -314,12 +320,17 @@ module _ {T C Z B X A E G H F : Type 0} (plain : CrewCallsOf T G (Arc (KeptLinks
     is_from = record { of = is_from.of; from = is_from.from };
     owner = is_owner;
     folder = folder;
+    index = index;
+    is_index = is_index;
+    asks = asks;
+    asks_enough = λ needs. asks_is ∙ enough_asked screen (record asked { owner = owner }) s.times s.colored s.searches.colored needs;
     ended = s.ended;
     so = s.so;
-    searches = searches_as plain honouring stays tells over_is from_is before s.searches;
+    searches = subst (λ (d : Disk (Based Z)). SearchesFor plain honouring d from (still × MayVouch (functions_based (base_asked asked) fs) index) told (functions_over index asks (functions_based (base_asked asked) fs)) (texts_based (base_asked asked) texts) home cores screen (record asked { times = s.times; colored = s.colored; owner = owner }) sought old new s.ended)
+        searched_is (searches_as plain honouring stays tells over_is from_is before s.searches);
   }
 
-module _ {T C Z B X A E G H F L K : Type 0} (files : FileSystem.Ghosts Z) (rules : ReadsTexts.Ghosts X) (plain : CrewCallsOf T G (Arc (KeptLinks (Based Z)) B) LeavesOut A H F) (honouring : CrewCallsOf T C (Arc (KeptLinks (Based Z)) B) (Honours (UserTexts (Based X)) B) A RulesState E) (seek : Seek L K Z X) {old new : Option (List ℕ)} {words words' : List (List ℕ)} (is : words ≡ words') where
+module _ {T C Z B X A E G H F L K : Type 0} (files : FileSystem.Ghosts Z) (rules : ReadsTexts.Ghosts X) (plain : CrewCallsOf T G (Arc (KeptLinks (Disk (Based Z))) B) LeavesOut A H F) (honouring : CrewCallsOf T C (Arc (KeptLinks (Disk (Based Z))) B) (Honours (UserTexts (Based X)) B) A RulesState E) (seek : Seek L K Z X) {old new : Option (List ℕ)} {words words' : List (List ℕ)} (is : words ≡ words') where
   -- the same call, by other names of its words
   pub done_with : IsDone files rules plain honouring seek words old new → IsDone files rules plain honouring seek words' old new
   done_with = subst (λ (w : List (List ℕ)). IsDone files rules plain honouring seek w old new) is

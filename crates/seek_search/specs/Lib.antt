@@ -1,4 +1,6 @@
 pub mod Search
+pub mod Index
+pub mod Disk
 pub mod Based
 pub mod Run
 pub mod RulesRead

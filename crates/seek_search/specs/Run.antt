@@ -32,6 +32,11 @@ use Rattle.user_excludes.specs.Home.{home_value}
 use Rattle.user_excludes.specs.UserTexts.{with_user}
 use Rattle.user_excludes.specs.declared.home.Home.{Home}
 use Rattle.user_excludes.specs.declared.user_texts.UserTexts.{UserTexts}
+use Rattle.jwalk_indexed_fs.specs.declared.index.Index.{Index}
+use Rattle.seek_words.specs.Metadata.{needs_metadata}
+use Rattle.seek_search.specs.Disk.{disk_over, functions_over, MayVouch}
+use Rattle.seek_search.specs.Index.{IsIndexAsked}
+use Rattle.seek_search.specs.declared.disk.Disk.{Disk}
 use Rattle.seek_search.specs.Search.{form_asked, limit_asked, sought_asked, yielded_by}
 use Rattle.seek_search.specs.declared.based.Based.{Based}
 use Rattle.seek_search.specs.declared.kept_links.KeptLinks.{KeptLinks}
@@ -85,10 +90,11 @@ module _ {T C Z B X A E G H F : Type 0} (plain : CrewCallsOf T G (Arc (KeptLinks
     pub so : succeeds asked.quiet ended ≡ success
     pub searches : SearchesFor disk reads still told fs texts home cores screen (record asked { times = times; colored = colored }) sought old new ended
 
-module _ {T C Z B X A E G H F : Type 0} (plain : CrewCallsOf T G (Arc (KeptLinks (Based Z)) B) LeavesOut A H F) (honouring : CrewCallsOf T C (Arc (KeptLinks (Based Z)) B) (Honours (UserTexts (Based X)) B) A RulesState E) where
+module _ {T C Z B X A E G H F : Type 0} (plain : CrewCallsOf T G (Arc (KeptLinks (Disk (Based Z))) B) LeavesOut A H F) (honouring : CrewCallsOf T C (Arc (KeptLinks (Disk (Based Z))) B) (Honours (UserTexts (Based X)) B) A RulesState E) where
   -- The words ask for a search, the names that are looked for are those of the patterns, and the owner is the one that is
   -- asked for. This is searched, over the disk and the texts as they are seen from the folder that is asked for, which is
-  -- one. `success` says whether a quiet search found an entry, and of any other whether all its answers are clean.
+  -- one. If a file is named, directories are listed from its records while their stamps are the same, and their names are
+  -- asked for if metadata is; the disk is fixed if these records vouch for it, too. `success` says whether a quiet search found an entry, and of any other whether all its answers are clean.
   pub record Searches (disk : Z) (reads : X) (still told : Type 0) (fs : Functions) (texts : Texts) (home : Home) (cores : ℕ) (screen : Screen) (words : List (List ℕ)) (old new : Option (List ℕ)) (success : Bool) : Type 0 where
     pub asked : Asked
     pub ask : AskFor words asked
@@ -100,9 +106,14 @@ module _ {T C Z B X A E G H F : Type 0} (plain : CrewCallsOf T G (Arc (KeptLinks
     pub is_from : IsBased reads asked from
     pub owner : IsOwnerOf told texts asked asked.owner
     pub folder : still → has_folder (functions_based (base_asked asked) fs) asked ≡ true
+    pub index : Option Index
+    pub is_index : IsIndexAsked told (texts_based (base_asked asked) texts) asked index
+    pub asks : Bool
+    pub asks_enough : needs_metadata asked ≡ true → asks ≡ true
     pub ended : Ended
     pub so : succeeds asked.quiet ended ≡ success
-    pub searches : SearchesFor plain honouring over from still told (functions_based (base_asked asked) fs) (texts_based (base_asked asked) texts) home cores screen asked sought old new ended
+    pub searches : SearchesFor plain honouring (disk_over over index asks) from (still × MayVouch (functions_based (base_asked asked) fs) index) told
+        (functions_over index asks (functions_based (base_asked asked) fs)) (texts_based (base_asked asked) texts) home cores screen asked sought old new ended
 
 module _ {T C Z B X A E G H F L K : Type 0} (files : FileSystem.Ghosts Z) (rules : ReadsTexts.Ghosts X) (plain : CrewCallsOf T G (Arc (KeptLinks Z) B) LeavesOut A H F) (honouring : CrewCallsOf T C (Arc (KeptLinks Z) B) (Honours (UserTexts X) B) A RulesState E) (seek : Seek L K Z X) where
   -- The program searches this by some times, in colors or without.
@@ -110,7 +121,7 @@ module _ {T C Z B X A E G H F L K : Type 0} (files : FileSystem.Ghosts Z) (rules
   SearchesBy =
       SearchesTimed plain honouring seek.disk seek.texts (files.IsFixed seek.disk) (rules.IsFixed seek.texts) (files.functions seek.disk) (rules.functions seek.texts) seek.home seek.cores seek.screen
 
-module _ {T C Z B X A E G H F L K : Type 0} (files : FileSystem.Ghosts Z) (rules : ReadsTexts.Ghosts X) (plain : CrewCallsOf T G (Arc (KeptLinks (Based Z)) B) LeavesOut A H F) (honouring : CrewCallsOf T C (Arc (KeptLinks (Based Z)) B) (Honours (UserTexts (Based X)) B) A RulesState E) (seek : Seek L K Z X) where
+module _ {T C Z B X A E G H F L K : Type 0} (files : FileSystem.Ghosts Z) (rules : ReadsTexts.Ghosts X) (plain : CrewCallsOf T G (Arc (KeptLinks (Disk (Based Z))) B) LeavesOut A H F) (honouring : CrewCallsOf T C (Arc (KeptLinks (Disk (Based Z))) B) (Honours (UserTexts (Based X)) B) A RulesState E) (seek : Seek L K Z X) where
   -- The program searches as the words ask.
   abbrev pub SearchesWords : List (List ℕ) → Option (List ℕ) → Option (List ℕ) → Bool → Type 0
   SearchesWords =

@@ -22,6 +22,7 @@ use Rattle.seek_colors.specs.Palette.{palette_in}
 use Rattle.seek_words.specs.Layout.{Form}
 use Rattle.seek_found.specs.Prune.{unpruned}
 use Rattle.seek_words.specs.Paint.{Painting, broken_in}
+use Rattle.seek_words.specs.Screen.{is_colored}
 use Rattle.seek_words.specs.declared.screen.Screen.{Screen}
 use Rattle.program_parts.specs.declared.paths.Style.{Style}
 use Rattle.seek_words.specs.Metadata.{needs_metadata}
@@ -49,6 +50,10 @@ options_asked asked = record defaults {
 abbrev pub is_shallow : Option ℕ → Bool
 is_shallow None = false
 is_shallow (Some greatest) = nat_lt greatest 2
+
+-- whether names are asked for that an index lists: metadata is asked for, or paths are printed in colors
+abbrev pub asks_names : Screen → Asked → Bool
+asks_names screen asked = needs_metadata asked || is_colored screen asked.color
 
 -- how many threads are asked for: one, if the lists of roots alone are read
 abbrev pub threads_asked : Asked → Option ℕ

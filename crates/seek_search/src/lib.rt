@@ -2,7 +2,9 @@
 #![tactic(auto)]
 
 mod based;
+mod disk;
 mod excluded;
+mod index;
 mod kept_links;
 mod printing;
 mod rules_read;

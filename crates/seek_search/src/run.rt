@@ -9,9 +9,11 @@ ghost use Rattle.seek_found.specs.Sought.{takes_by};
 ghost use Rattle.seek_search.specs.Based.{has_folder};
 ghost use Rattle.seek_search.specs.Goes.{ByRead, Finds, PrintsYielded};
 ghost use Rattle.seek_search.specs.Run.{FindsAsked, FindsRead, IsDone, IsFailed, PrintsAsked, PrintsRead, SearchesBy};
-ghost use Rattle.seek_search.specs.Search.{threads_asked};
+ghost use Rattle.seek_search.specs.Search.{asks_names, threads_asked};
 
 use crate::based::Based;
+use crate::disk::Disk;
+use crate::index::index_asked;
 use crate::kept_links::KeptLinks;
 use crate::printing::printer_of;
 use crate::rules_read::{home_asked, lines_asked};
@@ -58,6 +60,13 @@ fn threads_asked(asked: &Asked<'_>) -> Option<usize>
         return Some(1);
     }
     asked.threads
+}
+
+/// Returns whether names are asked for that an index lists.
+fn asks_names(screen: Screen<'_>, asked: &Asked<'_>) -> bool
+    ensures { result ≡ asks_names screen asked.now }
+{
+    asked.needs_metadata() || screen.is_colored(asked.color)
 }
 
 /// Returns whether the folder that is asked for is a directory or a link to one, if one is named. Tells it if not.
@@ -252,11 +261,11 @@ impl<
         ensures bad_words { ¬ (AskForText (map string_bytes words.now)) → ¬ (AskForSearch (map string_bytes words.now))
             → (result ≡ 2) ⊎ (result ≡ 1) }
         ensures untouched { result ≡ 2 → W.contents out.new ≡ W.contents out.old }
-        ensures done { result ≡ 0 → IsDone S.FileSystem X.Texts ⟦<Bare<T, Based<S>> as Iterator>⟧.next_gives
-            ⟦<Ruled<T, Based<S>, Based<X>> as Iterator>⟧.next_gives self.entry
+        ensures done { result ≡ 0 → IsDone S.FileSystem X.Texts ⟦<Bare<T, Disk<Based<S>>> as Iterator>⟧.next_gives
+            ⟦<Ruled<T, Disk<Based<S>>, Based<X>> as Iterator>⟧.next_gives self.entry
             (map string_bytes words.now) (W.contents out.old) (W.contents out.new) }
-        ensures failed { result ≡ 1 → IsFailed S.FileSystem X.Texts ⟦<Bare<T, Based<S>> as Iterator>⟧.next_gives
-            ⟦<Ruled<T, Based<S>, Based<X>> as Iterator>⟧.next_gives self.entry
+        ensures failed { result ≡ 1 → IsFailed S.FileSystem X.Texts ⟦<Bare<T, Disk<Based<S>>> as Iterator>⟧.next_gives
+            ⟦<Ruled<T, Disk<Based<S>>, Based<X>> as Iterator>⟧.next_gives self.entry
             (map string_bytes words.now) (W.contents out.old) (W.contents out.new) E.contents err.new }
         ensures refused { result ≡ 2 → IsTold E.contents (codes "seek") err.new }
     {
@@ -288,6 +297,11 @@ impl<
         if !has_folder(alloc, &disk, &asked, err) {
             return 1;
         }
+        let index = match index_asked(alloc, &texts, &asked) {
+            Ok(index) => index,
+            Err(unindexed) => return unindexed.tell(alloc, err),
+        };
+        let disk = Disk::new(disk, index, asks_names(screen, &asked));
         Seek {
             rt,
             clock,
@@ -315,11 +329,11 @@ impl<
         ensures bad_words { ¬ (AskForText (joined (map string_bytes words.now))) → ¬ (AskForSearch (joined (map string_bytes words.now)))
             → (result ≡ 2) ⊎ (result ≡ 1) }
         ensures untouched { result ≡ 2 → W.contents out.new ≡ W.contents out.old }
-        ensures done { result ≡ 0 → IsDone S.FileSystem X.Texts ⟦<Bare<T, Based<S>> as Iterator>⟧.next_gives
-            ⟦<Ruled<T, Based<S>, Based<X>> as Iterator>⟧.next_gives self.entry
+        ensures done { result ≡ 0 → IsDone S.FileSystem X.Texts ⟦<Bare<T, Disk<Based<S>>> as Iterator>⟧.next_gives
+            ⟦<Ruled<T, Disk<Based<S>>, Based<X>> as Iterator>⟧.next_gives self.entry
             (joined (map string_bytes words.now)) (W.contents out.old) (W.contents out.new) }
-        ensures failed { result ≡ 1 → IsFailed S.FileSystem X.Texts ⟦<Bare<T, Based<S>> as Iterator>⟧.next_gives
-            ⟦<Ruled<T, Based<S>, Based<X>> as Iterator>⟧.next_gives self.entry
+        ensures failed { result ≡ 1 → IsFailed S.FileSystem X.Texts ⟦<Bare<T, Disk<Based<S>>> as Iterator>⟧.next_gives
+            ⟦<Ruled<T, Disk<Based<S>>, Based<X>> as Iterator>⟧.next_gives self.entry
             (joined (map string_bytes words.now)) (W.contents out.old) (W.contents out.new) E.contents err.new }
         ensures refused { result ≡ 2 → IsTold E.contents (codes "seek") err.new }
     {

@@ -46,6 +46,9 @@ returns-in-Err-owner_of-clause-bad_words g c = bad_ends _ _ (returns-in-Err-owne
 pub returns-in-Err-owner_of-clause-done : goal.returns-in-Err-owner_of-clause-done
 returns-in-Err-owner_of-clause-done g c = λ zero. absurd (not_zero c.in-Err-owner_of.unowned (sym c.tell.ensures.status ∙ zero))
 
+-- the index is that of the texts as they are seen from the folder that is asked for
+-- (`index_as`, `stays` and `functions_as_based` are to be written: from `IsBased` and `DiskFacts`)
+
 pub returns-clause-ends : goal.returns-clause-ends
 returns-clause-ends g c =
     let read = c.in-Ok.ensures.asked in
@@ -59,9 +62,9 @@ returns-clause-done g c = λ zero.
     let read = c.in-Ok.ensures.asked in
     let over = c.in-Ok-Ok.ensures in
     let from = c.in-Ok-Ok.ensures' in
-    inr (words_searched _ _ c.in-Ok-owner_of.owner read.0 read.1 c.in-Ok-owner_of.ensures.owner (record { of = over.of; from = over.from }) (record { of = from.of; from = from.from })
+    inr (words_searched _ _ c.in-Ok-owner_of.owner c.in-Ok-index_asked.index c.asks_names.result read.0 read.1 c.in-Ok-owner_of.ensures.owner (record { of = over.of; from = over.from }) (record { of = from.of; from = from.from })
     (λ still. subst (λ fs. has_folder fs c.in-Ok.read.0 ≡ true) (ap₂ functions_based over.from (ap g.S.FileSystem.functions over.of)) (c.has_folder.ensures.folder (subst g.S.FileSystem.IsFixed (sym over.of) still) c.if-not-has_folder.false))
-    (subst g.S.FileSystem.IsFixed (sym over.of)) (subst g.X.Texts.IsFixed (sym from.of)) (ap₂ functions_based over.from (ap g.S.FileSystem.functions over.of)) (ap₂ texts_based from.from (ap g.X.Texts.functions from.of)) c.in-Ok.ensures.unwritten (c.search_for.ensures.done zero))
+    (index_as g c) c.asks_names.ensures c.new-disk.ensures (stays g c) (subst g.X.Texts.IsFixed (sym from.of)) (functions_as_based g c) (ap₂ texts_based from.from (ap g.X.Texts.functions from.of)) c.in-Ok.ensures.unwritten (c.search_for.ensures.done zero))
 
 pub returns-clause-failed : goal.returns-clause-failed
 returns-clause-failed g c = λ one.
@@ -69,8 +72,8 @@ returns-clause-failed g c = λ one.
     let over = c.in-Ok-Ok.ensures in
     let from = c.in-Ok-Ok.ensures' in
     elim (c.search_for.ensures.failed one) [
-      | inl searches ↦ inl (words_searched _ _ c.in-Ok-owner_of.owner read.0 read.1 c.in-Ok-owner_of.ensures.owner (record { of = over.of; from = over.from }) (record { of = from.of; from = from.from })
+      | inl searches ↦ inl (words_searched _ _ c.in-Ok-owner_of.owner c.in-Ok-index_asked.index c.asks_names.result read.0 read.1 c.in-Ok-owner_of.ensures.owner (record { of = over.of; from = over.from }) (record { of = from.of; from = from.from })
           (λ still. subst (λ fs. has_folder fs c.in-Ok.read.0 ≡ true) (ap₂ functions_based over.from (ap g.S.FileSystem.functions over.of)) (c.has_folder.ensures.folder (subst g.S.FileSystem.IsFixed (sym over.of) still) c.if-not-has_folder.false))
-          (subst g.S.FileSystem.IsFixed (sym over.of)) (subst g.X.Texts.IsFixed (sym from.of)) (ap₂ functions_based over.from (ap g.S.FileSystem.functions over.of)) (ap₂ texts_based from.from (ap g.X.Texts.functions from.of)) c.in-Ok.ensures.unwritten searches)
+          (index_as g c) c.asks_names.ensures c.new-disk.ensures (stays g c) (subst g.X.Texts.IsFixed (sym from.of)) (functions_as_based g c) (ap₂ texts_based from.from (ap g.X.Texts.functions from.of)) c.in-Ok.ensures.unwritten searches)
       | inr told ↦ inr told
     ]
