@@ -1,5 +1,6 @@
 -- The statuses of words and patterns that are rejected.
-use Rattle.std.proofs.Common.{◌≡◌, ◌<◌, ◌≤◌, ◌⊎◌, ℕ, zero, suc, List, Some, inl, inr, refl, sym, option_map, ◌∙◌, arith}
+use Rattle.std.proofs.Common.{◌≡◌, ◌<◌, ◌≤◌, ◌⊎◌, ℕ, zero, suc, true, List, inl, inr, refl, sym, ◌∙◌, arith}
+use Rattle.std.specs.Prelude.{is_some}
 use Rattle.program_parts.proofs.StatusFacts.{told_zero}
 use Rattle.seek_words.proofs.EndFacts.{asked_for_text, refusal_most}
 use Rattle.seek_words.specs.AsksFor.{AskFor, AskForText}
@@ -63,14 +64,9 @@ unowned_ends words asked ask told texts Memory refused status is = inr (inr is)
 pub searched_ends : (words : List (List ℕ)) (asked : Asked) → AskFor words asked → (sought : Sought) → IsFor asked sought → (status : ℕ) → status ≤ 1 → Ends words status
 searched_ends words asked ask sought is status most = inr (inl (inr (asked, ask, sought, is), most))
 
--- a search over an index ends with 2 as well, if the index can't be used
-pub indexed_ends : (words : List (List ℕ)) (asked : Asked) → AskFor words asked → (sought : Sought) → IsFor asked sought → (file : List ℕ) → option_map (λ it. it.now) asked.index ≡ Some file → (status : ℕ) → status ≤ 2 → Ends words status
-indexed_ends words asked ask sought is file named status most =
-    elim (at_most_two status most) [
-      | inl none ↦ inr (inl (inr (asked, ask, sought, is), omega (arith, none)))
-      | inr (inl one) ↦ inr (inr one)
-      | inr (inr two) ↦ inl (inr (inr (inr (asked, ask, file, named))), two)
-    ]
+-- an index that can't be used ends with 2
+pub indexed_ends : (words : List (List ℕ)) (asked : Asked) → AskFor words asked → is_some asked.index ≡ true → (status : ℕ) → status ≡ 2 → Ends words status
+indexed_ends words asked ask named status two = inl (inr (inr (inr (asked, ask, named))), two)
 
 -- no status is above 2
 pub ends_most : (words : List (List ℕ)) (status : ℕ) → Ends words status → status ≤ 2

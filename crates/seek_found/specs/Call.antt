@@ -1,5 +1,5 @@
 -- The end of a call of the program.
-use Rattle.std.specs.Prelude.{◌≡◌, ◌≤◌, ◌⊎◌, ℕ, Bool, List, option_map, None, Some, if◌then◌else◌}
+use Rattle.std.specs.Prelude.{◌≡◌, ◌≤◌, ◌⊎◌, ℕ, Bool, true, List, is_some, option_map, None, Some, if◌then◌else◌}
 use Rattle.seek_words.specs.AsksFor.{AskFor, AskForText}
 use Rattle.seek_words.specs.Refusal.{AreBad}
 use Rattle.seek_words.specs.declared.asked.Asked.{Asked}
@@ -25,7 +25,7 @@ NameNoOwner words = (asked : Asked) × AskFor words asked × (text : List ℕ) �
 
 -- The words name an index.
 abbrev pub NameIndex : List (List ℕ) → Type 0
-NameIndex words = (asked : Asked) × AskFor words asked × (file : List ℕ) × (option_map (λ it. it.now) asked.index ≡ Some file)
+NameIndex words = (asked : Asked) × AskFor words asked × (is_some asked.index ≡ true)
 
 -- A call ends with 2 for bad words, a bad pattern, what isn't an owner or an index that can't be used, and with 0 or 1 if a text or a search is asked for. If memory runs
 -- out, it ends with 1.

@@ -1,13 +1,21 @@
 -- A disk over the records of an index.
-use Rattle.std.proofs.Common.{◌≡◌, Bool, true, false, ◌&&◌, ◌||◌, Option, None, Some, ap, refl, subst, sym}
+use Rattle.std.proofs.Common.{◌≡◌, ◌∙◌, ℕ, Bool, true, false, ◌&&◌, ◌||◌, List, Option, None, Some, ap, inr, refl, subst, sym}
+use Rattle.std.specs.Prelude.{is_some}
 use Rattle.std.proofs.lemmas.Bool.{true≢false}
 use Rattle.jwalk.specs.jwalk_model.FileSystem.{Functions}
 use Rattle.jwalk_indexed_fs.specs.declared.index.Index.{Index}
+use Rattle.jwalk_ignore.specs.Rules.Texts.{Texts}
+use Rattle.seek_words.specs.AsksFor.{AskFor}
 use Rattle.seek_words.specs.Metadata.{needs_metadata}
 use Rattle.seek_words.specs.Screen.{is_colored}
 use Rattle.seek_words.specs.declared.asked.Asked.{Asked}
 use Rattle.seek_words.specs.declared.screen.Screen.{Screen}
 use Rattle.seek_words.specs.declared.times.Times.{Times}
+use Rattle.seek_found.specs.Call.{Ends}
+use Rattle.seek_found.proofs.EndFacts.{indexed_ends}
+use Rattle.seek_search.specs.Index.{status_of, IsIndexOf}
+use Rattle.seek_search.specs.declared.index.Unindexed.{Unindexed}
+use Rattle.seek_search.specs.declared.index.Unindexed.TheVariants.{File, Memory}
 use Rattle.seek_search.specs.Disk.{disk_over, fixed_in, functions_in, functions_over, MayVouch}
 use Rattle.seek_search.specs.Search.{asks_names}
 
@@ -21,6 +29,22 @@ module _ {Z : Type 0} (is_fixed : Z → Type 0) (functions : Z → Functions) (d
   pub functions_as : (index : Option Index) → functions_in functions (disk_over disk index asks) ≡ functions_over index asks (functions disk)
   functions_as None = refl
   functions_as (Some index) = refl
+
+-- an index, by another name of what texts answer
+pub index_as : {told told' : Type 0} {texts texts' : Texts} → (told' → told) → texts ≡ texts' → (roots : List (List ℕ)) (file : Option (List ℕ)) (index : Option Index) → IsIndexOf told texts roots file index → IsIndexOf told' texts' roots file index
+index_as tells same roots None index is = is
+index_as tells same roots (Some file) index is = (is.0, is.1, is.2, is.3, record {
+  bytes = is.4.bytes;
+  absolute = is.4.absolute;
+  read = λ told'. ap (λ (t : Texts). t.bytes_of file) (sym same) ∙ is.4.read (tells told');
+  rooted = λ told'. ap (λ (t : Texts). t.absolute_of is.0) (sym same) ∙ is.4.rooted (tells told');
+  records = is.4.records;
+})
+
+-- a call without an index that can be used ends with its status
+pub unindexed_ends : (words : List (List ℕ)) (asked : Asked) → AskFor words asked → (why : Unindexed) → (status_of why ≡ 2 → is_some asked.index ≡ true) → (status : ℕ) → status ≡ status_of why → Ends words status
+unindexed_ends words asked ask (File text) named status is = indexed_ends words asked ask (named refl) status is
+unindexed_ends words asked ask Memory named status is = inr (inr is)
 
 or_true : (b : Bool) → (b || true) ≡ true
 or_true true = refl
