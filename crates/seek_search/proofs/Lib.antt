@@ -3,4 +3,5 @@ pub mod OptionFacts
 pub mod SearchFacts
 pub mod BeginFacts
 pub mod DiskFacts
+pub mod SameFacts
 pub mod RunFacts

@@ -6,6 +6,7 @@ mod disk;
 mod excluded;
 mod index;
 mod kept_links;
+pub mod laws;
 mod printing;
 mod rules_read;
 pub mod run;
