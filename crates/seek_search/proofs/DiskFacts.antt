@@ -33,13 +33,19 @@ module _ {Z : Type 0} (is_fixed : Z → Type 0) (functions : Z → Functions) (d
 -- an index, by another name of what texts answer
 pub index_as : {told told' : Type 0} {texts texts' : Texts} → (told' → told) → texts ≡ texts' → (roots : List (List ℕ)) (file : Option (List ℕ)) (index : Option Index) → IsIndexOf told texts roots file index → IsIndexOf told' texts' roots file index
 index_as tells same roots None index is = is
-index_as tells same roots (Some file) index is = (is.0, is.1, is.2, is.3, record {
-  bytes = is.4.bytes;
-  absolute = is.4.absolute;
-  read = λ told'. ap (λ (t : Texts). t.bytes_of file) (sym same) ∙ is.4.read (tells told');
-  rooted = λ told'. ap (λ (t : Texts). t.absolute_of is.0) (sym same) ∙ is.4.rooted (tells told');
-  records = is.4.records;
-})
+index_as tells same roots (Some file) index is = (
+  is.0,
+  is.1,
+  is.2,
+  is.3,
+  record {
+    bytes = is.4.bytes;
+    absolute = is.4.absolute;
+    read = λ told'. ap (λ (t : Texts). t.bytes_of file) (sym same) ∙ is.4.read (tells told');
+    rooted = λ told'. ap (λ (t : Texts). t.absolute_of is.0) (sym same) ∙ is.4.rooted (tells told');
+    records = is.4.records;
+  },
+)
 
 -- a call without an index that can be used ends with its status
 pub unindexed_ends : (words : List (List ℕ)) (asked : Asked) → AskFor words asked → (why : Unindexed) → (status_of why ≡ 2 → is_some asked.index ≡ true) → (status : ℕ) → status ≡ status_of why → Ends words status

@@ -81,12 +81,7 @@ fn only_root<'w>(asked: &Asked<'w>) -> Option<&'w str>
 }
 
 /// Returns the records that a file has for a walk below a root.
-fn index_at<X: Texts>(
-    alloc: Global,
-    texts: &X,
-    file: &str,
-    root: &str,
-) -> Result<Index, Unindexed>
+fn index_at<X: Texts>(alloc: Global, texts: &X, file: &str, root: &str) -> Result<Index, Unindexed>
     ensures index { IfOk result (IsIndexFor (X.IsFixed texts.now) (X.functions texts.now) file.now root.now) }
     ensures refused { X.IsFixed texts.now → IfErr result (λ why. status_of why ≡ 2 → IsSnapshotAt (X.functions texts.now) file.now root.now → ⊥) }
 {
