@@ -8,7 +8,7 @@ use jwalk_indexed_fs::recording_fs::now;
 use jwalk_model::metadata::Moment;
 use program_parts::errors::Errors;
 use program_parts::masked_lines::MaskedLines;
-use since_run::run::run;
+use since_run::run::Since;
 use since_run::screen::Screen;
 use since_run::store::RealStore;
 use std::io::IsTerminal;
@@ -61,19 +61,16 @@ fn main(rt: HostRuntime) -> ExitCode {
         masks: rt.stderr().is_terminal(),
     });
     let status = match call_of(&rt) {
-        Ok((words, screen, (disk, texts, mut store))) => run(
-            &rt,
-            rt.alloc(),
-            threads_for(&rt, 0),
+        Ok((words, screen, (disk, texts, mut store))) => Since {
+            rt: &rt,
+            alloc: rt.alloc(),
+            cores: threads_for(&rt, 0),
             disk,
             texts,
-            &mut store,
             start,
-            words.as_slice(),
             screen,
-            &mut io::writer(&rt),
-            &mut err,
-        ),
+        }
+        .run(&mut store, words.as_slice(), &mut io::writer(&rt), &mut err),
         Err(error) => {
             err.tell("since", format_args!("words that can't be read: {error}"));
             2

@@ -1,31 +1,26 @@
 -- The steps of a call.
 use Rattle.std.proofs.Common.{◌≡◌, ◌∙◌, ◌≤◌, ℕ, Bool, true, false, List, Option, None, Some, Ok, Err, arith, inl, inr, string_bytes, subst, sym}
 use Rattle.std.specs.Prelude.{◌==◌, ◌⊎◌, length, IfOk, OnErr, Result, if◌then◌else◌}
+use Rattle.std.specs.Arc.{arc_value}
 use Rattle.std.proofs.lemmas.Result.{IfOk-weaker}
 use Rattle.std.specs.declared.alloc.Global.{Global}
 use Rattle.std.specs.declared.string.String.{String}
-use Rattle.std.specs.declared.sync.Arc.{Arc}
 use Rattle.std.specs.declared.vec.Vec.{Vec}
-use Rattle.jwalk.specs.jwalk_model.declared.metadata.Moment.{Moment}
-use Rattle.jwalk.specs.jwalk_fs.declared.file_system.FileSystem as FileSystem
-use Rattle.jwalk.specs.declared.crew.Crew.{Crew}
-use Rattle.jwalk_ignore.specs.declared.callback.excluding.Excluding.{Excluding}
-use Rattle.jwalk_ignore.specs.declared.callback.states.RulesState.{RulesState}
-use Rattle.jwalk_ignore_rules.specs.declared.rules.texts.Texts as Texts
-use Rattle.jwalk_indexed_fs.specs.declared.indexed_fs.IndexedFs.{IndexedFs}
 use Rattle.jwalk_snapshot.specs.Text.{Content}
-use Rattle.program_walks.specs.Crew.{CrewCallsOf, IsCrewOf, threads_in}
+use Rattle.program_walks.specs.Crew.{IsCrewOf, threads_in}
 use Rattle.since_words.specs.Asks.{AskFor}
 use Rattle.since_words.specs.declared.asked.Asked.{Asked}
 use Rattle.since_parts.specs.Differences.{Difference}
 use Rattle.since_parts.specs.declared.found.Found.{Found}
 use Rattle.since_parts.specs.declared.tree.Tree.{Tree}
+use Rattle.since_run.specs.Call.{IsCallOf}
 use Rattle.since_run.specs.Compared.{ComparesAll, ComparesBytes, ComparesQuickly}
-use Rattle.since_run.specs.Done.{Begins, ComparesFile, DoesAsked, EndsWith, Lists, ListsFile, MakesFile, SavesAsked, Tells}
+use Rattle.since_run.specs.Done.{Begins, Does, DoesAsked, EndsWith, Lists, SavesAsked, Tells}
 use Rattle.since_run.specs.Run.{status_for, HasTextAsked, IsLoaded, ReplacesBy}
-use Rattle.since_run.specs.Yielded.{Honours}
+use Rattle.since_run.specs.Yielded.{Walks}
+use Rattle.since_run.specs.declared.call.Call.{Call}
 use Rattle.since_run.specs.declared.compare.Told.{Told}
-use Rattle.since_run.specs.declared.screen.Screen.{Screen}
+use Rattle.since_run.specs.declared.run.Since.{Since}
 use Rattle.since_run.specs.declared.store.Store as Store
 
 -- a text that is saved, if one is to be
@@ -56,99 +51,103 @@ module _ {K : Type 0} (replaces : K → List ℕ → List ℕ → K → Type 0) 
   ends_unsaved (inl (clean, is, saves)) two = absurd (none_above told.status low (sym is ∙ two))
   ends_unsaved (inr (unclean, is, unsaved)) two = unsaved
 
-module _ {T Z X K C E G H F D M P Q : Type 0} (files : FileSystem.Ghosts Z) (texts : Texts.Ghosts X) (store : Store.Ghosts K) (plain : CrewCallsOf T G (Arc Z Global) Excluding Global H F) (honouring : CrewCallsOf T C (Arc Z Global) (Honours X) Global RulesState E) (quick_calls : CrewCallsOf T D (Arc (IndexedFs Z) Global) M Global P Q)
-    (disk : Z) (reads : X) (cores : ℕ) (start : Moment) (asked : Asked) (screen : Screen) (before after : Option (List ℕ)) (old new : K) where
-  told_either : (crew : Option (Arc (Crew T) Global)) (snapshot : Content) (told : Told)
-      → ((asked.quick ≡ false) × ComparesAll files texts plain honouring disk reads crew start asked screen snapshot before after told)
-      ⊎ ((asked.quick ≡ true) × ComparesQuickly files texts quick_calls disk reads crew start asked screen snapshot before after told) → told.status ≤ 1
-  told_either crew snapshot told (inl (all, it)) = subst (λ (n : ℕ). n ≤ 1) (sym it.writes.tells) (status_low it.writes.changes)
-  told_either crew snapshot told (inr (quick, it)) = subst (λ (n : ℕ). n ≤ 1) (sym it.compares.writes.tells) (status_low it.compares.writes.changes)
+-- a call that is made of what the program runs on
+pub is_call : {T Z X : Type 0} {since : Since T Z X} {asked : Asked} {call : Call T X} {threads : ℕ} → arc_value call.texts ≡ since.texts → threads ≡ threads_in since.cores asked.threads → IsCrewOf threads call.crew
+    → call.start ≡ since.start → call.asked.now ≡ asked → call.screen ≡ since.screen → IsCallOf since asked call
+is_call {call = call} reads many is_crew began asks shows = record {
+  reads = reads;
+  crew = subst (λ (n : ℕ). IsCrewOf n call.crew) many is_crew;
+  began = began;
+  asks = asks;
+  shows = shows;
+}
 
-  told_low : (crew : Option (Arc (Crew T) Global)) (bytes : List ℕ) (told : Told) → ComparesBytes files texts plain honouring quick_calls disk reads crew start asked screen bytes before after told → told.status ≤ 1
-  told_low crew bytes told it = told_either crew it.snapshot told it.either
+module _ {T Z X K : Type 0} (walks : Walks T Z X) (store : Store.Ghosts K) (disk : Z) (call : Call T X) (before after : Option (List ℕ)) (old new : K) where
+  told_either : (snapshot : Content) (told : Told)
+      → ((call.asked.now.quick ≡ false) × ComparesAll walks disk call snapshot before after told) ⊎ ((call.asked.now.quick ≡ true) × ComparesQuickly walks disk call snapshot before after told) → told.status ≤ 1
+  told_either snapshot told (inl (all, it)) = subst (λ (n : ℕ). n ≤ 1) (sym it.writes.tells) (status_low it.writes.changes)
+  told_either snapshot told (inr (quick, it)) = subst (λ (n : ℕ). n ≤ 1) (sym it.compares.writes.tells) (status_low it.compares.writes.changes)
+
+  told_low : (bytes : List ℕ) (told : Told) → ComparesBytes walks disk call bytes before after told → told.status ≤ 1
+  told_low bytes told it = told_either it.snapshot told it.either
 
   zero_low : (n : ℕ) → n ≡ 0 → n ≤ 1
   zero_low n is = omega (arith, is)
 
-  abbrev Either : Option (Arc (Crew T) Global) → ℕ → Type 0
-  Either crew status = MakesFile files texts store plain honouring quick_calls disk reads crew start asked before after old new status
-      ⊎ (ListsFile files texts store plain honouring quick_calls reads asked screen before after old new status ⊎ ComparesFile files texts store plain honouring quick_calls disk reads crew start asked screen before after old new status)
+  -- what is done ends with 0, 1 or 2
+  does_low : (status : ℕ) → Does walks store disk call before after old new status → status ≤ 2
+  does_low status (inl it) = ends_low store.Replaces call.asked.now it.begins.told (zero_low it.begins.told.status it.begins.none) old new status it.begins.ends
+  does_low status (inr (inl it)) = omega (arith, it.lists.none)
+  does_low status (inr (inr it)) = ends_low store.Replaces call.asked.now it.told (told_low it.bytes it.told it.compares) old new status it.ends
 
-  low_either : (crew : Option (Arc (Crew T) Global)) (status : ℕ) → Either crew status → status ≤ 2
-  low_either crew status (inl it) = ends_low store.Replaces asked it.begins.told (zero_low it.begins.told.status it.begins.none) old new status it.begins.ends
-  low_either crew status (inr (inl it)) = omega (arith, it.lists.none)
-  low_either crew status (inr (inr it)) = ends_low store.Replaces asked it.told (told_low crew it.bytes it.told it.compares) old new status it.ends
+  -- and with 2 it saved nothing
+  does_unsaved : (status : ℕ) → Does walks store disk call before after old new status → status ≡ 2 → new ≡ old
+  does_unsaved status (inl it) two = ends_unsaved store.Replaces call.asked.now it.begins.told (zero_low it.begins.told.status it.begins.none) old new status it.begins.ends two
+  does_unsaved status (inr (inl it)) two = it.unsaved
+  does_unsaved status (inr (inr it)) two = ends_unsaved store.Replaces call.asked.now it.told (told_low it.bytes it.told it.compares) old new status it.ends two
 
-  unsaved_either : (crew : Option (Arc (Crew T) Global)) (status : ℕ) → Either crew status → status ≡ 2 → new ≡ old
-  unsaved_either crew status (inl it) two = ends_unsaved store.Replaces asked it.begins.told (zero_low it.begins.told.status it.begins.none) old new status it.begins.ends two
-  unsaved_either crew status (inr (inl it)) two = it.unsaved
-  unsaved_either crew status (inr (inr it)) two = ends_unsaved store.Replaces asked it.told (told_low crew it.bytes it.told it.compares) old new status it.ends two
-
+module _ {T Z X K : Type 0} (walks : Walks T Z X) (store : Store.Ghosts K) (since : Since T Z X) (asked : Asked) (before after : Option (List ℕ)) (old new : K) where
   -- what a call did that ended with this status
-  abbrev pub Does : ℕ → Type 0
-  Does = Tells files texts store plain honouring quick_calls disk reads cores start asked screen before after old new
+  abbrev pub Did : ℕ → Type 0
+  Did = Tells walks store since asked before after old new
 
   -- the status of a call is 0, 1 or 2
-  pub run_low : {Y : Type 0} (ended : Result ℕ Y) (status : ℕ) → IfOk ended Does → IfOk ended (λ n. status ≡ n) → OnErr ended (status ≡ 2) → status ≤ 2
-  run_low (Ok n) status does same failed = subst (λ (k : ℕ). k ≤ 2) (sym same) (low_either does.crew n does.either)
-  run_low (Err e) status does same failed = omega (arith, failed)
+  pub run_low : {Y : Type 0} (ended : Result ℕ Y) (status : ℕ) → IfOk ended Did → IfOk ended (λ n. status ≡ n) → OnErr ended (status ≡ 2) → status ≤ 2
+  run_low (Ok n) status did same failed = subst (λ (k : ℕ). k ≤ 2) (sym same) (does_low walks store since.disk did.call before after old new n did.does)
+  run_low (Err e) status did same failed = omega (arith, failed)
 
   -- it did what is asked for, or ended early
-  pub run_ends : {Y : Type 0} (ended : Result ℕ Y) (words : List (List ℕ)) (status : ℕ) (IsTold : Type 0) → AskFor words asked → IfOk ended Does → IfOk ended (λ n. status ≡ n) → OnErr ended (status ≡ 2) → OnErr ended IsTold
-      → DoesAsked files texts store plain honouring quick_calls disk reads cores start words screen before after old new status ⊎ ((status ≡ 2) × IsTold)
-  run_ends (Ok n) words status IsTold asks does same failed told = inl (asked, asks, subst Does (sym same) does)
-  run_ends (Err e) words status IsTold asks does same failed told = inr (failed, told)
+  pub run_ends : {Y : Type 0} (ended : Result ℕ Y) (words : List (List ℕ)) (status : ℕ) (IsTold : Type 0) → IfOk ended Did → AskFor words asked → IfOk ended (λ n. status ≡ n) → OnErr ended (status ≡ 2) → OnErr ended IsTold
+      → DoesAsked walks store since words before after old new status ⊎ ((status ≡ 2) × IsTold)
+  run_ends (Ok n) words status IsTold did asks same failed told = inl (asked, asks, subst Did (sym same) did)
+  run_ends (Err e) words status IsTold did asks same failed told = inr (failed, told)
 
   -- with 2 it saved nothing
-  pub run_unsaved : {Y : Type 0} (ended : Result ℕ Y) (status : ℕ) → IfOk ended Does → IfOk ended (λ n. status ≡ n) → OnErr ended (new ≡ old) → status ≡ 2 → new ≡ old
-  run_unsaved (Ok n) status does same kept two = unsaved_either does.crew n does.either (sym same ∙ two)
-  run_unsaved (Err e) status does same kept two = kept
+  pub run_unsaved : {Y : Type 0} (ended : Result ℕ Y) (status : ℕ) → IfOk ended Did → IfOk ended (λ n. status ≡ n) → OnErr ended (new ≡ old) → status ≡ 2 → new ≡ old
+  run_unsaved (Ok n) status did same kept two = does_unsaved walks store since.disk did.call before after old new n did.does (sym same ∙ two)
+  run_unsaved (Err e) status did same kept two = kept
 
   -- a first snapshot that is saved where there is no file
-  pub tells_made : {Y : Type 0} (ended : Result ℕ Y) (threads : ℕ) (crew : Option (Arc (Crew T) Global)) (found : Option (Vec ℕ Global)) → threads ≡ threads_in cores asked.threads → IsCrewOf threads crew → IsLoaded texts reads asked found → found ≡ None → after ≡ before
-      → IfOk ended (Begins files texts store plain honouring disk reads crew start asked old new) → IfOk ended Does
-  tells_made ended threads crew found many is_crew loaded none silent =
-      let missing = subst (IsLoaded texts reads asked) none loaded in
+  pub tells_made : {Y : Type 0} (ended : Result ℕ Y) (call : Call T X) (found : Option (Vec ℕ Global)) → IfOk ended (Begins walks store since.disk call old new)
+      → IsCallOf since asked call → IsLoaded walks.texts call found → found ≡ None → after ≡ before → IfOk ended Did
+  tells_made ended call found begins is_one loaded none silent =
+      let missing = subst (IsLoaded walks.texts call) none loaded in
       IfOk-weaker ended _ _ (λ status begins. record {
-        crew = crew;
-        is_crew = subst (λ (n : ℕ). IsCrewOf n crew) many is_crew;
-        either = inl (record { missing = missing.1; made = missing.0; begins = begins; silent = silent });
-      })
+        call = call;
+        is_one = is_one;
+        does = inl (record { missing = missing.1; made = missing.0; begins = begins; silent = silent });
+      }) begins
 
   -- a snapshot in a file that is listed
-  pub tells_listed : {Y : Type 0} (ended : Result ℕ Y) (threads : ℕ) (crew : Option (Arc (Crew T) Global)) (found : Option (Vec ℕ Global)) (bytes : Vec ℕ Global) → threads ≡ threads_in cores asked.threads → IsCrewOf threads crew → IsLoaded texts reads asked found → found ≡ Some bytes
-      → asked.lists ≡ true → new ≡ old → IfOk ended (Lists asked screen bytes.items before after) → IfOk ended Does
-  tells_listed ended threads crew found bytes many is_crew loaded some listed unsaved =
+  pub tells_listed : {Y : Type 0} (ended : Result ℕ Y) (call : Call T X) (found : Option (Vec ℕ Global)) (bytes : Vec ℕ Global) → IfOk ended (Lists call bytes.items before after)
+      → IsCallOf since asked call → IsLoaded walks.texts call found → found ≡ Some bytes → call.asked.now.lists ≡ true → new ≡ old → IfOk ended Did
+  tells_listed ended call found bytes lists is_one loaded some listed unsaved =
       IfOk-weaker ended _ _ (λ status lists. record {
-        crew = crew;
-        is_crew = subst (λ (n : ℕ). IsCrewOf n crew) many is_crew;
-        either = inr (inl (record {
+        call = call;
+        is_one = is_one;
+        does = inr (inl (record {
           listed = listed;
           bytes = bytes.items;
-          read = subst (IsLoaded texts reads asked) some loaded;
+          read = subst (IsLoaded walks.texts call) some loaded;
           lists = lists;
           unsaved = unsaved;
         }));
-      })
+      }) lists
 
   -- a snapshot in a file that is compared
-  pub tells_compared : {Y : Type 0} (ended : Result ℕ Y) (threads : ℕ) (crew : Option (Arc (Crew T) Global)) (found : Option (Vec ℕ Global)) (bytes : Vec ℕ Global) (told : Told) → threads ≡ threads_in cores asked.threads → IsCrewOf threads crew → IsLoaded texts reads asked found → found ≡ Some bytes
-      → asked.lists ≡ false → ComparesBytes files texts plain honouring quick_calls disk reads crew start asked screen bytes.items before after told
-      → IfOk ended (EndsWith store.Replaces asked told old new) → IfOk ended Does
-  tells_compared ended threads crew found bytes told many is_crew loaded some compared compares =
+  pub tells_compared : {Y : Type 0} (ended : Result ℕ Y) (call : Call T X) (found : Option (Vec ℕ Global)) (bytes : Vec ℕ Global) (told : Told) → ComparesBytes walks since.disk call bytes.items before after told
+      → IsCallOf since asked call → IsLoaded walks.texts call found → found ≡ Some bytes → call.asked.now.lists ≡ false
+      → IfOk ended (EndsWith store.Replaces call.asked.now told old new) → IfOk ended Did
+  tells_compared ended call found bytes told compares is_one loaded some compared =
       IfOk-weaker ended _ _ (λ status ends. record {
-        crew = crew;
-        is_crew = subst (λ (n : ℕ). IsCrewOf n crew) many is_crew;
-        either = inr (inr (record {
+        call = call;
+        is_one = is_one;
+        does = inr (inr (record {
           compared = compared;
           bytes = bytes.items;
-          read = subst (IsLoaded texts reads asked) some loaded;
+          read = subst (IsLoaded walks.texts call) some loaded;
           told = told;
           compares = compares;
           ends = ends;
         }));
       })
-
-  -- what it did with texts that are shared
-  pub tells_over : {Y : Type 0} (others : X) (same : reads ≡ others) (ended : Result ℕ Y) → IfOk ended Does → IfOk ended (Tells files texts store plain honouring quick_calls disk others cores start asked screen before after old new)
-  tells_over others same ended = subst (λ (r : X). IfOk ended (Tells files texts store plain honouring quick_calls disk r cores start asked screen before after old new)) same

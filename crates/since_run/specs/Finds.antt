@@ -29,14 +29,16 @@ use Rattle.jwalk_ignore.specs.Callback.States.{rules_held}
 use Rattle.jwalk_ignore.specs.Rules.Chain.{no_rules}
 use Rattle.jwalk_ignore.specs.declared.callback.excluding.Excluding.{Excluding}
 use Rattle.jwalk_ignore.specs.declared.callback.states.RulesState.{RulesState}
-use Rattle.jwalk_ignore_rules.specs.declared.rules.texts.Texts as Texts
+use Rattle.jwalk_indexed_fs.specs.Index.{Vouches}
+use Rattle.jwalk_indexed_fs.specs.declared.index.Index.{Index}
 use Rattle.program_walks.specs.Crew.{CrewCallsOf}
 use Rattle.since_parts.specs.Found.{HasAll}
 use Rattle.since_parts.specs.declared.choice.Choice.{Choice}
 use Rattle.since_parts.specs.declared.found.Found.{Found}
 use Rattle.since_parts.specs.declared.tree.Tree.{Tree}
-use Rattle.since_run.specs.Walks.{all_below, chosen_below, kept_below}
-use Rattle.since_run.specs.Yielded.{Honours, IsHonouring, IsPlain, IsTyped, Walked}
+use Rattle.since_run.specs.Walks.{all_below, chosen_below, kept_below, typed_below}
+use Rattle.since_run.specs.Yielded.{Honours, IsHonouring, IsPlain, IsTyped, OnlyRules, Walked, Walks}
+use Rattle.since_run.specs.declared.call.Call.{Call}
 
 -- A walk was begun and yielded answers until its end, and this is what is found of them. If all are clean, and what the walk goes over always returns the same, they are the whole walk.
 pub record TakesWalk {T C S P R E : Type 0} (files : FileSystem.Ghosts S) (process : ProcessReadDir.Ghosts P C Global R E) (clone : Clone.Ghosts R) (defaults : Default.Ghosts E) (calls : CrewCallsOf T C S P Global R E) (tree : Tree) (walk : WalkDirGeneric C S P Global (Crew T) R E) (found : Found) : Type 0 where
@@ -60,33 +62,42 @@ module _ {T Z C R E : Type 0} (files : FileSystem.Ghosts Z) (plain : CrewCallsOf
   abbrev pub FindsPlain : Tree → Found → Type 0
   FindsPlain tree = Finds (files.IsFixed disk) (Walked plain (IsPlain disk crew tree.choice (string_bytes tree.root))) (all_below (files.functions disk) tree.choice (string_bytes tree.root)) tree
 
-module _ {T Z C N R E : Type 0} (fixed : Type 0) (calls : CrewCallsOf T C (Arc Z Global) N Global R E) (disk : Z) (crew : Option (Arc (Crew T) Global)) where
-  -- This is what the walk finds by names and types alone. What it goes over always returns the same, if this is so, and then these answers are all.
-  abbrev pub FindsTyped : List (Item Worth Worth) → Tree → Found → Type 0
-  FindsTyped below tree = Finds fixed (Walked calls (IsTyped disk crew tree.choice (string_bytes tree.root))) below tree
+module _ {T Z C N R E : Type 0} (files : FileSystem.Ghosts Z) (typed : CrewCallsOf T C (Arc Z Global) N Global R E) (disk : Z) (crew : Option (Arc (Crew T) Global)) where
+  -- This is what the walk finds by names and types alone.
+  abbrev pub FindsTyped : Tree → Found → Type 0
+  FindsTyped tree = Finds (files.IsFixed disk) (Walked typed (IsTyped disk crew tree.choice (string_bytes tree.root))) (typed_below (files.functions disk) tree.choice (string_bytes tree.root)) tree
 
-module _ {T Z X C E : Type 0} (files : FileSystem.Ghosts Z) (rules : Texts.Ghosts X) (honouring : CrewCallsOf T C (Arc Z Global) (Honours X) Global RulesState E) where
+module _ {T Z X : Type 0} (walks : Walks T Z X) where
   -- This is what a walk finds with these rules.
-  abbrev pub FindsRuled : {N : Type 0} → WalkDirGeneric C (Arc Z Global) N Global (Crew T) RulesState E → Honours X → Tree → Found → Type 0
+  abbrev pub FindsRuled : {N : Type 0} → WalkDirGeneric OnlyRules (Arc Z Global) N Global (Crew T) RulesState (Unit {0}) → Honours X → Tree → Found → Type 0
   FindsRuled walk rule tree =
-      Finds (files.IsFixed (arc_value (file_system_of walk)) × rules.IsFixed (arc_value (texts_of rule)) × (rules_held (state_of walk) ≡ no_rules))
-      (Walked honouring (Sets (record (with_callback rule (described walk)) { options = with_skip_hidden false (options_of walk) })))
-      (ignoring_walk (files.functions (arc_value (file_system_of walk))) (rules.functions (arc_value (texts_of rule))) (settings_of rule) (excluded_of (next_of rule)) (options_of walk) (root_of walk))
+      Finds (walks.files.IsFixed (arc_value (file_system_of walk)) × walks.texts.IsFixed (arc_value (texts_of rule)) × (rules_held (state_of walk) ≡ no_rules))
+      (Walked walks.honouring (Sets (record (with_callback rule (described walk)) { options = with_skip_hidden false (options_of walk) })))
+      (ignoring_walk (walks.files.functions (arc_value (file_system_of walk))) (walks.texts.functions (arc_value (texts_of rule))) (settings_of rule) (excluded_of (next_of rule)) (options_of walk) (root_of walk))
       tree
 
+module _ {T Z X : Type 0} (walks : Walks T Z X) (disk : Z) (call : Call T X) where
   -- This is what the walk finds that is chosen in a tree, with ignore files.
-  abbrev pub FindsKept : Z → X → Option (Arc (Crew T) Global) → Tree → Found → Type 0
-  FindsKept disk texts crew tree =
-      Finds (files.IsFixed disk × rules.IsFixed texts) (Walked honouring (IsHonouring disk texts crew tree.choice (string_bytes tree.root)))
-      (kept_below (files.functions disk) (rules.functions texts) tree.choice (string_bytes tree.root)) tree
+  abbrev pub FindsKept : Tree → Found → Type 0
+  FindsKept tree =
+      Finds (walks.files.IsFixed disk × walks.texts.IsFixed (arc_value call.texts))
+      (Walked walks.honouring (IsHonouring disk (arc_value call.texts) call.crew tree.choice (string_bytes tree.root)))
+      (kept_below (walks.files.functions disk) (walks.texts.functions (arc_value call.texts)) tree.choice (string_bytes tree.root)) tree
 
-module _ {T Z X C E G H F : Type 0} (files : FileSystem.Ghosts Z) (rules : Texts.Ghosts X) (plain : CrewCallsOf T G (Arc Z Global) Excluding Global H F) (honouring : CrewCallsOf T C (Arc Z Global) (Honours X) Global RulesState E) (disk : Z) (texts : X) (crew : Option (Arc (Crew T) Global)) where
   -- The answers are those of the walk that is chosen below a root.
   abbrev pub YieldedBy : Choice → List ℕ → List (Item Worth Worth) → Type 0
-  YieldedBy choice root answers = MatchBool choice.ignore (Walked honouring (IsHonouring disk texts crew choice root) answers) (Walked plain (IsPlain disk crew choice root) answers)
+  YieldedBy choice root answers =
+      MatchBool choice.ignore (Walked walks.honouring (IsHonouring disk (arc_value call.texts) call.crew choice root) answers) (Walked walks.plain (IsPlain disk call.crew choice root) answers)
 
   -- This is what the walk finds that is chosen in a tree. The disk always has to return the same for it to be all, and the texts too if ignore files count.
   abbrev pub FindsAll : Tree → Found → Type 0
   FindsAll tree =
-      Finds (files.IsFixed disk × (tree.choice.ignore ≡ true → rules.IsFixed texts)) (YieldedBy tree.choice (string_bytes tree.root))
-      (chosen_below (files.functions disk) (rules.functions texts) tree.choice (string_bytes tree.root)) tree
+      Finds (walks.files.IsFixed disk × (tree.choice.ignore ≡ true → walks.texts.IsFixed (arc_value call.texts))) (YieldedBy tree.choice (string_bytes tree.root))
+      (chosen_below (walks.files.functions disk) (walks.texts.functions (arc_value call.texts)) tree.choice (string_bytes tree.root)) tree
+
+  -- This is what a walk finds that takes the names of a directory from these records while its stamp is the same. If the disk always returns the same, and the directories hold what the records say while their stamps are the same, that is what the walk finds on the disk itself.
+  abbrev pub FindsQuickly : Index → Tree → Found → Type 0
+  FindsQuickly index tree =
+      Finds (walks.files.IsFixed disk × Vouches (walks.files.functions disk) index)
+      (Walked walks.quick (IsTyped (record { fs = disk; index = index }) call.crew tree.choice (string_bytes tree.root)))
+      (typed_below (walks.files.functions disk) tree.choice (string_bytes tree.root)) tree

@@ -1,8 +1,10 @@
 -- The steps of a call.
-use Rattle.std.specs.Prelude.{◌≡◌, ℕ, Bool, true, false, not, ◌==◌, ◌||◌, List, [], length, is_some, Option, None, Some, option_map, unwrap_or, Ok, Err, string_bytes, if◌then◌else◌}
+use Rattle.std.specs.Prelude.{◌≡◌, ℕ, Bool, true, false, not, ◌==◌, ◌||◌, List, [], length, is_some, Option, None, Some, option_map, unwrap_or, Result, Ok, Err, string_bytes, if◌then◌else◌}
+use Rattle.std.specs.Arc.{arc_value}
 use Rattle.std.specs.IoError.{error_kind}
 use Rattle.std.specs.declared.alloc.Global.{Global}
 use Rattle.std.specs.declared.io.Error.{Error}
+use Rattle.std.specs.declared.io.ErrorKind.{ErrorKind}
 use Rattle.std.specs.declared.io.ErrorKind.TheVariants.{NotFound}
 use Rattle.std.specs.declared.string.String.{String}
 use Rattle.std.specs.declared.vec.Vec.{Vec}
@@ -17,6 +19,7 @@ use Rattle.since_parts.specs.Line.{lines_of}
 use Rattle.since_parts.specs.Row.{rows_of}
 use Rattle.since_words.specs.declared.asked.Asked.{Asked}
 use Rattle.since_parts.specs.Saved.{IsTextOf}
+use Rattle.since_run.specs.declared.call.Call.{Call}
 use Rattle.since_run.specs.declared.screen.Screen.{Screen}
 use Rattle.since_parts.specs.declared.choice.Choice.{Choice}
 use Rattle.since_parts.specs.declared.found.Found.{Found}
@@ -30,14 +33,18 @@ separator_of print0 = if print0 then 0 else 10
 abbrev pub style_asked : Asked → Screen → Style
 style_asked asked screen = record { here = false; to_terminal = screen.is_terminal; separator = separator_of asked.print0 }
 
+-- how a call writes paths
+abbrev pub style_of : {T X : Type 0} → Call T X → Style
+style_of call = style_asked call.asked.now call.screen
+
 -- the text of differences: none if no lines are asked for, and JSON if that is
-abbrev pub text_asked : Asked → Screen → List Difference → List ℕ
-text_asked asked screen changes =
-    if asked.quiet then [] else if asked.json then json_lines asked.long changes else lines_of (style_asked asked screen) asked.long changes
+abbrev pub text_asked : {T X : Type 0} → Call T X → List Difference → List ℕ
+text_asked call changes =
+    if call.asked.now.quiet then [] else if call.asked.now.json then json_lines call.asked.now.long changes else lines_of (style_of call) call.asked.now.long changes
 
 -- the rows of what a snapshot holds: none if no lines are asked for
-abbrev pub rows_asked : Asked → Screen → Content → List ℕ
-rows_asked asked screen snapshot = if asked.quiet then [] else rows_of (style_asked asked screen) snapshot.folders
+abbrev pub rows_asked : {T X : Type 0} → Call T X → Content → List ℕ
+rows_asked call snapshot = if call.asked.now.quiet then [] else rows_of (style_of call) snapshot.folders
 
 -- the status by differences
 abbrev pub status_for : List Difference → ℕ
@@ -70,10 +77,14 @@ pub record IsMissing (asked : Asked) (error : Error) (found : Option (Vec ℕ Gl
   pub made : asked.save ≡ true
   pub kind : error_kind error ≡ NotFound
 
--- These are the bytes of the file, or there is none and it is to be made. It is so by value if files always are the same.
-abbrev pub IsLoaded : {X : Type 0} → Texts.Ghosts X → X → Asked → Option (Vec ℕ Global) → Type 0
-IsLoaded texts reads asked None = (asked.save ≡ true) × (texts.IsFixed reads → (texts.functions reads).bytes_of asked.file.now ≡ Err NotFound)
-IsLoaded texts reads asked (Some bytes) = texts.IsFixed reads → (texts.functions reads).bytes_of asked.file.now ≡ Ok bytes.items
+-- Reading the file of a call gives this, if files always are the same.
+abbrev pub FileHolds : {T X : Type 0} → Texts.Ghosts X → Call T X → Result (List ℕ) ErrorKind → Type 0
+FileHolds texts call held = texts.IsFixed (arc_value call.texts) → (texts.functions (arc_value call.texts)).bytes_of call.asked.now.file.now ≡ held
+
+-- These are the bytes of the file, or there is none and it is to be made.
+abbrev pub IsLoaded : {T X : Type 0} → Texts.Ghosts X → Call T X → Option (Vec ℕ Global) → Type 0
+IsLoaded texts call None = (call.asked.now.save ≡ true) × FileHolds texts call (Err NotFound)
+IsLoaded texts call (Some bytes) = FileHolds texts call (Ok bytes.items)
 
 -- A text is to be saved if that is asked for, and it is that of a snapshot of what is found.
 abbrev pub HasTextAsked : Asked → Tree → Found → Option (String Global) → Type 0

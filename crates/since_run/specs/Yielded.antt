@@ -10,6 +10,8 @@ use Rattle.jwalk.specs.jwalk_model.Options.{with_skip_hidden}
 use Rattle.jwalk.specs.jwalk_job.Given.{Given, counted_list}
 use Rattle.jwalk.specs.jwalk_job.declared.dir_entry.DirEntry.{DirEntry}
 use Rattle.jwalk.specs.jwalk_job.declared.error.Error.{Error}
+use Rattle.jwalk.specs.jwalk_job.declared.process_read_dir.NoProcess.{NoProcess}
+use Rattle.jwalk.specs.jwalk_fs.declared.file_system.FileSystem as FileSystem
 use Rattle.jwalk.specs.WalkDir.{callback_of, described, file_system_of, options_of, root_of, state_of, Starts}
 use Rattle.jwalk.specs.declared.crew.Crew.{Crew}
 use Rattle.jwalk.specs.declared.crew.Session.{Session}
@@ -22,6 +24,8 @@ use Rattle.jwalk_ignore.specs.Rules.Chain.{no_rules}
 use Rattle.jwalk_ignore.specs.declared.callback.excluding.Excluding.{Excluding}
 use Rattle.jwalk_ignore.specs.declared.callback.ignore_files.IgnoreFiles.{IgnoreFiles}
 use Rattle.jwalk_ignore.specs.declared.callback.states.RulesState.{RulesState}
+use Rattle.jwalk_ignore_rules.specs.declared.rules.texts.Texts as Texts
+use Rattle.jwalk_indexed_fs.specs.declared.indexed_fs.IndexedFs.{IndexedFs}
 use Rattle.program_walks.specs.Crew.{CrewCallsOf, ReadsBy, with_crew}
 use Rattle.since_parts.specs.declared.choice.Choice.{Choice}
 use Rattle.since_run.specs.Walks.{excluded_for, options_for, settings_for}
@@ -40,6 +44,21 @@ pub record Walked {T C S P R E : Type 0} (calls : CrewCallsOf T C S P Global R E
 -- the callback of walks that honour the ignore files of these texts
 abbrev pub Honours : Type 0 → Type 0
 Honours X = IgnoreFiles (Arc X Global) Excluding
+
+-- the states of walks without ignore files, and of walks with them
+abbrev pub NoStates : Type 0
+NoStates = Unit {0} × Unit {0}
+
+abbrev pub OnlyRules : Type 0
+OnlyRules = RulesState × Unit {0}
+
+-- What a disk and ignore files return, and the walks over them: one without ignore files, one with them, and one by names and types over a disk with the records of a snapshot.
+pub record Walks (T Z X : Type 0) : Type 1 where
+  pub files : FileSystem.Ghosts Z
+  pub texts : Texts.Ghosts X
+  pub plain : CrewCallsOf T NoStates (Arc Z Global) Excluding Global (Unit {0}) (Unit {0})
+  pub honouring : CrewCallsOf T OnlyRules (Arc Z Global) (Honours X) Global RulesState (Unit {0})
+  pub quick : CrewCallsOf T NoStates (Arc (IndexedFs Z) Global) NoProcess Global (Unit {0}) (Unit {0})
 
 -- The walk over this disk below this root, of what is chosen, without ignore files. This crew reads for it, if there is one.
 pub record IsPlain {T C Z R E : Type 0} (disk : Z) (crew : Option (Arc (Crew T) Global)) (choice : Choice) (root : List ℕ) (walk : WalkDirGeneric C (Arc Z Global) Excluding Global (Crew T) R E) : Type 0 where

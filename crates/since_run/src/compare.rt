@@ -1,23 +1,22 @@
 //! A comparison with a snapshot.
 ghost use Rattle.std.specs.Prelude.{◌≡◌, false, IfOk, OnOk};
-ghost use Rattle.std.specs.Arc.{arc_value};
 ghost use Rattle.std.specs.Io.KnownBytes.{Appends};
 ghost use Rattle.jwalk_snapshot.specs.Text.{call_of, content_of, text_of, IsSnapshot};
 ghost use Rattle.since_parts.specs.Choice.{has_rules};
 ghost use Rattle.since_run.specs.Run.{root_asked, status_for, text_asked};
-ghost use Rattle.since_run.specs.Compared.{Compares, ComparesAll, ComparesBytes, ComparesQuickly, IsTreeFor, WritesDifferences};
+ghost use Rattle.since_run.specs.Compared.{ComparesAll, ComparesBytes, ComparesQuickly, IsTreeFor, WritesDifferences};
 
+use crate::call::Call;
 use crate::choice::choice_for;
-use crate::find::{AllWalk, QuickWalk, RuledWalk, find, find_typed};
+use crate::find::{find, find_typed};
 use crate::lines::{write_json, write_lines};
-use crate::screen::Screen;
 use crate::style::style_of;
+use crate::walks::Walkable;
+use jwalk::Host;
 use jwalk::file_system::FileSystem;
-use jwalk::{Crew, Host};
 use jwalk_changes::{Change, Kept};
 use jwalk_ignore_rules::texts::Texts;
 use jwalk_indexed_fs::indexed_fs::IndexedFs;
-use jwalk_model::metadata::Moment;
 use jwalk_snapshot::{Head, Snapshot, SnapshotError};
 use program_parts::halt::Halt;
 use since_parts::choice::Choice;
@@ -57,22 +56,22 @@ pub(crate) fn read_snapshot<'a>(
     }
 }
 
-fn write_changes<W: Write>(
-    alloc: Global,
-    asked: &Asked<'_>,
-    screen: Screen,
+fn write_changes<T, X, W: Write>(
+    call: &Call<'_, '_, T, X>,
     changes: &[Change<Held<'_, '_>, &Kept>],
     out: &mut W,
 ) -> Result<(), Halt>
-    ensures { OnOk result (Appends (W.contents out.old) (W.contents out.new) (text_asked asked.now screen changes.now)) }
+    ensures { OnOk result (Appends (W.contents out.old) (W.contents out.new) (text_asked call.now changes.now)) }
 {
+    let asked = call.asked;
     if asked.quiet {
         return Ok(());
     }
     if asked.json {
-        return write_json(alloc, asked.long, changes, out);
+        return write_json(call.alloc, asked.long, changes, out);
     }
-    write_lines(alloc, style_of(asked, screen), asked.long, changes, out)
+    let style = style_of(asked, call.screen);
+    write_lines(call.alloc, style, asked.long, changes, out)
 }
 
 fn status_for(changes: &[Change<Held<'_, '_>, &Kept>]) -> u8
@@ -91,39 +90,38 @@ fn root_asked<'a>(asked: &Asked<'a>, other: &'a str) -> &'a str
     }
 }
 
-/// Returns the tree that is compared with the snapshot of a call.
-fn tree_for<X: Texts>(
-    alloc: Global,
-    texts: &Arc<X>,
-    start: Moment,
-    asked: &Asked<'_>,
-    head: &Head<'_>,
-) -> Result<Tree, Failure>
-    ensures { IfOk result (IsTreeFor X.Texts (arc_value texts.now) start asked.now (call_of head.now)) }
+/// Returns the tree that is compared with a snapshot.
+fn tree_for<T, X: Texts>(call: &Call<'_, '_, T, X>, head: &Head<'_>) -> Result<Tree, Failure>
+    ensures { IfOk result (IsTreeFor X.Texts call.now (call_of head.now)) }
 {
-    let choice = choice_for(alloc, asked, &head.words)?;
-    let root = root_asked(asked, head.absolute);
-    Tree::new(alloc, texts, asked.file, root, choice, start)
+    let choice = choice_for(call.alloc, call.asked, &head.words)?;
+    let root = root_asked(call.asked, head.absolute);
+    Tree::new(
+        call.alloc,
+        &call.texts,
+        call.asked.file,
+        root,
+        choice,
+        call.start,
+    )
 }
 
 /// Writes what differs between a snapshot and what was found in a tree.
-fn compare<W: Write>(
-    alloc: Global,
+fn compare<T, X, W: Write>(
+    call: &Call<'_, '_, T, X>,
     tree: Tree,
     found: Found,
-    asked: &Asked<'_>,
-    screen: Screen,
     snapshot: &Snapshot<'_>,
     out: &mut W,
 ) -> Result<Told, Failure>
     ensures tree { IfOk result (λ told. told.tree ≡ tree) }
     ensures found { IfOk result (λ told. told.found ≡ found) }
-    ensures writes { IfOk result (WritesDifferences asked.now screen (content_of snapshot.now) (W.contents out.old) (W.contents out.new)) }
+    ensures writes { IfOk result (WritesDifferences call.now (content_of snapshot.now) (W.contents out.old) (W.contents out.new)) }
 {
     let numbers = snapshot.head.absolute == tree.absolute.as_str();
-    let old = all_held(alloc, snapshot, numbers)?;
-    let changes = differences(alloc, old, &found)?;
-    write_changes(alloc, asked, screen, &changes, out)?;
+    let old = all_held(call.alloc, snapshot, numbers)?;
+    let changes = differences(call.alloc, old, &found)?;
+    write_changes(call, &changes, out)?;
     let status = status_for(&changes);
     drop(changes);
     Ok(Told {
@@ -141,25 +139,19 @@ fn compare_all<
     W: Write,
     E: Write,
 >(
-    alloc: Global,
+    call: &Call<'_, '_, T, X>,
     disk: S,
-    crew: &Option<Arc<Crew<T>>>,
-    texts: &Arc<X>,
-    start: Moment,
-    asked: &Asked<'_>,
-    screen: Screen,
     snapshot: &Snapshot<'_>,
     out: &mut W,
     err: &mut E,
 ) -> Result<Told, Failure>
-    ensures { IfOk result (ComparesAll S.FileSystem X.Texts ⟦<AllWalk<T, S> as Iterator>⟧.next_gives
-        ⟦<RuledWalk<T, S, X> as Iterator>⟧.next_gives disk (arc_value texts.now) crew.now start asked.now screen
-        (content_of snapshot.now) (W.contents out.old) (W.contents out.new)) }
+    ensures { IfOk result (ComparesAll ⟦<S as Walkable<T, X>>⟧.walks disk call.now (content_of snapshot.now)
+        (W.contents out.old) (W.contents out.new)) }
 {
-    let tree = tree_for(alloc, texts, start, asked, &snapshot.head)?;
-    let disk = Arc::new(alloc, disk)?;
-    let found = find(alloc, disk, texts, crew, &tree, err)?;
-    compare(alloc, tree, found, asked, screen, snapshot, out)
+    let tree = tree_for(call, &snapshot.head)?;
+    let disk = Arc::new(call.alloc, disk)?;
+    let found = find(call, disk, &tree, err)?;
+    compare(call, tree, found, snapshot, out)
 }
 
 /// Returns an error if a quick comparison isn't possible of what is chosen.
@@ -180,27 +172,28 @@ fn check_quick(alloc: Global, asked: &Asked<'_>, choice: &Choice) -> Result<(), 
 
 /// Writes what differs in names and types between a snapshot and a disk, of which only directories are listed whose stamps
 /// aren't those of the snapshot.
-fn compare_quickly<T: Host, S: FileSystem + Send + Sync + 'static, X: Texts, W: Write, E: Write>(
-    alloc: Global,
+fn compare_quickly<
+    T: Host,
+    S: FileSystem + Send + Sync + 'static,
+    X: Texts + Send + Sync + 'static,
+    W: Write,
+    E: Write,
+>(
+    call: &Call<'_, '_, T, X>,
     disk: S,
-    crew: &Option<Arc<Crew<T>>>,
-    texts: &Arc<X>,
-    start: Moment,
-    asked: &Asked<'_>,
-    screen: Screen,
     snapshot: &Snapshot<'_>,
     out: &mut W,
     err: &mut E,
 ) -> Result<Told, Failure>
-    ensures { IfOk result (ComparesQuickly S.FileSystem X.Texts ⟦<QuickWalk<T, S> as Iterator>⟧.next_gives disk (arc_value texts.now)
-        crew.now start asked.now screen (content_of snapshot.now) (W.contents out.old) (W.contents out.new)) }
+    ensures { IfOk result (ComparesQuickly ⟦<S as Walkable<T, X>>⟧.walks disk call.now (content_of snapshot.now)
+        (W.contents out.old) (W.contents out.new)) }
 {
-    let tree = tree_for(alloc, texts, start, asked, &snapshot.head)?;
-    check_quick(alloc, asked, &tree.choice)?;
-    let index = index_of(alloc, tree.root.as_str(), &snapshot.blocks)?;
-    let disk = Arc::new(alloc, IndexedFs::new(disk, index))?;
-    let found = find_typed(alloc, disk, crew, &tree, err)?;
-    compare(alloc, tree, found, asked, screen, snapshot, out)
+    let tree = tree_for(call, &snapshot.head)?;
+    check_quick(call.alloc, call.asked, &tree.choice)?;
+    let index = index_of(call.alloc, tree.root.as_str(), &snapshot.blocks)?;
+    let disk = Arc::new(call.alloc, IndexedFs::new(disk, index))?;
+    let found = find_typed(call.alloc, disk, &call.crew, &tree, err)?;
+    compare(call, tree, found, snapshot, out)
 }
 
 /// Writes what differs from the snapshot in a file, whose bytes are let go.
@@ -211,28 +204,18 @@ pub(crate) fn compare_file<
     W: Write,
     E: Write,
 >(
-    alloc: Global,
+    call: &Call<'_, '_, T, X>,
     disk: S,
-    crew: &Option<Arc<Crew<T>>>,
-    texts: &Arc<X>,
-    start: Moment,
-    asked: &Asked<'_>,
-    screen: Screen,
     bytes: Vec<u8>,
     out: &mut W,
     err: &mut E,
 ) -> Result<Told, Failure>
-    ensures { IfOk result (ComparesBytes S.FileSystem X.Texts ⟦<AllWalk<T, S> as Iterator>⟧.next_gives
-        ⟦<RuledWalk<T, S, X> as Iterator>⟧.next_gives ⟦<QuickWalk<T, S> as Iterator>⟧.next_gives disk (arc_value texts.now)
-        crew.now start asked.now screen bytes.items (W.contents out.old) (W.contents out.new)) }
+    ensures { IfOk result (ComparesBytes ⟦<S as Walkable<T, X>>⟧.walks disk call.now bytes.items
+        (W.contents out.old) (W.contents out.new)) }
 {
-    let snapshot = read_snapshot(alloc, asked.file, &bytes)?;
-    if asked.quick {
-        return compare_quickly(
-            alloc, disk, crew, texts, start, asked, screen, &snapshot, out, err,
-        );
+    let snapshot = read_snapshot(call.alloc, call.asked.file, &bytes)?;
+    if call.asked.quick {
+        return compare_quickly(call, disk, &snapshot, out, err);
     }
-    compare_all(
-        alloc, disk, crew, texts, start, asked, screen, &snapshot, out, err,
-    )
+    compare_all(call, disk, &snapshot, out, err)
 }

@@ -1,21 +1,22 @@
 //! The walk below a root, and what it finds.
-ghost use Rattle.std.specs.Prelude.{◌≡◌, string_bytes, IfOk};
+ghost use Rattle.std.specs.Prelude.{◌≡◌, IfOk};
 ghost use Rattle.std.specs.Arc.{arc_value};
 ghost use Rattle.jwalk.specs.WalkDir.{callback_of};
 ghost use Rattle.jwalk.specs.jwalk_job.Options.{options_value};
 ghost use Rattle.jwalk_ignore.specs.Callback.Excluding.{excluded_of};
 ghost use Rattle.since_run.specs.Finds.{FindsAll, FindsKept, FindsPlain, FindsRuled, FindsTyped, TakesWalk};
-ghost use Rattle.since_run.specs.Walks.{excluded_for, options_for, typed_below};
+ghost use Rattle.since_run.specs.Walks.{excluded_for, options_for};
 
+use crate::call::Call;
+use crate::walks::{AllWalk, Honours, TypedWalk, Walkable};
 use jwalk::file_system::FileSystem;
-use jwalk::read_dir::{NoProcess, ProcessReadDir};
+use jwalk::read_dir::ProcessReadDir;
 use jwalk::{ClientState, Crew, Host, Options, WalkDirGeneric};
 use jwalk_ignore::builder::with_ignore_files;
 use jwalk_ignore::excluding::Excluding;
 use jwalk_ignore::ignore_files::IgnoreFiles;
 use jwalk_ignore::states::OnlyRules;
 use jwalk_ignore::texts::Texts;
-use jwalk_indexed_fs::indexed_fs::IndexedFs;
 use program_walks::crew::{CrewWalk, Plain, walk_below};
 use since_parts::choice::Choice;
 use since_parts::failure::Failure;
@@ -25,21 +26,6 @@ use since_parts::tree::Tree;
 use std::alloc::{AllocError, Global};
 use std::io::Write;
 use std::sync::Arc;
-
-/// A callback that honours ignore files, and then drops what is excluded.
-type Honours<X> = IgnoreFiles<Arc<X>, Excluding>;
-
-/// The walk below a root without ignore files.
-pub(crate) type AllWalk<T, S> = CrewWalk<T, ((), ()), Arc<S>, Excluding>;
-
-/// The walk below a root with ignore files.
-pub(crate) type RuledWalk<T, S, X> = CrewWalk<T, OnlyRules, Arc<S>, Honours<X>>;
-
-/// The walk below a root by names and types alone.
-pub(crate) type TypedWalk<T, S> = CrewWalk<T, ((), ()), Arc<S>, NoProcess>;
-
-/// The same over a disk with the records of a snapshot.
-pub(crate) type QuickWalk<T, S> = TypedWalk<T, IndexedFs<S>>;
 
 /// All that is chosen is read, in the order of names, and entries keep their metadata, unless names and types are enough.
 fn options_for(quick: bool, choice: &Choice) -> Options
@@ -119,7 +105,7 @@ fn find_ruled<
     tree: &Tree,
     err: &mut E,
 ) -> Result<Found, Failure>
-    ensures { IfOk result (FindsRuled S.FileSystem X.Texts ⟦<RuledWalk<T, S, X> as Iterator>⟧.next_gives walk rules tree.now) }
+    ensures { IfOk result (FindsRuled ⟦<S as Walkable<T, X>>⟧.walks walk rules tree.now) }
 {
     take_walk(alloc, with_ignore_files(walk, rules), tree, err)
 }
@@ -129,26 +115,18 @@ fn find_kept<
     S: FileSystem + Send + Sync + 'static,
     X: Texts + Send + Sync + 'static,
     E: Write,
->(
-    alloc: Global,
-    disk: Arc<S>,
-    texts: &Arc<X>,
-    crew: &Option<Arc<Crew<T>>>,
-    tree: &Tree,
-    err: &mut E,
-) -> Result<Found, Failure>
-    ensures { IfOk result (FindsKept S.FileSystem X.Texts ⟦<RuledWalk<T, S, X> as Iterator>⟧.next_gives
-        (arc_value disk) (arc_value texts.now) crew.now tree.now) }
+>(call: &Call<'_, '_, T, X>, disk: Arc<S>, tree: &Tree, err: &mut E) -> Result<Found, Failure>
+    ensures { IfOk result (FindsKept ⟦<S as Walkable<T, X>>⟧.walks (arc_value disk) call.now tree.now) }
 {
-    let excluding = excluding_for(alloc, &tree.choice, tree.root.as_str())?;
-    let rules = IgnoreFiles::new(texts.clone()?)
+    let excluding = excluding_for(call.alloc, &tree.choice, tree.root.as_str())?;
+    let rules = IgnoreFiles::new(call.texts.clone()?)
         .keep_hidden(!tree.choice.exclude_hidden)
         .drop_errors(true)
         .then(excluding);
-    let root = String::from_str(alloc, tree.root.as_str())?;
+    let root = String::from_str(call.alloc, tree.root.as_str())?;
     let options = options_for(false, &tree.choice);
-    let walk = walk_below::<OnlyRules, _, _, _>(disk, root, options, crew)?;
-    find_ruled(alloc, walk, rules, tree, err)
+    let walk = walk_below::<OnlyRules, _, _, _>(disk, root, options, &call.crew)?;
+    find_ruled(call.alloc, walk, rules, tree, err)
 }
 
 /// Returns what the walk finds that is chosen in a tree. If there is a crew, it reads the directories.
@@ -157,21 +135,13 @@ pub(crate) fn find<
     S: FileSystem + Send + Sync + 'static,
     X: Texts + Send + Sync + 'static,
     E: Write,
->(
-    alloc: Global,
-    disk: Arc<S>,
-    texts: &Arc<X>,
-    crew: &Option<Arc<Crew<T>>>,
-    tree: &Tree,
-    err: &mut E,
-) -> Result<Found, Failure>
-    ensures { IfOk result (FindsAll S.FileSystem X.Texts ⟦<AllWalk<T, S> as Iterator>⟧.next_gives
-        ⟦<RuledWalk<T, S, X> as Iterator>⟧.next_gives (arc_value disk) (arc_value texts.now) crew.now tree.now) }
+>(call: &Call<'_, '_, T, X>, disk: Arc<S>, tree: &Tree, err: &mut E) -> Result<Found, Failure>
+    ensures { IfOk result (FindsAll ⟦<S as Walkable<T, X>>⟧.walks (arc_value disk) call.now tree.now) }
 {
     if tree.choice.ignore {
-        return find_kept(alloc, disk, texts, crew, tree, err);
+        return find_kept(call, disk, tree, err);
     }
-    find_plain(alloc, disk, crew, tree, err)
+    find_plain(call.alloc, disk, &call.crew, tree, err)
 }
 
 /// Returns what the walk finds by names and types alone, where no rules are chosen.
@@ -182,8 +152,7 @@ pub(crate) fn find_typed<T: Host, S: FileSystem + Send + Sync + 'static, E: Writ
     tree: &Tree,
     err: &mut E,
 ) -> Result<Found, Failure>
-    ensures { IfOk result (FindsTyped (S.IsFixed (arc_value disk)) ⟦<TypedWalk<T, S> as Iterator>⟧.next_gives (arc_value disk) crew.now
-        (typed_below (S.functions (arc_value disk)) tree.now.choice (string_bytes tree.now.root)) tree.now) }
+    ensures { IfOk result (FindsTyped S.FileSystem ⟦<TypedWalk<T, S> as Iterator>⟧.next_gives (arc_value disk) crew.now tree.now) }
 {
     let root = String::from_str(alloc, tree.root.as_str())?;
     let options = options_for(true, &tree.choice);

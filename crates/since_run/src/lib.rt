@@ -1,6 +1,7 @@
 //! What the program `since` does with its words and a disk: it compares what is below a root with a snapshot, or lists it.
 #![tactic(auto)]
 
+mod call;
 mod choice;
 mod compare;
 mod find;
@@ -10,3 +11,4 @@ pub mod run;
 pub mod screen;
 pub mod store;
 mod style;
+mod walks;

@@ -1,6 +1,5 @@
 //! A call of the program.
-ghost use Rattle.std.specs.Prelude.{◌≡◌, ◌≤◌, ◌⊎◌, true, codes, map, string_bytes, Ok, IfOk, OnErr, OnOk};
-ghost use Rattle.std.specs.Arc.{arc_value};
+ghost use Rattle.std.specs.Prelude.{◌≡◌, ◌≤◌, true, codes, map, string_bytes, IfOk, OnErr, OnOk};
 ghost use Rattle.std.specs.Io.KnownBytes.{Appends};
 ghost use Rattle.jwalk_model.specs.Paths.{dot};
 ghost use Rattle.jwalk_snapshot.specs.Text.{content_of};
@@ -8,15 +7,17 @@ ghost use Rattle.program_parts.specs.Errors.{IsTold};
 ghost use Rattle.since_run.specs.Run.{root_asked, rows_asked, HasTextAsked, IsLoaded, IsMissing, ReplacesBy};
 ghost use Rattle.since_run.specs.Done.{Begins, Ends, EndsWith, Lists, Tells};
 
+use crate::call::Call;
 use crate::choice::choice_in;
 use crate::compare::{Told, compare_file, read_snapshot};
-use crate::find::{AllWalk, QuickWalk, RuledWalk, find};
+use crate::find::find;
 use crate::rows::write_rows;
 use crate::screen::Screen;
 use crate::store::Store;
 use crate::style::style_of;
+use crate::walks::Walkable;
+use jwalk::Host;
 use jwalk::file_system::{Fault, FileSystem};
-use jwalk::{Crew, Host};
 use jwalk_ignore_rules::texts::Texts;
 use jwalk_model::metadata::Moment;
 use jwalk_snapshot::Snapshot;
@@ -45,16 +46,12 @@ fn missing(alloc: Global, asked: &Asked<'_>, error: io::Error) -> Result<Option<
 }
 
 /// Returns the bytes of the file with the snapshot. It may only be missing if it is to be made.
-fn load<X: Texts>(
-    alloc: Global,
-    texts: &Arc<X>,
-    asked: &Asked<'_>,
-) -> Result<Option<Vec<u8>>, Failure>
-    ensures { IfOk result (IsLoaded X.Texts (arc_value texts.now) asked.now) }
+fn load<T, X: Texts>(call: &Call<'_, '_, T, X>) -> Result<Option<Vec<u8>>, Failure>
+    ensures { IfOk result (IsLoaded X.Texts call.now) }
 {
-    match texts.read(alloc, asked.file) {
+    match call.texts.read(call.alloc, call.asked.file) {
         Ok(bytes) => Ok(Some(bytes)),
-        Err(Fault::Io(error)) => missing(alloc, asked, error),
+        Err(Fault::Io(error)) => missing(call.alloc, call.asked, error),
         Err(Fault::Memory) => Err(Failure::Halt(Halt::Memory)),
     }
 }
@@ -102,19 +99,18 @@ fn replace<K: Store>(
     }
 }
 
-fn write_listed<W: Write>(
-    alloc: Global,
-    asked: &Asked<'_>,
-    screen: Screen,
+fn write_listed<T, X, W: Write>(
+    call: &Call<'_, '_, T, X>,
     snapshot: &Snapshot<'_>,
     out: &mut W,
 ) -> Result<(), Halt>
-    ensures { OnOk result (Appends (W.contents out.old) (W.contents out.new) (rows_asked asked.now screen (content_of snapshot.now))) }
+    ensures { OnOk result (Appends (W.contents out.old) (W.contents out.new) (rows_asked call.now (content_of snapshot.now))) }
 {
-    if asked.quiet {
+    if call.asked.quiet {
         return Ok(());
     }
-    write_rows(alloc, style_of(asked, screen), &snapshot.blocks, out)
+    let style = style_of(call.asked, call.screen);
+    write_rows(call.alloc, style, &snapshot.blocks, out)
 }
 
 /// Returns the root that is asked for, or else the folder that the program runs in.
@@ -153,88 +149,39 @@ fn begin<
     X: Texts + Send + Sync + 'static,
     K: Store,
     E: Write,
->(
-    alloc: Global,
-    disk: S,
-    crew: &Option<Arc<Crew<T>>>,
-    texts: &Arc<X>,
-    store: &mut K,
-    start: Moment,
-    asked: &Asked<'_>,
-    err: &mut E,
-) -> Result<u8, Failure>
-    ensures begins { IfOk result (Begins S.FileSystem X.Texts K.Store ⟦<AllWalk<T, S> as Iterator>⟧.next_gives
-        ⟦<RuledWalk<T, S, X> as Iterator>⟧.next_gives disk (arc_value texts.now) crew.now start asked.now store.old store.new) }
+>(call: &Call<'_, '_, T, X>, disk: S, store: &mut K, err: &mut E) -> Result<u8, Failure>
+    ensures begins { IfOk result (Begins ⟦<S as Walkable<T, X>>⟧.walks K.Store disk call.now store.old store.new) }
     ensures kept { OnErr result (store.new ≡ store.old) }
 {
-    let choice = choice_in(alloc, asked)?;
-    let tree = Tree::new(alloc, texts, asked.file, root_or_here(asked), choice, start)?;
-    let disk = Arc::new(alloc, disk)?;
-    let found = find(alloc, disk, texts, crew, &tree, err)?;
+    let choice = choice_in(call.alloc, call.asked)?;
+    let tree = Tree::new(
+        call.alloc,
+        &call.texts,
+        call.asked.file,
+        root_or_here(call.asked),
+        choice,
+        call.start,
+    )?;
+    let disk = Arc::new(call.alloc, disk)?;
+    let found = find(call, disk, &tree, err)?;
     let told = Told {
         tree,
         found,
         status: 0,
     };
-    save_told(alloc, store, asked, &told, err)
+    save_told(call.alloc, store, call.asked, &told, err)
 }
 
 /// Writes a row for each entry that the snapshot in a file has. Returns the status.
-fn list<W: Write>(
-    alloc: Global,
-    asked: &Asked<'_>,
-    screen: Screen,
-    bytes: &[u8],
-    out: &mut W,
-) -> Result<u8, Failure>
-    ensures lists { IfOk result (Lists asked.now screen bytes.now (W.contents out.old) (W.contents out.new)) }
+fn list<T, X, W: Write>(call: &Call<'_, '_, T, X>, bytes: &[u8], out: &mut W) -> Result<u8, Failure>
+    ensures lists { IfOk result (Lists call.now bytes.now (W.contents out.old) (W.contents out.new)) }
 {
-    if let Some(root) = asked.root {
-        return Err(Failure::at(alloc, root, &"with --rows no root is read"));
+    if let Some(root) = call.asked.root {
+        return Err(Failure::at(call.alloc, root, &"with --rows no root is read"));
     }
-    let snapshot = read_snapshot(alloc, asked.file, bytes)?;
-    write_listed(alloc, asked, screen, &snapshot, out)?;
+    let snapshot = read_snapshot(call.alloc, call.asked.file, bytes)?;
+    write_listed(call, &snapshot, out)?;
     Ok(0)
-}
-
-/// Returns the status.
-fn since<
-    T: Host,
-    S: FileSystem + Send + Sync + 'static,
-    X: Texts + Send + Sync + 'static,
-    K: Store,
-    W: Write,
-    E: Write,
->(
-    rt: &T,
-    alloc: Global,
-    cores: usize,
-    disk: S,
-    texts: X,
-    store: &mut K,
-    start: Moment,
-    asked: &Asked<'_>,
-    screen: Screen,
-    out: &mut W,
-    err: &mut E,
-) -> Result<u8, Failure>
-    ensures tells { IfOk result (Tells S.FileSystem X.Texts K.Store ⟦<AllWalk<T, S> as Iterator>⟧.next_gives
-        ⟦<RuledWalk<T, S, X> as Iterator>⟧.next_gives ⟦<QuickWalk<T, S> as Iterator>⟧.next_gives
-        disk texts cores start asked.now screen (W.contents out.old) (W.contents out.new) store.old store.new) }
-    ensures kept { OnErr result (store.new ≡ store.old) }
-{
-    let texts = Arc::new(alloc, texts)?;
-    let crew = crew_with(rt, alloc, threads_in(cores, asked.threads))?;
-    let Some(bytes) = load(alloc, &texts, asked)? else {
-        return begin(alloc, disk, &crew, &texts, store, start, asked, err);
-    };
-    if asked.lists {
-        return list(alloc, asked, screen, &bytes, out);
-    }
-    let told = compare_file(
-        alloc, disk, &crew, &texts, start, asked, screen, bytes, out, err,
-    )?;
-    save_told(alloc, store, asked, &told, err)
 }
 
 /// What ended the call before its end is told.
@@ -252,56 +199,106 @@ fn status_of<E: Write>(alloc: Global, ended: Result<u8, Failure>, err: &mut Erro
     }
 }
 
-/// Compares what is below a root with a snapshot, as the words ask, of which the first is the program's name. Writes a
-/// line for each difference, or a row for each entry of the snapshot, and tells errors by `err`. Returns the status.
-/// `start` is the time now: a stamp is saved if the directory last changed more than two seconds before it.
-///
-/// The status is 0 if nothing differs, or if rows or a text were asked for and written. It is 1 if something differs. It is 2 for
-/// bad words, if not all could be read, if memory ran out, and if the lines or the snapshot can't be written: if not all
-/// was written, `err` tells why last.
-pub fn run<
-    T: Host,
-    S: FileSystem + Send + Sync + 'static,
-    X: Texts + Send + Sync + 'static,
-    K: Store,
-    W: Write,
-    E: Write,
->(
-    rt: &T,
-    alloc: Global,
-    cores: usize,
-    disk: S,
-    texts: X,
-    store: &mut K,
-    start: Moment,
-    words: &[String],
-    screen: Screen,
-    out: &mut W,
-    err: &mut Errors<E>,
-) -> u8
-    ensures status { result ≤ 2 }
-    ensures ends { Ends S.FileSystem X.Texts K.Store ⟦<AllWalk<T, S> as Iterator>⟧.next_gives
-        ⟦<RuledWalk<T, S, X> as Iterator>⟧.next_gives ⟦<QuickWalk<T, S> as Iterator>⟧.next_gives
-        disk texts cores start (map string_bytes words.now) screen (W.contents out.old) (W.contents out.new)
-        store.old store.new result (IsTold E.contents (codes "since") err.new) }
-    // Where the status is 2, nothing was saved.
-    ensures unsaved { result ≡ 2 → store.new ≡ store.old }
-{
-    match read_words(alloc, words) {
-        Ok(asked) => {
-            let ended = since(
-                rt, alloc, cores, disk, texts, store, start, &asked, screen, out, err,
-            );
-            status_of(alloc, ended, err)
+/// The program `since`, and what it runs on.
+#[derive(Drop)]
+pub struct Since<'a, T, S: Drop, X: Drop> {
+    /// What starts the threads of a crew.
+    pub rt: &'a T,
+    /// Where memory is from.
+    pub alloc: Global,
+    /// How many threads can run at a time: as many read, unless the words say otherwise.
+    pub cores: usize,
+    /// The disk that is read.
+    pub disk: S,
+    /// Where the snapshot and ignore files are read.
+    pub texts: X,
+    /// The time now: a stamp is saved if the directory last changed more than two seconds before it.
+    pub start: Moment,
+    /// What lines are written to.
+    pub screen: Screen,
+}
+
+impl<'a, T: Host, S: FileSystem + Send + Sync + 'static, X: Texts + Send + Sync + 'static> Since<
+    'a,
+    T,
+    S,
+    X,
+> {
+    /// Does what is asked for. Returns the status.
+    fn run_asked<K: Store, W: Write, E: Write>(
+        self,
+        asked: &Asked<'_>,
+        store: &mut K,
+        out: &mut W,
+        err: &mut E,
+    ) -> Result<u8, Failure>
+        ensures tells { IfOk result (Tells ⟦<S as Walkable<T, X>>⟧.walks K.Store self.entry asked.now
+            (W.contents out.old) (W.contents out.new) store.old store.new) }
+        ensures kept { OnErr result (store.new ≡ store.old) }
+    {
+        let Since {
+            rt,
+            alloc,
+            cores,
+            disk,
+            texts,
+            start,
+            screen,
+        } = self;
+        let texts = Arc::new(alloc, texts)?;
+        let crew = crew_with(rt, alloc, threads_in(cores, asked.threads))?;
+        let call = Call {
+            alloc,
+            texts,
+            crew,
+            start,
+            asked,
+            screen,
+        };
+        let Some(bytes) = load(&call)? else {
+            return begin(&call, disk, store, err);
+        };
+        if asked.lists {
+            return list(&call, &bytes, out);
         }
-        Err(refusal) => {
-            let named = RefusalBy {
-                program: "since",
-                refusal: &refusal,
-            };
-            let (columns, status) = (Some(screen.width), refusal.status());
-            let refused = err.refuse(alloc, columns, "since", &named, status, out);
-            if refused == 0 { 0 } else { 2 }
+        let told = compare_file(&call, disk, bytes, out, err)?;
+        save_told(alloc, store, asked, &told, err)
+    }
+
+    /// Compares what is below a root with a snapshot, as the words ask, of which the first is the program's name. Writes a
+    /// line for each difference, or a row for each entry of the snapshot, and tells errors by `err`. Returns the status.
+    ///
+    /// The status is 0 if nothing differs, or if rows or a text were asked for and written. It is 1 if something differs.
+    /// It is 2 for bad words, if not all could be read, if memory ran out, and if the lines or the snapshot can't be
+    /// written: if not all was written, `err` tells why last.
+    pub fn run<K: Store, W: Write, E: Write>(
+        self,
+        store: &mut K,
+        words: &[String],
+        out: &mut W,
+        err: &mut Errors<E>,
+    ) -> u8
+        ensures status { result ≤ 2 }
+        ensures ends { Ends ⟦<S as Walkable<T, X>>⟧.walks K.Store self.entry (map string_bytes words.now) (W.contents out.old)
+            (W.contents out.new) store.old store.new result (IsTold E.contents (codes "since") err.new) }
+        // Where the status is 2, nothing was saved.
+        ensures unsaved { result ≡ 2 → store.new ≡ store.old }
+    {
+        let (alloc, screen) = (self.alloc, self.screen);
+        match read_words(alloc, words) {
+            Ok(asked) => {
+                let ended = self.run_asked(&asked, store, out, err);
+                status_of(alloc, ended, err)
+            }
+            Err(refusal) => {
+                let named = RefusalBy {
+                    program: "since",
+                    refusal: &refusal,
+                };
+                let (columns, status) = (Some(screen.width), refusal.status());
+                let refused = err.refuse(alloc, columns, "since", &named, status, out);
+                if refused == 0 { 0 } else { 2 }
+            }
         }
     }
 }

@@ -3,13 +3,13 @@ use Rattle.std.proofs.lemmas.Result.{IfOk-weaker}
 use Rattle.jwalk_snapshot.specs.Text.{content_of}
 use Rattle.since_run.proofs.compare.compare_file.Goals as goal
 
-pub returns-then-asked : goal.returns-then-asked
-returns-then-asked g c =
+pub returns-then-call : goal.returns-then-call
+returns-then-call g c =
     IfOk-weaker c.compare_quickly.result _ _ (λ told compares. record {
       snapshot = content_of c.in_ok-snapshot.snapshot;
       is_one = c.in_ok-snapshot.ensures.is_one;
       has = sym c.deref.ensures.value ∙ c.in_ok-snapshot.ensures.has;
-      either = inr (c.if-asked.true, compares);
+      either = inr (c.if-call.true, compares);
     }) c.compare_quickly.ensures
 
 pub returns : goal.returns
@@ -18,5 +18,5 @@ returns g c =
       snapshot = content_of c.in_ok-snapshot.snapshot;
       is_one = c.in_ok-snapshot.ensures.is_one;
       has = sym c.deref.ensures.value ∙ c.in_ok-snapshot.ensures.has;
-      either = inl (c.if-asked.false, compares);
+      either = inl (c.if-call.false, compares);
     }) c.compare_all.ensures

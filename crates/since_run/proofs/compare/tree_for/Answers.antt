@@ -1,5 +1,4 @@
 use Rattle.std.proofs.Common.{map, subst}
-use Rattle.std.specs.Arc.{arc_value}
 use Rattle.jwalk_snapshot.specs.Text.{call_of, text_in}
 use Rattle.since_run.specs.Run.{IsChoice}
 use Rattle.since_run.proofs.CompareFacts.{tree_for}
@@ -7,6 +6,7 @@ use Rattle.since_run.proofs.compare.tree_for.Goals as goal
 
 pub returns : goal.returns
 returns g c =
-    tree_for g.X.Texts (arc_value c.args.texts.now) c.args.start c.args.asked.now (call_of c.args.head.now) c.root_asked-root.result.now c.in_ok-choice.choice c.new.result
-    c.root_asked-root.ensures (subst (λ l. IsChoice c.args.asked.now (map text_in l) c.in_ok-choice.choice) c.deref.ensures.value c.in_ok-choice.ensures)
+    let call = c.args.call.now in
+    tree_for g.X.Texts call (call_of c.args.head.now) c.root_asked-root.result.now c.in_ok-choice.choice c.new.result
+    c.root_asked-root.ensures (subst (λ l. IsChoice call.asked.now (map text_in l) c.in_ok-choice.choice) c.deref.ensures.value c.in_ok-choice.ensures)
     c.new.ensures.choice c.new.ensures.start c.new.ensures.root c.new.ensures.front c.new.ensures.own

@@ -20,16 +20,16 @@ pub returns : goal.returns
 returns g c =
     let disk = arc_value c.args.disk in
     let tree = c.args.tree.now in
-    let crew = c.args.crew.now in
+    let crew = c.args.call.now.crew in
     let at = string_bytes tree.root in
     let built = c.in_ok-walk.ensures in
     let walk = c.in_ok-walk.walk in
     let rules = c.then-rules.result in
     let excluded = excluded_for tree.choice at in
     let chosen = options_for false tree.choice in
-    let texts = g.X.Texts.functions (arc_value c.args.texts.now) in
+    let texts = g.X.Texts.functions (arc_value c.args.call.now.texts) in
     let over : arc_value (file_system_of walk) ≡ disk = ap arc_value built.file_system in
-    let from : arc_value (texts_in rules) ≡ arc_value c.args.texts.now
+    let from : arc_value (texts_in rules) ≡ arc_value c.args.call.now.texts
     = ap arc_value (c.then-rules.ensures.texts ∙ c.drop_errors.ensures.texts ∙ c.keep_hidden.ensures.texts ∙ c.new.ensures.texts) ∙ c.in_ok-clone.ensures.cases in
     let settings : settings_of rules ≡ settings_for tree.choice
     = c.then-rules.ensures.settings ∙ c.drop_errors.ensures.settings
