@@ -5,10 +5,10 @@ use Rattle.std.specs.Io.KnownBytes.{Appends}
 use Rattle.jwalk_ignore_rules.specs.declared.rules.texts.Texts as Texts
 use Rattle.jwalk_indexed_fs.specs.declared.index.Index.{Index}
 use Rattle.jwalk_snapshot.specs.Text.{Call as SavedCall, Content, IsSnapshot, text_of}
+use Rattle.jwalk_snapshot_index.specs.Records.{IsIndexOf}
 use Rattle.since_parts.specs.Choice.{has_rules}
 use Rattle.since_parts.specs.Differences.{AreDifferences, Difference}
 use Rattle.since_parts.specs.Held.{HoldsAll, seen_in}
-use Rattle.since_parts.specs.Records.{IsIndexOf}
 use Rattle.since_parts.specs.Tree.{front_in, front_of, IsTree}
 use Rattle.since_parts.specs.declared.found.Found.{Found}
 use Rattle.since_parts.specs.declared.held.Held.{Held}
