@@ -1,5 +1,5 @@
 -- Path texts against the names in them.
-use Rattle.std.proofs.Common.{◌≡◌, ◌≤◌, ◌<◌, ◌+◌, ℕ, zero, suc, Bool, true, false, not, cond, ◌&&◌, ◌==◌, List, [], ◌∷◌, ◌++◌, length, drop, Some, None, refl, sym, ap, ap₂, ◌∙◌, append_assoc, add-one, arith}
+use Rattle.std.proofs.Common.{◌≡◌, ◌≤◌, ◌<◌, ◌+◌, ℕ, zero, suc, Bool, true, false, not, cond, ◌&&◌, ◌==◌, List, [], ◌∷◌, ◌++◌, length, take, drop, Some, None, refl, sym, ap, ap₂, ◌∙◌, append_assoc, add-one, arith, subst}
 use Rattle.std.specs.Prelude.{bytes_eq, slice_get, option_map, nat_lt, nat_eq}
 use Rattle.std.specs.Option.{option_cmp, option_eq}
 use Rattle.std.specs.List.{onto_first}
@@ -7,9 +7,12 @@ use Rattle.std.specs.declared.cmp.Ordering.{Ordering}
 use Rattle.std.specs.declared.cmp.Ordering.TheVariants.{Less, Equal, Greater}
 use Rattle.std.specs.Ordering.{nat_cmp, ordering_then, is_ne, MatchOrdering}
 use Rattle.std.specs.Cmp.{nat_cmp_is}
-use Rattle.std.specs.Cmp.Lexicographic.{slice_cmp}
+use Rattle.std.specs.Cmp.Lexicographic.{same_text, slice_cmp}
+use Rattle.std.specs.Str.{IsCharBoundary}
+use Rattle.std.specs.Str.Pattern.{FindsTextPrefix, StripsPrefix}
 use Rattle.std.proofs.lemmas.Cmp.{ranked}
-use Rattle.std.proofs.lemmas.List.{append-nil, drop_all, length-drop}
+use Rattle.std.proofs.lemmas.List.{append-nil, drop_all, length-drop, take-append-drop}
+use Rattle.std.proofs.lemmas.Str.Pattern.{starts_text}
 use Rattle.std.proofs.lemmas.Bool.Decides.{nat_tests}
 use Rattle.jwalk_model.specs.Paths.{parts, slash}
 use Rattle.jwalk_changes.specs.AtPath.{names, whole, rank, text_cmp, path_cmp, is_below}
@@ -132,6 +135,19 @@ whole_cmp d n e m = names_cmp (whole d n) (whole e m) ∙ ap₂ path_cmp (names_
 pub back_cmp : (d e n m : List ℕ) → d ≡ e → text_cmp n m ≡ path_cmp (names d ++ names n) (names e ++ names m)
 back_cmp d e n m same =
     names_cmp n m ∙ sym (path_cmp_after (names d) (names n) (names m)) ∙ ap (λ (k : List ℕ). path_cmp (names d ++ names n) (names k ++ names m)) same
+
+-- a front, and what is behind it
+pub strips : (front path rest : List ℕ) → StripsPrefix (FindsTextPrefix front) path rest → front ++ rest ≡ path
+strips front path rest (n, finds, is, len) =
+    ap₂ (λ l m. l ++ m) (same_text front (take (length front) path) (starts_text true front path (n, finds, subst (IsCharBoundary path) (sym finds.0) finds.2)))
+    (is ∙ ap (λ (k : ℕ). drop k path) finds.0)
+    ∙ take-append-drop (length front) path
+
+-- the names in a text that begins with a directory's and a slash
+pub names_behind : (d n rest path : List ℕ) → false ≡ (length d == 0) → false ≡ (length n == 0) → d ++ rest ≡ path → slash ∷ n ≡ rest → names path ≡ names d ++ names n
+names_behind [] n rest path more some is same = absurd (cc more)
+names_behind (c ∷ cs) [] rest path more some is same = absurd (cc some)
+names_behind (c ∷ cs) (e ∷ es) rest path more some is same = ap names (sym is ∙ ap (λ l. (c ∷ cs) ++ l) (sym same)) ∙ parts_append (c ∷ cs) (e ∷ es)
 
 -- ---- byte by byte
 

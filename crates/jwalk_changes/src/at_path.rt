@@ -1,5 +1,5 @@
 //! Paths, and their order by components.
-ghost use Rattle.std.specs.Prelude.{◌≡◌, ◌++◌, ℕ, List, length, slice_get, option_map};
+ghost use Rattle.std.specs.Prelude.{◌≡◌, ◌++◌, ℕ, List, length, slice_get, option_map, IfSome};
 ghost use Rattle.jwalk_changes.specs.AtPath.{names, path_cmp, is_below, rank, between, whole, text_cmp};
 
 use std::cmp::Ordering;
@@ -97,6 +97,30 @@ fn compare_whole(a: (&str, &str), b: (&str, &str)) -> Ordering
     }
 }
 
+/// Returns what is behind a directory in the text of a path below it.
+fn rest_below<'p>(folder: &str, path: &'p str) -> Option<&'p str>
+    ensures { IfSome result (λ rest. names path.now ≡ names folder.now ++ names rest.now) }
+{
+    let rest = path.strip_prefix(folder)?;
+    match rest.strip_prefix("/") {
+        Some(names) if !folder.is_empty() && !names.is_empty() => Some(names),
+        _ => None,
+    }
+}
+
+/// Returns what is behind a directory in a path below it, if one part of the path has that.
+fn behind<'p>(folder: &str, path: (&'p str, &'p str)) -> Option<&'p str>
+    ensures { IfSome result (λ rest. names path.entry.0.now ++ names path.entry.1.now ≡ names folder.now ++ names rest.now) }
+{
+    if path.0 == folder {
+        Some(path.1)
+    } else if path.0.is_empty() {
+        rest_below(folder, path.1)
+    } else {
+        None
+    }
+}
+
 /// Compares two paths by their names, one after another, each by its bytes. A path comes before all that is below it: of
 /// `a.b`, `a/b` and `a`, `a` is the first, and `a.b` the last.
 pub fn compare<P: AtPath, Q: AtPath>(a: &P, b: &Q) -> Ordering
@@ -105,10 +129,12 @@ pub fn compare<P: AtPath, Q: AtPath>(a: &P, b: &Q) -> Ordering
     let a = a.path_parts();
     let b = b.path_parts();
     // Most often both lie in one directory.
-    if a.0 == b.0 {
-        compare_texts(a.1, b.1)
-    } else {
-        compare_whole(a, b)
+    if let Some(rest) = behind(a.0, b) {
+        return compare_texts(a.1, rest);
+    }
+    match behind(b.0, a) {
+        Some(rest) => compare_texts(rest, b.1),
+        None => compare_whole(a, b),
     }
 }
 
