@@ -3,6 +3,7 @@
 
     python3 bench/since.py [COUNT [SEED [PROGRAM]]]
     python3 bench/since.py quick [COUNT [SEED [PROGRAM]]]
+    python3 bench/since.py closed [COUNT [SEED [PROGRAM]]]
     python3 bench/since.py damage [COUNT [SEED [PROGRAM]]]
     python3 bench/since.py killed [COUNT [SEED [PROGRAM]]]
     python3 bench/since.py sql [COUNT [SEED [PROGRAM]]]
@@ -17,6 +18,10 @@ thread and with four, and end with 1, or with 0 if nothing differs; and a tree t
 With `quick` the same trees are compared by `--quick`: its lines must be those of names and types. `strace` must be there:
 no directory may be listed that has the identity and the time of change that it had before the snapshot, and of a tree that
 didn't change none.
+
+With `closed` some directories of such trees are closed after the changes, and the user `nobody` calls the program: it tells
+all differences but those below them, an error for each, and ends with 2. So does `--save`, which keeps the old names
+below them: once they are open again, `since` prints what differs from those. It needs root.
 
 With `damage` a snapshot is changed in COUNT ways (2,000): a byte of it, its end, or its version. None may be taken, with
 `--save` neither: the status is 2, nothing is printed, the error names the file, and the file is left as it is.
@@ -256,6 +261,66 @@ def try_quick(program, count, seed):
     return None
 
 
+def is_below(path, places):
+    """Whether a path lies below one of these."""
+    return any(path.startswith(f"{place}/") for place in places)
+
+
+def close_some(rng, top):
+    """Closes some directories below a folder. Returns their paths behind it, but for those that lie in another."""
+    closed = []
+    for path in entries(top):
+        whole = os.path.join(top, path)
+        if os.path.isdir(whole) and not os.path.islink(whole) and not is_below(path, closed) and rng.random() < 0.3:
+            os.chmod(whole, 0)
+            closed.append(path)
+    return closed
+
+
+def as_nobody(program, *words):
+    return called(program, *words, user=65534, group=65534, extra_groups=[])
+
+
+def differs_beside(program, file, top, old, closed):
+    """The first call that doesn't print the differences beside closed directories, if there is one."""
+    now = {path: it for path, it in facts(top).items() if not is_below(path, closed)}
+    before = {path: it for path, it in old.items() if not is_below(path, closed)}
+    wanted = "".join(lines_of(before, now)).encode()
+    errors = {f"since: {top}/{path}: Permission denied (os error 13)" for path in closed}
+    status = 2 if closed else 1 if wanted else 0
+    for words in (["-j1"], ["-j4"], ["--save"]):
+        ran = as_nobody(program, "-l", *words, file, top)
+        if ran.stdout != wanted or {*ran.stderr.decode().splitlines()} != errors or ran.returncode != status:
+            return f"-l {words[0]} {file} {top}: {ran}"
+    return None
+
+
+def try_closed(program, count, seed):
+    rng, room = random.Random(seed), tempfile.mkdtemp(prefix="since_")
+    os.chmod(room, 0o777)
+    program = shutil.copy(program, room)
+    for number in range(count):
+        top = os.path.join(room, str(number))
+        os.mkdir(top)
+        plant(rng, top, [])
+        old = facts(top)
+        ran = as_nobody(program, "--save", f"{top}.since", top)
+        for _ in range(rng.randrange(6)):
+            change_one(rng, top)
+        closed = close_some(rng, top)
+        why = f"--save {top}.since {top}: {ran}" if ran.returncode else differs_beside(program, f"{top}.since", top, old, closed)
+        kept = {path: it for path, it in facts(top).items() if not is_below(path, closed)}
+        kept |= {path: it for path, it in old.items() if is_below(path, closed)}
+        for path in closed:
+            os.chmod(os.path.join(top, path), 0o755)
+        why = why or differs(program, f"{top}.since", top, kept)
+        if why:
+            return f"tree of seed {seed}: {why}"
+    shutil.rmtree(room)
+    print(f"{count} trees: since tells what lies beside closed directories, and keeps what it had below them")
+    return None
+
+
 def damaged(rng, text):
     """A text that is changed in one way."""
     kind = rng.randrange(4)
@@ -415,13 +480,14 @@ def try_speed(program, folder):
 
 def main():
     words = sys.argv[1:]
-    verb = words.pop(0) if words[:1] and words[0] in ("quick", "damage", "killed", "speed", "sql") else "trees"
+    verb = words.pop(0) if words[:1] and words[0] in ("quick", "closed", "damage", "killed", "speed", "sql") else "trees"
     program = words[2] if len(words) > 2 else PROGRAM
     if verb == "speed":
         return try_speed(words[1] if len(words) > 1 else PROGRAM, words[0] if words else "/usr")
     tries = {
         "trees": (try_trees, 200),
         "quick": (try_quick, 200),
+        "closed": (try_closed, 200),
         "damage": (try_damage, 2000),
         "killed": (try_killed, 200),
         "sql": (try_sql, 20),

@@ -78,8 +78,112 @@ $ since /keep/s
   - open/in
 ! since: /r/closed: Permission denied (os error 13)
 = 2
+-- what is saved has the names that it had before
 $ since -j1 --save /keep/s
   - open/in
 ! since: /r/closed: Permission denied (os error 13)
+= 2
+$ since /keep/s
+! since: /r/closed: Permission denied (os error 13)
+= 2
+then
+  m 755 /r/closed
+  f 1 /r/closed/new
+$ since /keep/s
+  + closed/new
+= 1
+
+# a first snapshot has no names of a directory that can't be read
+tree
+  d /keep
+  f 1 /r/closed/d/in
+  f 1 /r/open
+  m 777 /keep
+  m 0 /r/closed
+nobody
+$ since -j1 --save /keep/s /r
+! since: /r/closed: Permission denied (os error 13)
+= 2
+$ since /keep/s
+! since: /r/closed: Permission denied (os error 13)
+= 2
+then
+  m 755 /r/closed
+$ since /keep/s
+  + closed/d
+  + closed/d/in
+= 1
+
+# directories below one that can't be read keep their names too
+tree
+  d /keep
+  f 1 /r/a/b/c
+  f 1 /r/a/b-c
+  f 1 /r/a/b/d/e
+  f 1 /r/a-b
+  m 777 /keep
+nobody
+$ since -j1 --save /keep/s /r
+then
+  m 0 /r/a
+  f 1 /r/new
+$ since -j1 --save /keep/s
+  + new
+! since: /r/a: Permission denied (os error 13)
+= 2
+then
+  m 755 /r/a
+  - /r/a/b/d/e
+$ since /keep/s
+  - a/b/d/e
+= 1
+-- by names and types too: a directory that wasn't read has no stamp
+$ since --quick /keep/s
+  - a/b/d/e
+= 1
+
+# a root that can't be read: the file is left as it is
+tree
+  d /keep
+  f 1 /r/a
+  m 777 /keep
+nobody
+$ since -j1 --save /keep/s /r
+then
+  m 0 /r
+$ since -j1 --save /keep/s
+! since: /r: Permission denied (os error 13)
 ! since: /keep/s: left as it is, since not all could be read
+= 2
+then
+  m 755 /r
+$ since /keep/s
+
+# names that aren't UTF-8 are errors, and all others are compared and saved
+tree
+  d /keep
+  f 1 /r/a
+  f 1 /r/d/b
+  f 1 /r/d/bad\xff
+  d /r/\xe9
+$ since -j1 --save /keep/s /r
+! since: invalid filename in /r/d: bad\x5cxff
+! since: invalid filename in /r: \x5cxe9
+= 2
+then
+  f 1 /r/d/more
+  - /r/a
+$ since /keep/s
+  - a
+  + d/more
+! since: invalid filename in /r/d: bad\x5cxff
+! since: invalid filename in /r: \x5cxe9
+= 2
+then
+  - /r/d/more
+-- a directory with such a name has no stamp
+$ since --quick /keep/s
+  - a
+! since: invalid filename in /r/d: bad\x5cxff
+! since: invalid filename in /r: \x5cxe9
 = 2

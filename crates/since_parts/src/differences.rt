@@ -5,26 +5,10 @@ ghost use Rattle.since_parts.specs.Differences.{kept_at, AreDifferences, IsDiffe
 use crate::failure::Failure;
 use crate::found::Found;
 use crate::held::Held;
-use jwalk_changes::{Change, ChangesError, Kept, changes_between, compare};
+use crate::unread::ascending;
+use jwalk_changes::{Change, ChangesError, Kept, changes_between};
 use program_parts::halt::Halt;
 use std::alloc::{AllocError, Global};
-
-/// Returns places in ascending order, each once.
-fn ascending<'p>(alloc: Global, places: &'p [String]) -> Result<Vec<&'p str>, AllocError> {
-    let mut sorted = Vec::new(alloc);
-    for place in places {
-        sorted.push(place.as_str())?;
-    }
-    sorted.sort_by(|one, other| compare(one, other))?;
-    let mut once = Vec::new(alloc);
-    for place in sorted {
-        match once.last() {
-            Some(last) if *last == place => {}
-            _ => once.push(place)?,
-        }
-    }
-    Ok(once)
-}
 
 fn borrowed<'f>(alloc: Global, entries: &'f [Kept]) -> Result<Vec<&'f Kept>, AllocError>
     ensures { IfOk result (λ all. map kept_at all.items ≡ entries.now) }

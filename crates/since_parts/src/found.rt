@@ -28,6 +28,10 @@ pub struct Found {
     pub listings: Vec<Listing>,
     /// The paths of directories of which not all is known, behind the root. They may come twice and in any order.
     pub unread: Vec<String>,
+    /// The paths of directories with a name that isn't UTF-8, in the same way. All else in them is known.
+    pub unnamed: Vec<String>,
+    /// The root is a directory that could be read.
+    pub has_root: bool,
     /// All could be read.
     pub clean: bool,
 }
@@ -42,21 +46,32 @@ fn facts_of<C: ClientState, A: Allocator + Copy>(found: &DirEntry<C, A>) -> Fact
     compared(found.file_type(), kept, true)
 }
 
-/// Reports an error with its path, or else with that of the directory that it came in.
+/// Reports an error with its path, or else with that of the directory that it came in. The text of an error of a name that
+/// isn't UTF-8 has the directory and the name.
 fn report<A: Allocator + Copy, E: Write>(error: &Error<A>, err: &mut E) {
     let _ = match (error.path(), error.parent_path(), error.io_error()) {
         (Some(path), _, Some(io)) => writeln!(err, "since: {path}: {io}"),
-        (None, Some(folder), _) => writeln!(err, "since: {folder}: {error}"),
+        (None, Some(folder), Some(io)) if error.name_bytes().is_none() => {
+            writeln!(err, "since: {folder}: {io}")
+        }
         _ => writeln!(err, "since: {error}"),
     };
 }
 
-/// Returns the path of the directory of which not all is known, since this error came. If that can't be told, it is the
-/// root's.
+/// Returns the path behind the root of a directory that an error came in, which is the root for that itself.
+fn folder_behind<'e>(tree: &'e Tree, folder: &'e str) -> &'e str {
+    if folder == tree.root.as_str() {
+        ""
+    } else {
+        tree.behind(folder)
+    }
+}
+
+/// Returns the path of the directory that this error came in, behind the root. If that can't be told, it is the root's.
 fn place_of<'e, A: Allocator + Copy>(tree: &'e Tree, error: &'e Error<A>) -> &'e str {
     match (error.path(), error.parent_path()) {
-        (Some(path), _) if error.depth() > 0 => tree.behind(parent(path).unwrap_or("")),
-        (None, Some(folder)) => tree.behind(folder),
+        (Some(path), _) if error.depth() > 0 => folder_behind(tree, parent(path).unwrap_or("")),
+        (None, Some(folder)) => folder_behind(tree, folder),
         _ => "",
     }
 }
@@ -69,6 +84,8 @@ impl Found {
             entries: Vec::new(alloc),
             listings: Vec::new(alloc),
             unread: Vec::new(alloc),
+            unnamed: Vec::new(alloc),
+            has_root: true,
             clean: true,
         }
     }
@@ -79,7 +96,21 @@ impl Found {
         ensures unclean { self.new.clean ≡ false }
     {
         self.clean = false;
+        if place.is_empty() {
+            self.has_root = false;
+        }
         self.unread.push(String::from_str(alloc, place)?)?;
+        Ok(())
+    }
+
+    /// Notes that a name in a directory isn't UTF-8.
+    fn miss_name(&mut self, alloc: Global, folder: &str) -> Result<(), Failure>
+        ensures entries { self.new.entries ≡ self.old.entries }
+        ensures listings { self.new.listings ≡ self.old.listings }
+        ensures unclean { self.new.clean ≡ false }
+    {
+        self.clean = false;
+        self.unnamed.push(String::from_str(alloc, folder)?)?;
         Ok(())
     }
 
@@ -96,7 +127,12 @@ impl Found {
         ensures unclean { self.new.clean ≡ false }
     {
         report(error, err);
-        self.miss(alloc, place_of(tree, error))
+        let place = place_of(tree, error);
+        if error.name_bytes().is_some() {
+            self.miss_name(alloc, place)
+        } else {
+            self.miss(alloc, place)
+        }
     }
 
     /// Keeps the path of an entry behind the root, if it counts.

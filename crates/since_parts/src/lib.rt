@@ -13,3 +13,4 @@ mod listing;
 pub mod row;
 pub mod saved;
 pub mod tree;
+pub mod unread;

@@ -15,7 +15,7 @@ use Rattle.since_parts.specs.declared.found.Found.{Found}
 use Rattle.since_parts.specs.declared.tree.Tree.{Tree}
 use Rattle.since_run.specs.Call.{IsCallOf}
 use Rattle.since_run.specs.Compared.{ComparesAll, ComparesBytes, ComparesQuickly}
-use Rattle.since_run.specs.Done.{Begins, Does, DoesAsked, EndsWith, Lists, SavesAsked, Tells}
+use Rattle.since_run.specs.Done.{Begins, Does, DoesAsked, EndsWith, Lists, SavesAsked, SavesRest, Tells}
 use Rattle.since_run.specs.Run.{status_for, HasTextAsked, IsLoaded, ReplacesBy}
 use Rattle.since_run.specs.Yielded.{Walks}
 use Rattle.since_run.specs.declared.call.Call.{Call}
@@ -37,19 +37,11 @@ low_if false = omega arith
 pub status_low : (changes : List Difference) → status_for changes ≤ 1
 status_low changes = low_if (length changes == 0)
 
-none_above : (n : ℕ) → n ≤ 1 → n ≡ 2 → ⊥
-none_above n low is = omega (arith, low, is)
-
 module _ {K : Type 0} (replaces : K → List ℕ → List ℕ → K → Type 0) (asked : Asked) (told : Told) (low : told.status ≤ 1) (old new : K) (status : ℕ) where
   -- a call that told 0 or 1 ends with 0, 1 or 2
   pub ends_low : EndsWith replaces asked told old new status → status ≤ 2
   ends_low (inl (clean, is, saves)) = omega (arith, low, is)
   ends_low (inr (unclean, is, unsaved)) = omega (arith, is)
-
-  -- and with 2 it saved nothing
-  pub ends_unsaved : EndsWith replaces asked told old new status → status ≡ 2 → new ≡ old
-  ends_unsaved (inl (clean, is, saves)) two = absurd (none_above told.status low (sym is ∙ two))
-  ends_unsaved (inr (unclean, is, unsaved)) two = unsaved
 
 -- a call that is made of what the program runs on
 pub is_call : {T Z X : Type 0} {since : Since T Z X} {asked : Asked} {call : Call T X} {threads : ℕ} → arc_value call.texts ≡ since.texts → threads ≡ threads_in since.cores asked.threads → IsCrewOf threads call.crew
@@ -80,12 +72,6 @@ module _ {T Z X K : Type 0} (walks : Walks T Z X) (store : Store.Ghosts K) (disk
   does_low status (inr (inl it)) = omega (arith, it.lists.none)
   does_low status (inr (inr it)) = ends_low store.Replaces call.asked.now it.told (told_low it.bytes it.told it.compares) old new status it.ends
 
-  -- and with 2 it saved nothing
-  does_unsaved : (status : ℕ) → Does walks store disk call before after old new status → status ≡ 2 → new ≡ old
-  does_unsaved status (inl it) two = ends_unsaved store.Replaces call.asked.now it.begins.told (zero_low it.begins.told.status it.begins.none) old new status it.begins.ends two
-  does_unsaved status (inr (inl it)) two = it.unsaved
-  does_unsaved status (inr (inr it)) two = ends_unsaved store.Replaces call.asked.now it.told (told_low it.bytes it.told it.compares) old new status it.ends two
-
 module _ {T Z X K : Type 0} (walks : Walks T Z X) (store : Store.Ghosts K) (since : Since T Z X) (asked : Asked) (before after : Option (List ℕ)) (old new : K) where
   -- what a call did that ended with this status
   abbrev pub Did : ℕ → Type 0
@@ -97,15 +83,10 @@ module _ {T Z X K : Type 0} (walks : Walks T Z X) (store : Store.Ghosts K) (sinc
   run_low (Err e) status did same failed = omega (arith, failed)
 
   -- it did what is asked for, or ended early
-  pub run_ends : {Y : Type 0} (ended : Result ℕ Y) (words : List (List ℕ)) (status : ℕ) (IsTold : Type 0) → IfOk ended Did → AskFor words asked → IfOk ended (λ n. status ≡ n) → OnErr ended (status ≡ 2) → OnErr ended IsTold
-      → DoesAsked walks store since words before after old new status ⊎ ((status ≡ 2) × IsTold)
-  run_ends (Ok n) words status IsTold did asks same failed told = inl (asked, asks, subst Did (sym same) did)
-  run_ends (Err e) words status IsTold did asks same failed told = inr (failed, told)
-
-  -- with 2 it saved nothing
-  pub run_unsaved : {Y : Type 0} (ended : Result ℕ Y) (status : ℕ) → IfOk ended Did → IfOk ended (λ n. status ≡ n) → OnErr ended (new ≡ old) → status ≡ 2 → new ≡ old
-  run_unsaved (Ok n) status did same kept two = does_unsaved walks store since.disk did.call before after old new n did.does (sym same ∙ two)
-  run_unsaved (Err e) status did same kept two = kept
+  pub run_ends : {Y : Type 0} (ended : Result ℕ Y) (words : List (List ℕ)) (status : ℕ) (IsTold : Type 0) → IfOk ended Did → AskFor words asked → IfOk ended (λ n. status ≡ n) → OnErr ended (status ≡ 2) → OnErr ended (new ≡ old) → OnErr ended IsTold
+      → DoesAsked walks store since words before after old new status ⊎ ((status ≡ 2) × (new ≡ old) × IsTold)
+  run_ends (Ok n) words status IsTold did asks same failed kept told = inl (asked, asks, subst Did (sym same) did)
+  run_ends (Err e) words status IsTold did asks same failed kept told = inr (failed, kept, told)
 
   -- a first snapshot that is saved where there is no file
   pub tells_made : {Y : Type 0} (ended : Result ℕ Y) (call : Call T X) (found : Option (Vec ℕ Global)) → IfOk ended (Begins walks store since.disk call old new)

@@ -1,5 +1,5 @@
 -- What a call does.
-use Rattle.std.specs.Prelude.{◌≡◌, ◌⊎◌, ℕ, true, false, List, Option, Ok, Err, string_bytes}
+use Rattle.std.specs.Prelude.{◌≡◌, ◌⊎◌, ℕ, true, false, List, Option, None, Some, Ok, Err, string_bytes}
 use Rattle.std.specs.Io.KnownBytes.{Appends}
 use Rattle.std.specs.declared.io.ErrorKind.TheVariants.{NotFound}
 use Rattle.jwalk.specs.jwalk_model.Paths.{dot}
@@ -33,10 +33,14 @@ pub record Lists {T X : Type 0} (call : Call T X) (bytes : List ℕ) (before aft
   pub written : Appends before after (rows_asked call snapshot)
   pub none : status ≡ 0
 
--- A call ends with the status that is told, and what was found is saved if that is asked for. Or not all could be read: then it ends with 2, and nothing is saved.
+-- Not all could be read: something else than what was found is saved in its place, if that is asked for, or nothing is.
+abbrev pub SavesRest : {K : Type 0} → (K → List ℕ → List ℕ → K → Type 0) → Asked → Told → K → K → Type 0
+SavesRest replaces asked told old new = ((rest : Found) × (told.rest ≡ Some rest) × SavesAsked replaces asked told.tree rest old new) ⊎ ((told.rest ≡ None) × (new ≡ old))
+
+-- A call ends with the status that is told, and what was found is saved if that is asked for. Or not all could be read: then it ends with 2.
 abbrev pub EndsWith : {K : Type 0} → (K → List ℕ → List ℕ → K → Type 0) → Asked → Told → K → K → ℕ → Type 0
 EndsWith replaces asked told old new status =
-    ((told.found.clean ≡ true) × (status ≡ told.status) × SavesAsked replaces asked told.tree told.found old new) ⊎ ((told.found.clean ≡ false) × (status ≡ 2) × (new ≡ old))
+    ((told.found.clean ≡ true) × (status ≡ told.status) × SavesAsked replaces asked told.tree told.found old new) ⊎ ((told.found.clean ≡ false) × (status ≡ 2) × SavesRest replaces asked told old new)
 
 module _ {T Z X K : Type 0} (walks : Walks T Z X) (store : Store.Ghosts K) (disk : Z) (call : Call T X) where
   -- A first snapshot is saved.
@@ -87,7 +91,7 @@ module _ {T Z X K : Type 0} (walks : Walks T Z X) (store : Store.Ghosts K) (sinc
   abbrev pub DoesAsked : List (List ℕ) → Option (List ℕ) → Option (List ℕ) → K → K → ℕ → Type 0
   DoesAsked words before after old new status = (asked : Asked) × AskFor words asked × Tells asked before after old new status
 
-  -- A call was asked for a text, or did what its words ask for; or it ended early with 2, and why was told last.
+  -- A call was asked for a text, or did what its words ask for; or it ended early with 2, saved nothing, and why was told last.
   abbrev pub Ends : List (List ℕ) → Option (List ℕ) → Option (List ℕ) → K → K → ℕ → Type 0 → Type 0
   Ends words before after old new status is_told =
-      (AskForText words × (status ≡ 0)) ⊎ (DoesAsked words before after old new status ⊎ ((status ≡ 2) × is_told))
+      (AskForText words × (status ≡ 0) × (new ≡ old)) ⊎ (DoesAsked words before after old new status ⊎ ((status ≡ 2) × (new ≡ old) × is_told))

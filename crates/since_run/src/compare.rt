@@ -26,8 +26,9 @@ use since_parts::failure::Failure;
 use since_parts::found::Found;
 use since_parts::held::{Held, all_held};
 use since_parts::tree::Tree;
+use since_parts::unread::with_held;
 use since_words::asked::Asked;
-use std::alloc::Global;
+use std::alloc::{AllocError, Global};
 use std::io::Write;
 use std::sync::Arc;
 
@@ -36,6 +37,8 @@ use std::sync::Arc;
 pub(crate) struct Told {
     pub(crate) tree: Tree,
     pub(crate) found: Found,
+    /// What is saved in place of what was found, if not all could be read but the root.
+    pub(crate) rest: Option<Found>,
     /// 0 if nothing differs, and else 1.
     pub(crate) status: u8,
 }
@@ -106,6 +109,19 @@ fn tree_for<T, X: Texts>(call: &Call<'_, '_, T, X>, head: &Head<'_>) -> Result<T
     )
 }
 
+/// Returns what is saved in place of what was found, if not all could be read but the root: below directories that could
+/// not be read it has what a snapshot holds, if there is one.
+pub(crate) fn rest_of<T, X>(
+    call: &Call<'_, '_, T, X>,
+    held: Option<&[Held<'_, '_>]>,
+    found: &Found,
+) -> Result<Option<Found>, AllocError> {
+    if !call.asked.save || found.clean || !found.has_root {
+        return Ok(None);
+    }
+    Ok(Some(with_held(call.alloc, held, found)?))
+}
+
 /// Writes what differs between a snapshot and what was found in a tree.
 fn compare<T, X, W: Write>(
     call: &Call<'_, '_, T, X>,
@@ -120,6 +136,7 @@ fn compare<T, X, W: Write>(
 {
     let numbers = snapshot.head.absolute == tree.absolute.as_str();
     let old = all_held(call.alloc, snapshot, numbers)?;
+    let rest = rest_of(call, Some(&old), &found)?;
     let changes = differences(call.alloc, old, &found)?;
     write_changes(call, &changes, out)?;
     let status = status_for(&changes);
@@ -127,6 +144,7 @@ fn compare<T, X, W: Write>(
     Ok(Told {
         tree,
         found,
+        rest,
         status,
     })
 }

@@ -1,15 +1,15 @@
 //! A call of the program.
-ghost use Rattle.std.specs.Prelude.{◌≡◌, ◌≤◌, true, codes, map, string_bytes, IfOk, OnErr, OnOk};
+ghost use Rattle.std.specs.Prelude.{◌≡◌, ◌≤◌, codes, map, string_bytes, IfOk, OnErr, OnOk};
 ghost use Rattle.std.specs.Io.KnownBytes.{Appends};
 ghost use Rattle.jwalk_model.specs.Paths.{dot};
 ghost use Rattle.jwalk_snapshot.specs.Text.{content_of};
 ghost use Rattle.program_parts.specs.Errors.{IsTold};
 ghost use Rattle.since_run.specs.Run.{root_asked, rows_asked, HasTextAsked, IsLoaded, IsMissing, ReplacesBy};
-ghost use Rattle.since_run.specs.Done.{Begins, Ends, EndsWith, Lists, Tells};
+ghost use Rattle.since_run.specs.Done.{Begins, Ends, EndsWith, Lists, SavesAsked, SavesRest, Tells};
 
 use crate::call::Call;
 use crate::choice::choice_in;
-use crate::compare::{Told, compare_file, read_snapshot};
+use crate::compare::{Told, compare_file, read_snapshot, rest_of};
 use crate::find::find;
 use crate::rows::write_rows;
 use crate::screen::Screen;
@@ -56,25 +56,16 @@ fn load<T, X: Texts>(call: &Call<'_, '_, T, X>) -> Result<Option<Vec<u8>>, Failu
     }
 }
 
-/// Returns the text to be saved, if one is asked for. None is if not all could be read.
-fn text_to_save<E: Write>(
+/// Returns the text to be saved, if one is asked for.
+fn text_to_save(
     alloc: Global,
     asked: &Asked<'_>,
     tree: &Tree,
     found: &Found,
-    err: &mut E,
 ) -> Result<Option<String>, Failure>
-    ensures { IfOk result (λ text. found.now.clean ≡ true → HasTextAsked asked.now tree.now found.now text) }
+    ensures { IfOk result (HasTextAsked asked.now tree.now found.now) }
 {
     if !asked.save {
-        return Ok(None);
-    }
-    if !found.clean {
-        let _ = writeln!(
-            err,
-            "since: {}: left as it is, since not all could be read",
-            asked.file
-        );
         return Ok(None);
     }
     let text = saved_text(alloc, asked.file, tree, found)?;
@@ -123,6 +114,45 @@ fn root_or_here<'a>(asked: &Asked<'a>) -> &'a str
     }
 }
 
+/// Replaces the file by this, which was found in a tree, if that is asked for.
+fn save<K: Store>(
+    alloc: Global,
+    store: &mut K,
+    asked: &Asked<'_>,
+    tree: &Tree,
+    found: &Found,
+) -> Result<(), Failure>
+    ensures saves { OnOk result (SavesAsked K.Replaces asked.now tree.now found.now store.old store.new) }
+    ensures kept { OnErr result (store.new ≡ store.old) }
+{
+    let text = text_to_save(alloc, asked, tree, found)?;
+    replace(alloc, store, asked.file, &text)
+}
+
+/// Replaces the file where not all could be read, if that is asked for and the root was read.
+fn save_rest<K: Store, E: Write>(
+    alloc: Global,
+    store: &mut K,
+    asked: &Asked<'_>,
+    told: &Told,
+    err: &mut E,
+) -> Result<(), Failure>
+    ensures saves { OnOk result (SavesRest K.Replaces asked.now told.now store.old store.new) }
+    ensures kept { OnErr result (store.new ≡ store.old) }
+{
+    if let Some(rest) = &told.rest {
+        return save(alloc, store, asked, &told.tree, rest);
+    }
+    if asked.save {
+        let _ = writeln!(
+            err,
+            "since: {}: left as it is, since not all could be read",
+            asked.file
+        );
+    }
+    Ok(())
+}
+
 /// Replaces the file by what was found, if that is asked for. Returns the status.
 fn save_told<K: Store, E: Write>(
     alloc: Global,
@@ -134,11 +164,11 @@ fn save_told<K: Store, E: Write>(
     ensures ends { IfOk result (EndsWith K.Replaces asked.now told.now store.old store.new) }
     ensures kept { OnErr result (store.new ≡ store.old) }
 {
-    let text = text_to_save(alloc, asked, &told.tree, &told.found, err)?;
     if !told.found.clean {
+        save_rest(alloc, store, asked, told, err)?;
         return Ok(2);
     }
-    replace(alloc, store, asked.file, &text)?;
+    save(alloc, store, asked, &told.tree, &told.found)?;
     Ok(told.status)
 }
 
@@ -164,9 +194,11 @@ fn begin<
     )?;
     let disk = Arc::new(call.alloc, disk)?;
     let found = find(call, disk, &tree, err)?;
+    let rest = rest_of(call, None, &found)?;
     let told = Told {
         tree,
         found,
+        rest,
         status: 0,
     };
     save_told(call.alloc, store, call.asked, &told, err)
@@ -281,8 +313,6 @@ impl<'a, T: Host, S: FileSystem + Send + Sync + 'static, X: Texts + Send + Sync 
         ensures status { result ≤ 2 }
         ensures ends { Ends ⟦<S as Walkable<T, X>>⟧.walks K.Store self.entry (map string_bytes words.now) (W.contents out.old)
             (W.contents out.new) store.old store.new result (IsTold E.contents (codes "since") err.new) }
-        // Where the status is 2, nothing was saved.
-        ensures unsaved { result ≡ 2 → store.new ≡ store.old }
     {
         let (alloc, screen) = (self.alloc, self.screen);
         match read_words(alloc, words) {

@@ -13,6 +13,6 @@ returns-clause-writes g c =
       holds = subst (λ (b : Bool). HoldsAll b (content_of c.args.snapshot.now) (map seen_in c.in_ok-old.old.items)) numbers c.in_ok-old.ensures;
       changes = c.in_ok-changes.changes.items;
       differ = c.in_ok-changes.ensures;
-      written = written_at c.args.call.now _ _ _ _ c.deref.ensures.value c.in_ok-write_changes.ensures;
-      tells = c.status_for-status.ensures ∙ ap status_for c.deref-2.ensures.value;
+      written = written_at c.args.call.now _ _ _ _ c.deref-2.ensures.value c.in_ok-write_changes.ensures;
+      tells = c.status_for-status.ensures ∙ ap status_for c.deref-3.ensures.value;
     }

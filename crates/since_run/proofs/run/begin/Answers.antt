@@ -12,7 +12,7 @@ returns-clause-begins g c =
     let tree = c.in_ok-tree.tree in
     let is = c.in_ok-tree.ensures in
     IfOk-weaker c.save_told.result _ _ (λ status ends. record {
-      told = record { tree = tree; found = c.in_ok-found.found; status = 0 };
+      told = record { tree = tree; found = c.in_ok-found.found; rest = c.in_ok-rest.rest; status = 0 };
       none = refl;
       tree_is = tree_at g.X.Texts call c.root_or_here.result.now (root_asked call.asked.now dot) c.root_or_here.ensures tree is.root is.front is.start is.own;
       chosen = words_at c.in_ok-choice.choice tree.choice call.asked.now is.choice c.in_ok-choice.ensures;
