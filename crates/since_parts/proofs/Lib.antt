@@ -5,4 +5,3 @@ mod HeldFacts
 mod JsonFacts
 mod SavedFacts
 mod TreeFacts
-mod RecordFacts

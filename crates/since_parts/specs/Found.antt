@@ -13,6 +13,10 @@ use Rattle.since_parts.specs.Tree.{behind, counts, front_in, own_in}
 use Rattle.since_parts.specs.declared.found.Found.{Found}
 use Rattle.since_parts.specs.declared.tree.Tree.{Tree}
 
+-- What is found comes behind what was found before.
+abbrev pub FindsMore : Found → Found → List Seen → Type 0
+FindsMore old new seen = map seen_of new.entries.items ≡ map seen_of old.entries.items ++ seen
+
 -- a path behind the root with what is compared there, unless it is that of the file with the snapshot
 abbrev pub kept_one : Option (List ℕ) → List ℕ → changes.Facts → List Seen
 kept_one own path facts = if counts own path then record { path = path; facts = facts } ∷ [] else []
@@ -45,7 +49,7 @@ module _ {R E : Type 0} where
 
   -- An answer is taken: what is found at it comes behind what was found before, and so how its directory was listed, and it is known whether all are clean.
   pub record TakesOne (tree : Tree) (x : Item R E) (old new : Found) : Type 0 where
-    pub found : map seen_of new.entries.items ≡ map seen_of old.entries.items ++ found_one (front_in tree) (own_in tree) x
+    pub found : FindsMore old new (found_one (front_in tree) (own_in tree) x)
     pub listed : new.listings.items ≡ old.listings.items ++ listed_one tree x
     pub clean : new.clean ≡ (old.clean && is_clean x)
 

@@ -9,4 +9,3 @@ pub mod Line
 pub mod Json
 pub mod Row
 pub mod Saved
-pub mod Records

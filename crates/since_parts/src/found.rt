@@ -1,9 +1,8 @@
 //! What a walk finds.
-ghost use Rattle.std.specs.Prelude.{◌≡◌, ◌++◌, ◌&&◌, Ok, false, map, OnOk};
+ghost use Rattle.std.specs.Prelude.{◌≡◌, ◌++◌, ◌&&◌, Ok, false, OnOk};
 ghost use Rattle.std.specs.Iterator.{IsFinite};
 ghost use Rattle.jwalk_job.specs.Entry.{entry, item};
-ghost use Rattle.since_parts.specs.Facts.{seen_of};
-ghost use Rattle.since_parts.specs.Found.{facts_seen, found_at, is_read, kept_one, HasNone, TakesAll, TakesOne};
+ghost use Rattle.since_parts.specs.Found.{facts_seen, found_at, is_read, kept_one, FindsMore, HasNone, TakesAll, TakesOne};
 ghost use Rattle.since_parts.specs.Listing.{listed_at, listed_below};
 ghost use Rattle.since_parts.specs.Tree.{front_in, own_in};
 
@@ -102,8 +101,7 @@ impl Found {
 
     /// Keeps the path of an entry behind the root, if it counts.
     fn keep(&mut self, alloc: Global, tree: &Tree, path: &str, facts: Facts) -> Result<(), Failure>
-        ensures kept { OnOk result (map seen_of self.new.entries.items
-            ≡ map seen_of self.old.entries.items ++ kept_one (own_in tree.now) path.now facts) }
+        ensures kept { OnOk result (FindsMore self.old self.new (kept_one (own_in tree.now) path.now facts)) }
         ensures listings { self.new.listings ≡ self.old.listings }
         ensures clean { self.new.clean ≡ self.old.clean }
     {
@@ -139,8 +137,8 @@ impl Found {
         tree: &Tree,
         found: &DirEntry<C, A>,
     ) -> Result<(), Failure>
-        ensures kept { OnOk result (map seen_of self.new.entries.items
-            ≡ map seen_of self.old.entries.items ++ found_at (front_in tree.now) (own_in tree.now) (entry found.now)) }
+        ensures kept { OnOk result (FindsMore self.old self.new
+            (found_at (front_in tree.now) (own_in tree.now) (entry found.now))) }
         ensures listed { OnOk result (self.new.listings.items
             ≡ self.old.listings.items ++ listed_at tree.now (entry found.now)) }
         ensures clean { self.new.clean ≡ self.old.clean }

@@ -10,7 +10,6 @@ pub mod held;
 pub mod json;
 pub mod line;
 mod listing;
-pub mod records;
 pub mod row;
 pub mod saved;
 pub mod tree;

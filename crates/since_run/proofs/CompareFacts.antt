@@ -20,10 +20,10 @@ use Rattle.jwalk_indexed_fs.specs.Listing.{typed_functions}
 use Rattle.jwalk_indexed_fs.proofs.WalkFacts.{types_are_enough}
 use Rattle.jwalk_snapshot.specs.Text.{Call, Content, folder_of}
 use Rattle.jwalk_snapshot.specs.declared.block.Block.{Block}
+use Rattle.jwalk_snapshot_index.specs.Records.{IsIndexOf}
 use Rattle.program_walks.specs.Crew.{CrewCallsOf}
 use Rattle.since_words.specs.declared.asked.Asked.{Asked}
 use Rattle.since_parts.specs.Differences.{Difference}
-use Rattle.since_parts.specs.Records.{IsIndexOf}
 use Rattle.since_parts.specs.Tree.{front_in, front_of, IsTree}
 use Rattle.since_parts.specs.declared.choice.Choice.{Choice}
 use Rattle.since_parts.specs.declared.found.Found.{Found}

@@ -13,12 +13,12 @@ use Rattle.jwalk_indexed_fs.specs.Index.{Vouches}
 use Rattle.jwalk_indexed_fs.specs.declared.index.Index.{Index}
 use Rattle.jwalk_indexed_fs.specs.declared.indexed_fs.IndexedFs.{IndexedFs}
 use Rattle.jwalk_snapshot.specs.Text.{Call, Content, IsSnapshot, text_of}
+use Rattle.jwalk_snapshot_index.specs.Records.{IsIndexOf}
 use Rattle.program_walks.specs.Crew.{CrewCallsOf}
 use Rattle.since_words.specs.declared.asked.Asked.{Asked}
 use Rattle.since_parts.specs.Choice.{has_rules}
 use Rattle.since_parts.specs.Differences.{AreDifferences, Difference}
 use Rattle.since_parts.specs.Held.{HoldsAll, seen_in}
-use Rattle.since_parts.specs.Records.{IsIndexOf}
 use Rattle.since_parts.specs.Tree.{front_in, front_of, IsTree}
 use Rattle.since_parts.specs.declared.found.Found.{Found}
 use Rattle.since_parts.specs.declared.held.Held.{Held}

@@ -3,7 +3,7 @@ use Rattle.std.proofs.Common.{◌≡◌, ◌∙◌, ℕ, Bool, true, false, List
 use Rattle.std.specs.Prelude.{find, option_and_then, if◌then◌else◌}
 use Rattle.std.proofs.lemmas.List.{reverse-append}
 use Rattle.jwalk_snapshot.specs.Text.{Folder}
-use Rattle.since_parts.specs.Records.{is_kept_at, record_in, record_kept, record_of}
+use Rattle.jwalk_snapshot_index.specs.Records.{is_kept_at, record_in, record_kept, record_of}
 
 found_first : (f : Folder) (others : Option Folder) (b : Bool) → option_and_then record_of (if b then Some f else others) ≡ (if b then record_of f else option_and_then record_of others)
 found_first f others true = refl

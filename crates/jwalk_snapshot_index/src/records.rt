@@ -2,7 +2,7 @@
 ghost use Rattle.std.specs.Prelude.{◌≡◌, List, ℕ, map, string_bytes, IfOk, OnOk};
 ghost use Rattle.jwalk_indexed_fs.specs.Index.{record_at};
 ghost use Rattle.jwalk_snapshot.specs.Text.{entry_of, folder_of};
-ghost use Rattle.since_parts.specs.Records.{name_kept, place_of, record_kept, IsIndexOf};
+ghost use Rattle.jwalk_snapshot_index.specs.Records.{name_kept, place_of, record_kept, IsIndexOf};
 
 use jwalk_fs::path_text::join;
 use jwalk_indexed_fs::index::Index;
