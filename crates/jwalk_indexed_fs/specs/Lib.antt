@@ -7,3 +7,4 @@ pub mod Records
 pub mod Index
 pub mod Taken
 pub mod Walks
+pub mod Asking

@@ -9,6 +9,7 @@ use Rattle.jwalk_model.specs.Job.{Job, reading, root_list}
 use Rattle.jwalk_model.specs.Kept.{keeping_none}
 use Rattle.jwalk_model.specs.Walk.{whole_walk}
 use Rattle.jwalk_model.specs.declared.metadata.Metadata.{Metadata}
+use Rattle.jwalk_indexed_fs.specs.Asking.{asking_functions, ListsWhole}
 use Rattle.jwalk_indexed_fs.specs.Listing.{typed_functions}
 
 -- Options under which a walk needs no more of a listing than types: it sorts, follows no links, and may leave its file system.
@@ -34,6 +35,15 @@ module _ {R E : Type 0} where
     pub walks : (root : List ℕ) (state : R) → whole_walk (over_types job) root state ≡ whole_walk (keeping_none job) root state
     pub filtered : (test : Entry R E → Result Metadata ErrorKind → Bool) (root : List ℕ) (state : R)
         → filter (passing test (typed_functions job.fs)) (whole_walk (over_types job) root state) ≡ filter (passing test job.fs) (whole_walk (keeping_none job) root state)
+
+-- the job over such listings, whose names are asked for if that is wanted
+abbrev pub over_asked : {R E : Type 0} → Bool → Job R E → Job R E
+over_asked asks job = record job { fs = asking_functions asks (typed_functions job.fs) }
+
+-- A walk over such listings is the same as over the listings themselves, if names are asked for where metadata is kept, and the listings say what asking returns.
+abbrev pub AskingIsEnough : Type 0 → Type 0 → Type 0
+AskingIsEnough R E =
+    (job : Job R E) (asks : Bool) → NeedsTypesAlone job.options → (job.options.keep_metadata ≡ true → asks ≡ true) → (asks ≡ true → ListsWhole job.fs) → (root : List ℕ) (state : R) → whole_walk (over_asked asks job) root state ≡ whole_walk job root state
 
 -- Under such options types are enough, whatever the callback is.
 abbrev pub TypesAreEnough : Type 0 → Type 0 → Type 0

@@ -59,22 +59,20 @@ impl<S: FileSystem> FileSystem for IndexedFs<S> {
 
     ghost functions = { λ s. typed_functions (S.functions s.fs) };
 
-    fn read_dir<A: Allocator + Copy>(
-        &self,
-        alloc: A,
-        path: &str,
-    ) -> Result<Vec<io::Result<Listed<A>>, A>, Fault> {
+    fn read_dir<A>(&self, alloc: A, path: &str) -> Result<Vec<io::Result<Listed<A>>, A>, Fault>
+    where
+        A: Allocator + Copy,
+    {
         let mut items = Kept::new(alloc);
         self.read_dir_into(alloc, path, &mut items)?;
         Ok(items.items)
     }
 
-    fn read_dir_into<A: Allocator + Copy, K: Sink>(
-        &self,
-        alloc: A,
-        path: &str,
-        sink: &mut K,
-    ) -> Result<(), Fault> {
+    fn read_dir_into<A, K>(&self, alloc: A, path: &str, sink: &mut K) -> Result<(), Fault>
+    where
+        A: Allocator + Copy,
+        K: Sink,
+    {
         match self.current(path)? {
             Some(kept) => {
                 kept.list_into(sink)?;

@@ -1,7 +1,8 @@
-//! A file system that lists a directory from an earlier listing while the directory's stamp is the same, and one that
-//! keeps such listings.
+//! A file system that lists a directory from an earlier listing while the directory's stamp is the same, one that keeps
+//! such listings, and one that asks for the metadata of what it lists.
 #![tactic(auto)]
 
+pub mod asking_fs;
 pub mod index;
 pub mod indexed_fs;
 mod item;

@@ -62,22 +62,20 @@ impl<S: FileSystem, R: Wait + Drop> FileSystem for RecordingFs<S, R> {
 
     ghost functions = { λ s. S.functions s.fs };
 
-    fn read_dir<A: Allocator + Copy>(
-        &self,
-        alloc: A,
-        path: &str,
-    ) -> Result<Vec<io::Result<Listed<A>>, A>, Fault> {
+    fn read_dir<A>(&self, alloc: A, path: &str) -> Result<Vec<io::Result<Listed<A>>, A>, Fault>
+    where
+        A: Allocator + Copy,
+    {
         let mut items = Kept::new(alloc);
         self.read_dir_into(alloc, path, &mut items)?;
         Ok(items.items)
     }
 
-    fn read_dir_into<A: Allocator + Copy, K: Sink>(
-        &self,
-        alloc: A,
-        path: &str,
-        sink: &mut K,
-    ) -> Result<(), Fault> {
+    fn read_dir_into<A, K>(&self, alloc: A, path: &str, sink: &mut K) -> Result<(), Fault>
+    where
+        A: Allocator + Copy,
+        K: Sink,
+    {
         let kept = taken::list_into(&self.fs, self.start, self.alloc, alloc, path, sink)?;
         self.keep(path, kept)?;
         Ok(())
