@@ -2,9 +2,13 @@
 #![tactic(auto)]
 
 #[cfg(test)]
+mod asked;
+#[cfg(test)]
 mod bad_names;
 #[cfg(test)]
 mod folder;
+#[cfg(test)]
+mod of_snapshot;
 #[cfg(test)]
 mod recorded;
 #[cfg(test)]

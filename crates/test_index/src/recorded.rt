@@ -75,7 +75,7 @@ const ROWS: &[Row] = &[
     },
 ];
 
-fn names_of(alloc: Global, kept: &Record) -> Result<String, AllocError> {
+pub fn names_of(alloc: Global, kept: &Record) -> Result<String, AllocError> {
     let mut text = String::new(alloc);
     for (name, file_type) in kept.names.iter() {
         text.push_str(name)?;

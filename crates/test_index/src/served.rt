@@ -24,7 +24,7 @@ const ITEMS: &[Item] = &[
 const LISTED: &str = "a Dir; b Symlink; new File; b PermissionDenied; InvalidFilename; ";
 
 /// A record of the directory that changed last at a time, with the names that it had then.
-fn index_of(alloc: Global, path: &str, changed: Option<i64>) -> Result<Index, AllocError> {
+pub fn index_of(alloc: Global, path: &str, changed: Option<i64>) -> Result<Index, AllocError> {
     let mut names = Names::new(alloc);
     names.push("a", FileType::Dir)?;
     names.push("é", FileType::Other)?;
