@@ -16,7 +16,7 @@ thread and with four, and end with 1, or with 0 if nothing differs; and a tree t
 
 With `quick` the same trees are compared by `--quick`: its lines must be those of names and types. `strace` must be there:
 no directory may be listed that has the identity and the time of change that it had before the snapshot, and of a tree that
-didn't change none.
+didn't change none. Nor may `seek --index` list one, which must print the lines of `seek --sort`; build it first, too.
 
 With `damage` a snapshot is changed in COUNT ways (2,000): a byte of it, its end, or its version. None may be taken, with
 `--save` neither: the status is 2, nothing is printed, the error names the file, and the file is left as it is.
@@ -46,8 +46,11 @@ import time
 
 TOP = os.path.dirname(os.path.dirname(os.path.abspath(__file__)))
 PROGRAM = f"{TOP}/crates/since/out/since"
+SEEK = f"{TOP}/crates/seek/out/seek"
 NAMES = ["a", "b", "c d", "é", ".h", "z", "B", "-x", "a.b", "a-b", "tab\there", "\U0001f600", "日本"]
 TURNS = 9
+# What is searched over a snapshot: by names and types alone, and by what the disk is asked for.
+SEARCHES = ["-HI", "-td", "-HItf", "-HIS-511b", "-HIl", "-HIte"]
 
 
 def plant(rng, folder, files, depth=0):
@@ -234,6 +237,20 @@ def differs_quickly(program, file, top, old, before):
     return f"--quick {file} {top} lists {sorted(listed)}" if listed else None
 
 
+def searches_otherwise(file, top, before):
+    """The first call of `seek --index` with other lines than `seek --sort`, or that lists what didn't change, if there is one."""
+    unchanged = {path for path, stamp in stamps(top).items() if before.get(path) == stamp}
+    for word in SEARCHES:
+        words = [SEEK, word, "-j1", "--index", file, ".", top]
+        ran, wanted = called(*words), called(SEEK, word, "--sort", ".", top)
+        if (ran.stdout, ran.stderr, ran.returncode) != (wanted.stdout, wanted.stderr, wanted.returncode):
+            return f"{' '.join(words)} prints other lines than --sort"
+        listed = unchanged & set(listed_by(*words))
+        if listed:
+            return f"{' '.join(words)} lists {sorted(listed)}"
+    return None
+
+
 def try_quick(program, count, seed):
     rng, room = random.Random(seed), tempfile.mkdtemp(prefix="since_")
     tops = []
@@ -249,10 +266,12 @@ def try_quick(program, count, seed):
         for _ in range(rng.randrange(6)):
             change_one(rng, top)
         why = why or differs_quickly(program, f"{top}.since", top, old, before)
+        why = why or searches_otherwise(f"{top}.since", top, before)
         if why:
             return f"tree of seed {seed}: {why}"
     shutil.rmtree(room)
     print(f"{count} trees: --quick prints what differs in names and types, and lists nothing unchanged")
+    print("seek --index prints what seek --sort does, and lists nothing unchanged")
     return None
 
 

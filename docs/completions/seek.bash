@@ -9,6 +9,7 @@ _seek() {
     --ignore-file) return ;;
     --search-path) compopt +o default -o dirnames; return ;;
     --base-directory) compopt +o default -o dirnames; return ;;
+    --index) return ;;
     -j | --threads) compopt +o default; return ;;
     --min-depth) compopt +o default; return ;;
     -d | --max-depth | --maxdepth) compopt +o default; return ;;
@@ -24,6 +25,6 @@ _seek() {
     -c | --color) compopt +o default; COMPREPLY=($(compgen -W "auto always never" -- "$word")); return ;;
     --path-separator) compopt +o default; return ;;
     esac
-    if [[ $word == -* ]]; then COMPREPLY=($(compgen -W "-g --glob -F --fixed-strings --literal --regex --and -p --full-path -i --ignore-case -s --case-sensitive -H --hidden -I --no-ignore -u --unrestricted -E --exclude -L --follow --dereference --no-ignore-vcs --no-ignore-parent --ignore-file --no-global-ignore-file --search-path --base-directory --one-file-system --mount --xdev --prune --sort -j --threads --min-depth -d --max-depth --maxdepth --exact-depth -t --type -e --extension -S --size -o --owner --changed-within --newer --changed-after --change-newer-than --changed-before --older --change-older-than --newer-than-file --max-results -1 -q --quiet --has-results -a --absolute-path -l --list-details -c --color --path-separator --strip-cwd-prefix -0 --print0 --no-hidden --ignore --ignore-vcs --ignore-parent --no-follow --relative-path -h --help -V --version" -- "$word")); fi
+    if [[ $word == -* ]]; then COMPREPLY=($(compgen -W "-g --glob -F --fixed-strings --literal --regex --and -p --full-path -i --ignore-case -s --case-sensitive -H --hidden -I --no-ignore -u --unrestricted -E --exclude -L --follow --dereference --no-ignore-vcs --no-ignore-parent --ignore-file --no-global-ignore-file --search-path --base-directory --one-file-system --mount --xdev --prune --sort --index -j --threads --min-depth -d --max-depth --maxdepth --exact-depth -t --type -e --extension -S --size -o --owner --changed-within --newer --changed-after --change-newer-than --changed-before --older --change-older-than --newer-than-file --max-results -1 -q --quiet --has-results -a --absolute-path -l --list-details -c --color --path-separator --strip-cwd-prefix -0 --print0 --no-hidden --ignore --ignore-vcs --ignore-parent --no-follow --relative-path -h --help -V --version" -- "$word")); fi
 }
 complete -o default -F _seek seek

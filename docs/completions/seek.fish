@@ -20,6 +20,7 @@ complete -c seek -l base-directory -x -a '(__fish_complete_directories)' -d 'Sea
 complete -c seek -l one-file-system -l mount -l xdev -d 'Read no directory on another file system than the root'
 complete -c seek -l prune -d 'Don'\''t look for anything below a directory that is found'
 complete -c seek -l sort -d 'The entries of a directory by their names'
+complete -c seek -l index -r -F -d 'Take the names in unchanged directories from a snapshot of since, and sort'
 complete -c seek -s j -l threads -x -d 'Threads that read directories, or 0 for as many as can run at a time'
 complete -c seek -l min-depth -x -d 'The least depth'
 complete -c seek -s d -l max-depth -l maxdepth -x -d 'The greatest depth'

@@ -7,6 +7,7 @@ import shutil
 import socket
 import stat
 import tempfile
+import time
 
 from runner.texts import text_of
 
@@ -160,6 +161,8 @@ class Folder:
         for kind, said, path in lines:
             if kind == b"-":
                 remove(self.at(path))
+            elif kind == b"w":
+                time.sleep(int(said))
             else:
                 self.make(kind, said, path)
 

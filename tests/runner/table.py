@@ -7,8 +7,8 @@ from runner.texts import decoded, spread, unescaped, words_of
 SCENES = (b"tree", b"disk", b"input")
 # A line of a tree: its letter, what it says, which may be nothing, and its path.
 TREE_LINE = re.compile(rb"([dpsx]) ()(.+)|([lh]) ([^\t]*)\t(.+)|([fbctom]) (\S+) (.+)", re.S)
-# A line of a change may take something away, too.
-CHANGE_LINE = re.compile(rb"(-) ()(.+)|%s" % TREE_LINE.pattern, re.S)
+# A line of a change may take something away, too, or wait for some seconds.
+CHANGE_LINE = re.compile(rb"(-) ()(.+)|(w) (\d+)()|%s" % TREE_LINE.pattern, re.S)
 # Where a row's outputs go: an output that is a terminal, or what takes nothing.
 GOALS = {b"$": "", b"tty$": "out", b"ttyerr$": "err", b"full$": "full", b"closed$": "closed"}
 PARTS = {b"~": "out", b"!~": "err"}

@@ -14,6 +14,8 @@ PROGRAMS = tuple(FRONTS)
 WALK_ON_DISK = [[], [b"--batch", b"2"], [b"--crew", b"3"]]
 SAYS_HOW = re.compile(rb"-j|--threads|--batch|--crew")
 SORT = b"--sort"
+# Words of `seek` that sort without that one.
+INDEX = b"--index"
 
 
 @dataclasses.dataclass(frozen=True)
@@ -32,7 +34,7 @@ def is_free(row):
     """Whether the disk decides in which order the lines of the row come."""
     if row.program == "tally" and not {b"--plain", b"-0", b"--print0"} & set(row.words):
         return False
-    return row.program not in ("example", "since") and SORT not in row.words
+    return row.program not in ("example", "since") and SORT not in row.words and INDEX not in row.words
 
 
 def sorted_ways(row, front, **how):

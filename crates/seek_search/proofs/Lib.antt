@@ -2,4 +2,8 @@ pub mod PaintingFacts
 pub mod OptionFacts
 pub mod SearchFacts
 pub mod BeginFacts
+pub mod DiskFacts
+pub mod TypesFacts
+pub mod SameFacts
 pub mod RunFacts
+pub mod IndexFacts

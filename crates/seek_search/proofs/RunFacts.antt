@@ -26,6 +26,7 @@ use Rattle.seek_found.specs.declared.call.Ended.{Ended}
 use Rattle.seek_found.proofs.ShownFacts.{shown_for}
 use Rattle.seek_words.proofs.AsksFacts.{shown_ask_for}
 use Rattle.seek_words.specs.AsksFor.{AskFor}
+use Rattle.seek_words.specs.Metadata.{needs_metadata}
 use Rattle.seek_words.specs.Screen.{is_colored}
 use Rattle.seek_words.specs.declared.owner.Owner.{Owner}
 use Rattle.seek_words.specs.declared.times.Times.{Times}
@@ -36,6 +37,7 @@ use Rattle.seek_found.proofs.FirstFacts.{first_as, first_none, first_stopped, fi
 use Rattle.program_parts.specs.Values.{texts_of}
 use Rattle.seek_words.specs.declared.asked.Asked.{Asked}
 use Rattle.jwalk.specs.jwalk_model.FileSystem.{Functions}
+use Rattle.jwalk_indexed_fs.specs.declared.index.Index.{Index}
 use Rattle.jwalk.specs.jwalk_fs.declared.file_system.FileSystem as FileSystem
 use Rattle.jwalk_ignore.specs.Rules.Texts.{Texts}
 use Rattle.jwalk_ignore.specs.jwalk_ignore_rules.declared.rules.texts.Texts as ReadsTexts
@@ -50,7 +52,9 @@ use Rattle.user_excludes.specs.declared.home.Home.{Home}
 use Rattle.user_excludes.specs.UserTexts.{with_user}
 use Rattle.user_excludes.specs.Home as home
 use Rattle.user_excludes.specs.declared.user_texts.UserTexts.{UserTexts}
+use Rattle.seek_search.specs.Disk.{disk_over, functions_over, MayVouch}
 use Rattle.seek_search.specs.Goes.{ByRead, Finds, Honours, LeavesOut, PrintsYielded}
+use Rattle.seek_search.specs.Index.{IsIndexAsked}
 use Rattle.seek_search.specs.Printing.{IsFront}
 use Rattle.seek_search.specs.RulesRead.{lines_asked}
 use Rattle.program_walks.specs.Crew.{CrewCallsOf}
@@ -58,6 +62,7 @@ use Rattle.seek_search.specs.Run.{FindsAsked, IsDone, IsFailed, PrintsAsked, Sea
 use Rattle.seek_search.specs.Search.{form_before, front_if, roots_asked, sought_before, yielded_by}
 use Rattle.seek_search.specs.Based.{base_asked, functions_based, has_folder, texts_based, IsBased}
 use Rattle.seek_search.specs.declared.based.Based.{Based}
+use Rattle.seek_search.specs.declared.disk.Disk.{Disk}
 use Rattle.seek_search.specs.declared.kept_links.KeptLinks.{KeptLinks}
 use Rattle.seek_search.specs.declared.run.Seek.{Seek}
 use Rattle.program_walks.proofs.FolderFacts.{reads_as}
@@ -239,7 +244,6 @@ module _ {T C Z B X A E G H F : Type 0} (plain : CrewCallsOf T G (Arc (KeptLinks
       (subst (λ (t : Texts). SearchesFor plain honouring disk reads still' told' fs' t home cores screen asked sought old new ended) from
       (subst (λ (f : Functions). SearchesFor plain honouring disk reads still' told' f texts home cores screen asked sought old new ended) over
       (record {
-        colored = s.colored;
         times = record { now = s.times.now; after = s.times.after; before = s.times.before; after_file = λ still'. s.times.after_file (stays still') };
         quiet = λ quiet. let found = s.quiet quiet in (found.0, λ empties. by_read tells refl (found_if plain honouring stays (front_as tells refl)) (found.1 (λ empty. stays (empties empty))));
         yielded = λ loud. by_read tells refl (printed_if plain honouring stays (front_as tells refl)) (s.yielded loud);
@@ -247,28 +251,23 @@ module _ {T C Z B X A E G H F : Type 0} (plain : CrewCallsOf T G (Arc (KeptLinks
         prints = λ loud clean still' told'. s.prints loud clean (stays still') (tells told');
       })))
 
--- words by these times, in colors or without
-abbrev timed : Asked → Times → Bool → Asked
-timed asked times colored = record asked { times = times; colored = colored }
+-- words by these times
+abbrev timed : Asked → Times → Asked
+timed asked times = record asked { times = times }
 
-abbrev AreTimed : Type 0 → Functions → Screen → Asked → Times → Bool → Type 0
-AreTimed still fs screen asked times colored = (colored ≡ is_colored screen asked.color) × AreTimes still fs asked times
-
-module _ {T C Z B X A E G H F : Type 0} (plain : CrewCallsOf T G (Arc (KeptLinks Z) B) LeavesOut A H F) (honouring : CrewCallsOf T C (Arc (KeptLinks Z) B) (Honours (UserTexts X) B) A RulesState E) {disk : Z} {reads : X} {still told : Type 0} {fs : Functions} {texts : Texts} {home : Home} {cores : ℕ} {screen : Screen} (asked : Asked) {sought : Looked} {old new : Option (List ℕ)} {Y : Type 0} (result : Result Ended Y) (times : Times) (colored success : Bool) where
+module _ {T C Z B X A E G H F : Type 0} (plain : CrewCallsOf T G (Arc (KeptLinks Z) B) LeavesOut A H F) (honouring : CrewCallsOf T C (Arc (KeptLinks Z) B) (Honours (UserTexts X) B) A RulesState E) {disk : Z} {reads : X} {still told : Type 0} {fs : Functions} {texts : Texts} {home : Home} {cores : ℕ} {screen : Screen} (asked : Asked) {sought : Looked} {old new : Option (List ℕ)} {Y : Type 0} (result : Result Ended Y) (times : Times) (success : Bool) where
   -- a quiet search, by what is known of its end
-  pub quiet_searched : asked.quiet ≡ true → new ≡ old → AreTimed still fs screen asked times colored → IsOkAnd result (λ ended. succeeds true ended ≡ success)
-      → IfOk result (λ ended. asked.quiet ≡ true → (asked.kinds.empty ≡ true → still) → ByRead reads told texts home (timed asked times colored) (λ reads lines. Finds plain honouring disk still told fs texts cores reads lines (timed asked times colored) (takes_by sought) ended))
-      → IfOk result (λ ended. asked.quiet ≡ true → still → told → FindsAsked fs texts home (timed asked times colored) sought ended) → SearchesTimed plain honouring disk reads still told fs texts home cores screen asked sought old new success
-  quiet_searched quiet unwritten is_timed ends finds one =
+  pub quiet_searched : asked.quiet ≡ true → new ≡ old → AreTimes still fs asked times → IsOkAnd result (λ ended. succeeds true ended ≡ success)
+      → IfOk result (λ ended. asked.quiet ≡ true → (asked.kinds.empty ≡ true → still) → ByRead reads told texts home (timed asked times) (λ reads lines. Finds plain honouring disk still told fs texts cores reads lines (timed asked times) (takes_by sought) ended))
+      → IfOk result (λ ended. asked.quiet ≡ true → still → told → FindsAsked fs texts home (timed asked times) sought ended) → SearchesTimed plain honouring disk reads still told fs texts home cores screen asked sought old new success
+  quiet_searched quiet unwritten are ends finds one =
       let all = ok_all result _ _ _ ends finds one in
       record {
         times = times;
-        colored = colored;
         ended = all.0;
         so = ap (λ b. succeeds b all.0) quiet ∙ all.1;
         searches = record {
-          colored = is_timed.0;
-          times = record { now = is_timed.1.now; after = is_timed.1.after; before = is_timed.1.before; after_file = is_timed.1.after_file };
+          times = record { now = are.now; after = are.after; before = are.before; after_file = are.after_file };
           quiet = λ is. (unwritten, all.2 is);
           yielded = λ loud. absurd (true≢false (sym quiet ∙ loud));
           finds = all.3;
@@ -277,19 +276,17 @@ module _ {T C Z B X A E G H F : Type 0} (plain : CrewCallsOf T G (Arc (KeptLinks
       }
 
   -- and one that isn't quiet
-  pub loud_searched : asked.quiet ≡ false → AreTimed still fs screen asked times colored → IsOkAnd result (λ ended. succeeds false ended ≡ success)
-      → IfOk result (λ ended. ByRead reads told texts home (timed asked times colored) (λ reads lines. PrintsYielded plain honouring disk still told fs texts cores reads lines screen (timed asked times colored) (takes_by sought) old new ended.clean))
-      → IfOk result (λ ended. ended.clean ≡ true → still → told → PrintsAsked fs texts home screen (timed asked times colored) sought old new) → SearchesTimed plain honouring disk reads still told fs texts home cores screen asked sought old new success
-  loud_searched loud is_timed ends prints whole =
+  pub loud_searched : asked.quiet ≡ false → AreTimes still fs asked times → IsOkAnd result (λ ended. succeeds false ended ≡ success)
+      → IfOk result (λ ended. ByRead reads told texts home (timed asked times) (λ reads lines. PrintsYielded plain honouring disk still told fs texts cores reads lines screen (timed asked times) (takes_by sought) old new ended.clean))
+      → IfOk result (λ ended. ended.clean ≡ true → still → told → PrintsAsked fs texts home screen (timed asked times) sought old new) → SearchesTimed plain honouring disk reads still told fs texts home cores screen asked sought old new success
+  loud_searched loud are ends prints whole =
       let all = ok_all result _ _ _ ends prints whole in
       record {
         times = times;
-        colored = colored;
         ended = all.0;
         so = ap (λ b. succeeds b all.0) loud ∙ all.1;
         searches = record {
-          colored = is_timed.0;
-          times = record { now = is_timed.1.now; after = is_timed.1.after; before = is_timed.1.before; after_file = is_timed.1.after_file };
+          times = record { now = are.now; after = are.after; before = are.before; after_file = are.after_file };
           quiet = λ quiet. absurd (true≢false (sym quiet ∙ loud));
           yielded = λ _. all.2;
           finds = λ quiet. absurd (true≢false (sym quiet ∙ loud));
@@ -297,29 +294,36 @@ module _ {T C Z B X A E G H F : Type 0} (plain : CrewCallsOf T G (Arc (KeptLinks
         };
       }
 
-module _ {T C Z B X A E G H F : Type 0} (plain : CrewCallsOf T G (Arc (KeptLinks (Based Z)) B) LeavesOut A H F) (honouring : CrewCallsOf T C (Arc (KeptLinks (Based Z)) B) (Honours (UserTexts (Based X)) B) A RulesState E) {disk : Z} {reads : X} {still told : Type 0} {fs : Functions} {texts : Texts} {home : Home} {cores : ℕ} {screen : Screen} {old new : Option (List ℕ)} where
-  -- the words ask for a search by what is known of their owner and their folder
-  pub words_searched : {words : List (List ℕ)} {asked : Asked} {sought : Looked} {over : Based Z} {from : Based X} {still' told' : Type 0} {fs' : Functions} {texts' : Texts} {old' : Option (List ℕ)} {success : Bool} (owner : Option Owner)
-      → AskFor words asked → IsFor asked sought → IsOwnerOf told texts asked owner → IsBased disk asked over → IsBased reads asked from → (still → has_folder (functions_based (base_asked asked) fs) asked ≡ true)
-      → (still → still') → (told → told') → fs' ≡ functions_based (base_asked asked) fs → texts' ≡ texts_based (base_asked asked) texts → old' ≡ old
-      → SearchesTimed plain honouring over from still' told' fs' texts' home cores screen (record asked { owner = owner }) sought old' new success → Searches plain honouring disk reads still told fs texts home cores screen words old new success
-  words_searched {asked} {sought} {over} {from} owner ask is_for is_owner is_over is_from folder stays tells over_is from_is before s = record {
-    asked = _;
-    ask = shown_ask_for _ _ s.times s.colored owner ask;
-    sought = sought;
-    is_for = shown_for _ s.times s.colored owner _ is_for;
-    over = over;
-    is_over = record { of = is_over.of; from = is_over.from };
-    from = from;
-    is_from = record { of = is_from.of; from = is_from.from };
-    owner = is_owner;
-    folder = folder;
-    ended = s.ended;
-    so = s.so;
-    searches = searches_as plain honouring stays tells over_is from_is before s.searches;
-  }
+module _ {T C Z B X A E G H F : Type 0} (plain : CrewCallsOf T G (Arc (KeptLinks (Disk (Based Z))) B) LeavesOut A H F) (honouring : CrewCallsOf T C (Arc (KeptLinks (Disk (Based Z))) B) (Honours (UserTexts (Based X)) B) A RulesState E) {disk : Z} {reads : X} {still told : Type 0} {fs : Functions} {texts : Texts} {home : Home} {cores : ℕ} {screen : Screen} {old new : Option (List ℕ)} where
+  -- the words ask for a search by what is known of their owner, their colors, their folder and their index
+  pub words_searched : {words : List (List ℕ)} {asked : Asked} {sought : Looked} {over : Based Z} {from : Based X} {searched : Disk (Based Z)} {still' told' : Type 0} {fs' : Functions} {texts' : Texts} {old' : Option (List ℕ)} {success : Bool} (owner : Option Owner) (colored : Bool) (index : Option Index)
+      → AskFor words asked → IsFor asked sought → IsOwnerOf told texts asked owner → colored ≡ is_colored screen asked.color → IsBased disk asked over → IsBased reads asked from → (still → has_folder (functions_based (base_asked asked) fs) asked ≡ true)
+      → IsIndexAsked told (texts_based (base_asked asked) texts) asked index → searched ≡ disk_over over index (needs_metadata (record asked { owner = owner; colored = colored }))
+      → (still × MayVouch (functions_based (base_asked asked) fs) index → still') → (told → told') → fs' ≡ functions_over index (needs_metadata (record asked { owner = owner; colored = colored })) (functions_based (base_asked asked) fs) → texts' ≡ texts_based (base_asked asked) texts → old' ≡ old
+      → SearchesTimed plain honouring searched from still' told' fs' texts' home cores screen (record asked { owner = owner; colored = colored }) sought old' new success → Searches plain honouring disk reads still told fs texts home cores screen words old new success
+  words_searched {asked} {sought} {over} {from} owner colored index ask is_for is_owner is_colored is_over is_from folder is_index is_searched stays tells over_is from_is before s =
+      let asks : Bool = needs_metadata (record asked { owner = owner; colored = colored }) in
+      record {
+        asked = _;
+        ask = shown_ask_for _ _ s.times colored owner ask;
+        sought = sought;
+        is_for = shown_for _ s.times colored owner _ is_for;
+        over = over;
+        is_over = record { of = is_over.of; from = is_over.from };
+        from = from;
+        is_from = record { of = is_from.of; from = is_from.from };
+        owner = is_owner;
+        colored = is_colored;
+        folder = folder;
+        index = index;
+        is_index = is_index;
+        ended = s.ended;
+        so = s.so;
+        searches = subst (λ (d : Disk (Based Z)). SearchesFor plain honouring d from (still × MayVouch (functions_based (base_asked asked) fs) index) told (functions_over index asks (functions_based (base_asked asked) fs)) (texts_based (base_asked asked) texts) home cores screen (record asked { times = s.times; colored = colored; owner = owner }) sought old new s.ended)
+            is_searched (searches_as plain honouring stays tells over_is from_is before s.searches);
+      }
 
-module _ {T C Z B X A E G H F L K : Type 0} (files : FileSystem.Ghosts Z) (rules : ReadsTexts.Ghosts X) (plain : CrewCallsOf T G (Arc (KeptLinks (Based Z)) B) LeavesOut A H F) (honouring : CrewCallsOf T C (Arc (KeptLinks (Based Z)) B) (Honours (UserTexts (Based X)) B) A RulesState E) (seek : Seek L K Z X) {old new : Option (List ℕ)} {words words' : List (List ℕ)} (is : words ≡ words') where
+module _ {T C Z B X A E G H F L K : Type 0} (files : FileSystem.Ghosts Z) (rules : ReadsTexts.Ghosts X) (plain : CrewCallsOf T G (Arc (KeptLinks (Disk (Based Z))) B) LeavesOut A H F) (honouring : CrewCallsOf T C (Arc (KeptLinks (Disk (Based Z))) B) (Honours (UserTexts (Based X)) B) A RulesState E) (seek : Seek L K Z X) {old new : Option (List ℕ)} {words words' : List (List ℕ)} (is : words ≡ words') where
   -- the same call, by other names of its words
   pub done_with : IsDone files rules plain honouring seek words old new → IsDone files rules plain honouring seek words' old new
   done_with = subst (λ (w : List (List ℕ)). IsDone files rules plain honouring seek w old new) is

@@ -1,4 +1,7 @@
 pub mod Search
+pub mod Index
+pub mod Disk
+pub mod Same
 pub mod Based
 pub mod Run
 pub mod RulesRead

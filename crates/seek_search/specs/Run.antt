@@ -8,9 +8,11 @@ use Rattle.jwalk.specs.jwalk_model.FileSystem.{Functions}
 use Rattle.jwalk.specs.jwalk_fs.declared.file_system.FileSystem as FileSystem
 use Rattle.jwalk_ignore.specs.Rules.Texts.{Texts}
 use Rattle.jwalk_ignore.specs.jwalk_ignore_rules.declared.rules.texts.Texts as ReadsTexts
+use Rattle.jwalk_indexed_fs.specs.declared.index.Index.{Index}
 use Rattle.program_parts.specs.Errors.{IsTold}
 use Rattle.program_parts.specs.declared.errors.Errors.{Errors}
 use Rattle.seek_words.specs.AsksFor.{AskFor, AskForText}
+use Rattle.seek_words.specs.Metadata.{needs_metadata}
 use Rattle.seek_words.specs.Screen.{is_colored}
 use Rattle.seek_words.specs.declared.asked.Asked.{Asked}
 use Rattle.seek_words.specs.declared.screen.Screen.{Screen}
@@ -24,8 +26,10 @@ use Rattle.seek_found.specs.declared.call.Ended.{Ended}
 use Rattle.seek_found.specs.declared.sought.Sought.{Sought}
 use Rattle.seek_found.specs.Times.{AreTimes}
 use Rattle.seek_search.specs.Based.{base_asked, functions_based, has_folder, texts_based, IsBased}
+use Rattle.seek_search.specs.Disk.{disk_over, functions_over, MayVouch}
 use Rattle.seek_search.specs.Goes.{ByRead, Finds, Honours, LeavesOut, PrintsYielded}
 use Rattle.program_walks.specs.Crew.{CrewCallsOf}
+use Rattle.seek_search.specs.Index.{IsIndexAsked}
 use Rattle.seek_search.specs.KeptLinks.{functions_kept}
 use Rattle.seek_search.specs.RulesRead.{home_asked, lines_asked}
 use Rattle.user_excludes.specs.Home.{home_value}
@@ -34,6 +38,7 @@ use Rattle.user_excludes.specs.declared.home.Home.{Home}
 use Rattle.user_excludes.specs.declared.user_texts.UserTexts.{UserTexts}
 use Rattle.seek_search.specs.Search.{form_asked, limit_asked, sought_asked, yielded_by}
 use Rattle.seek_search.specs.declared.based.Based.{Based}
+use Rattle.seek_search.specs.declared.disk.Disk.{Disk}
 use Rattle.seek_search.specs.declared.kept_links.KeptLinks.{KeptLinks}
 use Rattle.seek_search.specs.declared.run.Seek.{Seek}
 use Rattle.jwalk_ignore.specs.declared.callback.states.RulesState.{RulesState}
@@ -62,33 +67,32 @@ abbrev pub FindsAsked : Functions → Texts → Home → Asked → Sought → En
 FindsAsked fs texts home asked sought = FindsRead fs (with_user (home_asked (home_value home) asked) texts) (lines_asked texts asked) asked sought
 
 module _ {T C Z B X A E G H F : Type 0} (plain : CrewCallsOf T G (Arc (KeptLinks Z) B) LeavesOut A H F) (honouring : CrewCallsOf T C (Arc (KeptLinks Z) B) (Honours (UserTexts X) B) A RulesState E) where
-  -- This is searched over this disk, by the crew that is asked for. The times that are asked for are known. Paths are in
-  -- colors if the words or the screen ask for it. A quiet search writes nothing, and its end says whether it found one of the
-  -- answers of its walks. Any other search prints their lines in the way that is asked for. The end says whether all answers
-  -- are clean. If the file system and the texts are fixed, as `still` and `told` say, the answers of a search that is quiet
-  -- or clean are those that are asked for, with a limit the first of them. If empty entries are looked for, or the color of a
-  -- link tells whether it leads nowhere, the answers are told only if the file system is fixed. Of a quiet search colors tell
-  -- nothing.
+  -- This is searched over this disk, by the crew that is asked for. The times that are asked for are known. A quiet search
+  -- writes nothing, and its end says whether it found one of the answers of its walks. Any other search prints their lines in
+  -- the way that is asked for. The end says whether all answers are clean. If the file system and the texts are fixed, as
+  -- `still` and `told` say, the answers of a search that is quiet or clean are those that are asked for, with a limit the
+  -- first of them. If empty entries are looked for, or the color of a link tells whether it leads nowhere, the answers are
+  -- told only if the file system is fixed. Of a quiet search colors tell nothing.
   pub record SearchesFor (disk : Z) (reads : X) (still told : Type 0) (fs : Functions) (texts : Texts) (home : Home) (cores : ℕ) (screen : Screen) (asked : Asked) (sought : Sought) (old new : Option (List ℕ)) (ended : Ended) : Type 0 where
-    pub colored : asked.colored ≡ is_colored screen asked.color
     pub times : AreTimes still fs asked asked.times
     pub quiet : asked.quiet ≡ true → (new ≡ old) × ((asked.kinds.empty ≡ true → still) → ByRead reads told texts home asked (λ reads lines. Finds plain honouring disk still told fs texts cores reads lines asked (takes_by sought) ended))
     pub yielded : asked.quiet ≡ false → ByRead reads told texts home asked (λ reads lines. PrintsYielded plain honouring disk still told fs texts cores reads lines screen asked (takes_by sought) old new ended.clean)
     pub finds : asked.quiet ≡ true → still → told → FindsAsked fs texts home asked sought ended
     pub prints : asked.quiet ≡ false → ended.clean ≡ true → still → told → PrintsAsked fs texts home screen asked sought old new
 
-  -- This is searched by some times, in colors or without. `success` says whether the end is a success.
+  -- This is searched by some times. `success` says whether the end is a success.
   pub record SearchesTimed (disk : Z) (reads : X) (still told : Type 0) (fs : Functions) (texts : Texts) (home : Home) (cores : ℕ) (screen : Screen) (asked : Asked) (sought : Sought) (old new : Option (List ℕ)) (success : Bool) : Type 0 where
     pub times : Times
-    pub colored : Bool
     pub ended : Ended
     pub so : succeeds asked.quiet ended ≡ success
-    pub searches : SearchesFor disk reads still told fs texts home cores screen (record asked { times = times; colored = colored }) sought old new ended
+    pub searches : SearchesFor disk reads still told fs texts home cores screen (record asked { times = times }) sought old new ended
 
-module _ {T C Z B X A E G H F : Type 0} (plain : CrewCallsOf T G (Arc (KeptLinks (Based Z)) B) LeavesOut A H F) (honouring : CrewCallsOf T C (Arc (KeptLinks (Based Z)) B) (Honours (UserTexts (Based X)) B) A RulesState E) where
+module _ {T C Z B X A E G H F : Type 0} (plain : CrewCallsOf T G (Arc (KeptLinks (Disk (Based Z))) B) LeavesOut A H F) (honouring : CrewCallsOf T C (Arc (KeptLinks (Disk (Based Z))) B) (Honours (UserTexts (Based X)) B) A RulesState E) where
   -- The words ask for a search, the names that are looked for are those of the patterns, and the owner is the one that is
-  -- asked for. This is searched, over the disk and the texts as they are seen from the folder that is asked for, which is
-  -- one. `success` says whether a quiet search found an entry, and of any other whether all its answers are clean.
+  -- asked for. Paths are in colors if the words or the screen ask for it. This is searched, over the disk and the texts as
+  -- they are seen from the folder that is asked for, which is one. If a file is named for an index, directories are listed
+  -- from its records, and their names asked for if metadata is needed; then the disk is fixed if the records vouch, too.
+  -- `success` says whether a quiet search found an entry, and of any other whether all its answers are clean.
   pub record Searches (disk : Z) (reads : X) (still told : Type 0) (fs : Functions) (texts : Texts) (home : Home) (cores : ℕ) (screen : Screen) (words : List (List ℕ)) (old new : Option (List ℕ)) (success : Bool) : Type 0 where
     pub asked : Asked
     pub ask : AskFor words asked
@@ -99,18 +103,22 @@ module _ {T C Z B X A E G H F : Type 0} (plain : CrewCallsOf T G (Arc (KeptLinks
     pub from : Based X
     pub is_from : IsBased reads asked from
     pub owner : IsOwnerOf told texts asked asked.owner
+    pub colored : asked.colored ≡ is_colored screen asked.color
     pub folder : still → has_folder (functions_based (base_asked asked) fs) asked ≡ true
+    pub index : Option Index
+    pub is_index : IsIndexAsked told (texts_based (base_asked asked) texts) asked index
     pub ended : Ended
     pub so : succeeds asked.quiet ended ≡ success
-    pub searches : SearchesFor plain honouring over from still told (functions_based (base_asked asked) fs) (texts_based (base_asked asked) texts) home cores screen asked sought old new ended
+    pub searches : SearchesFor plain honouring (disk_over over index (needs_metadata asked)) from (still × MayVouch (functions_based (base_asked asked) fs) index) told
+        (functions_over index (needs_metadata asked) (functions_based (base_asked asked) fs)) (texts_based (base_asked asked) texts) home cores screen asked sought old new ended
 
 module _ {T C Z B X A E G H F L K : Type 0} (files : FileSystem.Ghosts Z) (rules : ReadsTexts.Ghosts X) (plain : CrewCallsOf T G (Arc (KeptLinks Z) B) LeavesOut A H F) (honouring : CrewCallsOf T C (Arc (KeptLinks Z) B) (Honours (UserTexts X) B) A RulesState E) (seek : Seek L K Z X) where
-  -- The program searches this by some times, in colors or without.
+  -- The program searches this by some times.
   abbrev pub SearchesBy : Asked → Sought → Option (List ℕ) → Option (List ℕ) → Bool → Type 0
   SearchesBy =
       SearchesTimed plain honouring seek.disk seek.texts (files.IsFixed seek.disk) (rules.IsFixed seek.texts) (files.functions seek.disk) (rules.functions seek.texts) seek.home seek.cores seek.screen
 
-module _ {T C Z B X A E G H F L K : Type 0} (files : FileSystem.Ghosts Z) (rules : ReadsTexts.Ghosts X) (plain : CrewCallsOf T G (Arc (KeptLinks (Based Z)) B) LeavesOut A H F) (honouring : CrewCallsOf T C (Arc (KeptLinks (Based Z)) B) (Honours (UserTexts (Based X)) B) A RulesState E) (seek : Seek L K Z X) where
+module _ {T C Z B X A E G H F L K : Type 0} (files : FileSystem.Ghosts Z) (rules : ReadsTexts.Ghosts X) (plain : CrewCallsOf T G (Arc (KeptLinks (Disk (Based Z))) B) LeavesOut A H F) (honouring : CrewCallsOf T C (Arc (KeptLinks (Disk (Based Z))) B) (Honours (UserTexts (Based X)) B) A RulesState E) (seek : Seek L K Z X) where
   -- The program searches as the words ask.
   abbrev pub SearchesWords : List (List ℕ) → Option (List ℕ) → Option (List ℕ) → Bool → Type 0
   SearchesWords =

@@ -2,8 +2,11 @@
 #![tactic(auto)]
 
 mod based;
+mod disk;
 mod excluded;
+mod index;
 mod kept_links;
+pub mod laws;
 mod printing;
 mod rules_read;
 pub mod run;

@@ -4,14 +4,17 @@ ghost use Rattle.std.specs.Arc.{arc_value};
 ghost use Rattle.program_parts.specs.Errors.{IsTold};
 ghost use Rattle.seek_words.specs.AsksFor.{AskForText};
 ghost use Rattle.seek_words.specs.Joined.{joined};
-ghost use Rattle.seek_found.specs.Call.{AskForSearch, Ends};
+ghost use Rattle.seek_found.specs.Call.{AskForSearch};
 ghost use Rattle.seek_found.specs.Sought.{takes_by};
 ghost use Rattle.seek_search.specs.Based.{has_folder};
 ghost use Rattle.seek_search.specs.Goes.{ByRead, Finds, PrintsYielded};
+ghost use Rattle.seek_search.specs.Index.{EndsBy};
 ghost use Rattle.seek_search.specs.Run.{FindsAsked, FindsRead, IsDone, IsFailed, PrintsAsked, PrintsRead, SearchesBy};
 ghost use Rattle.seek_search.specs.Search.{threads_asked};
 
 use crate::based::Based;
+use crate::disk::Disk;
+use crate::index::index_asked;
 use crate::kept_links::KeptLinks;
 use crate::printing::printer_of;
 use crate::rules_read::{home_asked, lines_asked};
@@ -37,6 +40,9 @@ use std::thread::Threads;
 use std::time::Clock;
 use user_excludes::home::Home;
 use user_excludes::user_texts::UserTexts;
+
+/// A disk as it is seen from a folder, over the records of an index if there is one.
+type Searched<S> = Disk<Based<S>>;
 
 /// A walk without ignore files, over a disk on which a link that leads nowhere is its own target.
 type Bare<T, S> = PlainWalk<T, KeptLinks<S>>;
@@ -208,8 +214,7 @@ impl<
         .search_asked(lines.as_slice(), asked, sought, out, err)
     }
 
-    /// Sets what the words alone don't say: the times, and whether paths are in colors. Writes nothing to `out` if only the
-    /// status is asked for.
+    /// Sets the times, which the words alone don't say. Writes nothing to `out` if only the status is asked for.
     fn search_for<W: Write, E: Write>(
         self,
         mut asked: Asked<'_>,
@@ -231,7 +236,6 @@ impl<
                 return 1;
             }
         }
-        asked.colored = self.screen.is_colored(asked.color);
         if asked.quiet {
             let ended = self.search_read(&asked, sought, &mut io::sink(), err);
             return status_of(alloc, true, ended, err);
@@ -248,15 +252,15 @@ impl<
         err: &mut Errors<E>,
     ) -> u8
         ensures status { result ≤ 2 }
-        ensures ends { Ends (map string_bytes words.now) result }
+        ensures ends { EndsBy (X.IsFixed self.entry.texts) (X.functions self.entry.texts) (map string_bytes words.now) result }
         ensures bad_words { ¬ (AskForText (map string_bytes words.now)) → ¬ (AskForSearch (map string_bytes words.now))
             → (result ≡ 2) ⊎ (result ≡ 1) }
         ensures untouched { result ≡ 2 → W.contents out.new ≡ W.contents out.old }
-        ensures done { result ≡ 0 → IsDone S.FileSystem X.Texts ⟦<Bare<T, Based<S>> as Iterator>⟧.next_gives
-            ⟦<Ruled<T, Based<S>, Based<X>> as Iterator>⟧.next_gives self.entry
+        ensures done { result ≡ 0 → IsDone S.FileSystem X.Texts ⟦<Bare<T, Searched<S>> as Iterator>⟧.next_gives
+            ⟦<Ruled<T, Searched<S>, Based<X>> as Iterator>⟧.next_gives self.entry
             (map string_bytes words.now) (W.contents out.old) (W.contents out.new) }
-        ensures failed { result ≡ 1 → IsFailed S.FileSystem X.Texts ⟦<Bare<T, Based<S>> as Iterator>⟧.next_gives
-            ⟦<Ruled<T, Based<S>, Based<X>> as Iterator>⟧.next_gives self.entry
+        ensures failed { result ≡ 1 → IsFailed S.FileSystem X.Texts ⟦<Bare<T, Searched<S>> as Iterator>⟧.next_gives
+            ⟦<Ruled<T, Searched<S>, Based<X>> as Iterator>⟧.next_gives self.entry
             (map string_bytes words.now) (W.contents out.old) (W.contents out.new) E.contents err.new }
         ensures refused { result ≡ 2 → IsTold E.contents (codes "seek") err.new }
     {
@@ -278,6 +282,7 @@ impl<
             Ok(owner) => asked.owner = owner,
             Err(unowned) => return unowned.tell(alloc, err),
         }
+        asked.colored = screen.is_colored(asked.color);
         let (Ok(disk), Ok(texts)) = (
             Based::new(alloc, disk, &asked),
             Based::new(alloc, texts, &asked),
@@ -288,6 +293,11 @@ impl<
         if !has_folder(alloc, &disk, &asked, err) {
             return 1;
         }
+        let index = match index_asked(alloc, &texts, &asked) {
+            Ok(index) => index,
+            Err(unindexed) => return unindexed.tell(alloc, err),
+        };
+        let disk = Disk::new(disk, index, asked.needs_metadata());
         Seek {
             rt,
             clock,
@@ -307,19 +317,20 @@ impl<
     ///
     /// The status is 0 if everything was searched, or as much as was asked for, and there was no error. It is 1 if there
     /// was one, if the times that are named aren't known, if memory ran out, or if the output can't be written: if the
-    /// search didn't end, `err` tells why last. It is 2 for bad words, and then nothing is printed. If the words ask for the
-    /// status alone, nothing is printed. Then the status is 0 as soon as one entry is found, and 1 if none is.
+    /// search didn't end, `err` tells why last. It is 2 for bad words, or if the file that is named for an index is no
+    /// snapshot of the only root, and then nothing is printed. If the words ask for the status alone, nothing is printed.
+    /// Then the status is 0 as soon as one entry is found, and 1 if none is.
     pub fn run<W: Write, E: Write>(self, words: &[String], out: &mut W, err: &mut Errors<E>) -> u8
         ensures status { result ≤ 2 }
-        ensures ends { Ends (joined (map string_bytes words.now)) result }
+        ensures ends { EndsBy (X.IsFixed self.entry.texts) (X.functions self.entry.texts) (joined (map string_bytes words.now)) result }
         ensures bad_words { ¬ (AskForText (joined (map string_bytes words.now))) → ¬ (AskForSearch (joined (map string_bytes words.now)))
             → (result ≡ 2) ⊎ (result ≡ 1) }
         ensures untouched { result ≡ 2 → W.contents out.new ≡ W.contents out.old }
-        ensures done { result ≡ 0 → IsDone S.FileSystem X.Texts ⟦<Bare<T, Based<S>> as Iterator>⟧.next_gives
-            ⟦<Ruled<T, Based<S>, Based<X>> as Iterator>⟧.next_gives self.entry
+        ensures done { result ≡ 0 → IsDone S.FileSystem X.Texts ⟦<Bare<T, Searched<S>> as Iterator>⟧.next_gives
+            ⟦<Ruled<T, Searched<S>, Based<X>> as Iterator>⟧.next_gives self.entry
             (joined (map string_bytes words.now)) (W.contents out.old) (W.contents out.new) }
-        ensures failed { result ≡ 1 → IsFailed S.FileSystem X.Texts ⟦<Bare<T, Based<S>> as Iterator>⟧.next_gives
-            ⟦<Ruled<T, Based<S>, Based<X>> as Iterator>⟧.next_gives self.entry
+        ensures failed { result ≡ 1 → IsFailed S.FileSystem X.Texts ⟦<Bare<T, Searched<S>> as Iterator>⟧.next_gives
+            ⟦<Ruled<T, Searched<S>, Based<X>> as Iterator>⟧.next_gives self.entry
             (joined (map string_bytes words.now)) (W.contents out.old) (W.contents out.new) E.contents err.new }
         ensures refused { result ≡ 2 → IsTold E.contents (codes "seek") err.new }
     {

@@ -40,6 +40,7 @@ shown_asks rows asked times colored owner asks = record {
   follow = asks.follow;
   one_file_system = asks.one_file_system;
   sort = asks.sort;
+  index = asks.index;
   depths = asks.depths;
   kinds = asks.kinds;
   extensions = asks.extensions;

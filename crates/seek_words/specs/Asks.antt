@@ -69,6 +69,10 @@ AreDepthsIn rows depths =
     (exact : Option ℕ) × (least : Option ℕ) × (greatest : Option ℕ) × IsNumberOf (one_of (codes "exact-depth") rows) exact
     × IsNumberOf (one_of (codes "min-depth") rows) least × IsNumberOf (one_of (codes "max-depth") rows) greatest × (depths ≡ depths_by exact least greatest)
 
+-- whether the entries of a directory are sorted: if that is named, and over an index
+abbrev pub sorts : List Row → Bool
+sorts rows = is_named rows (codes "sort") || has_value rows (codes "index")
+
 -- whether one of two names is among these
 abbrev pub names_one : List Text → Text → Text → Bool
 names_one names a b = list_any (λ name. bytes_eq name a || bytes_eq name b) names
@@ -111,7 +115,8 @@ pub record Asks (rows : List Row) (asked : Asked) : Type 0 where
   pub no_parents : IsOn (is_named rows (codes "no-ignore-parent")) (is_named rows (codes "ignore-parent")) asked.no_parents
   pub follow : IsOn (is_named rows (codes "follow")) (is_named rows (codes "no-follow")) asked.follow
   pub one_file_system : asked.one_file_system ≡ is_named rows (codes "one-file-system")
-  pub sort : asked.sort ≡ is_named rows (codes "sort")
+  pub sort : asked.sort ≡ sorts rows
+  pub index : option_map (λ it. it.now) asked.index ≡ first_of (codes "index") rows
   pub depths : AreDepthsIn rows asked.depths
   pub kinds : asked.kinds ≡ kinds_in (values_in rows (codes "type"))
   pub extensions : texts_of asked.extensions.items ≡ values_in rows (codes "extension")

@@ -62,7 +62,8 @@ search_rule = record (valued_rule (codes "search-path")) { action = Some Append 
 -- the reach and the order of a walk
 abbrev pub reach_rules : List Rule
 reach_rules =
-    search_rule ∷ valued_rule (codes "base-directory") ∷ file_system_rule ∷ long_flag_rule (codes "prune") ∷ long_flag_rule (codes "sort") ∷ threads_rule ∷ []
+    search_rule ∷ valued_rule (codes "base-directory") ∷ file_system_rule ∷ long_flag_rule (codes "prune") ∷ long_flag_rule (codes "sort")
+    ∷ valued_rule (codes "index") ∷ threads_rule ∷ []
 
 -- the types, by these names
 abbrev pub kind_rule : Bor (List (Bor Text)) → Rule

@@ -48,6 +48,8 @@ pub struct Asked<'w> {
     pub one_file_system: bool,
     /// The entries of a directory are in the order of their names.
     pub sort: bool,
+    /// The file with the snapshot that unchanged directories are listed from, if one is named.
+    pub index: Option<&'w str>,
     /// The depths of what is looked for.
     pub depths: Depths,
     /// The types of what is looked for.

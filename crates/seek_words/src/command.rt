@@ -211,6 +211,12 @@ fn reach_options<'a>(alloc: Global) -> Result<Vec<Arg<'a>>, AllocError>
             "Don't look for anything below a directory that is found",
         ),
         long_flag(alloc, "sort", "The entries of a directory by their names",),
+        valued(
+            alloc,
+            "index",
+            "FILE",
+            "Take the names in unchanged directories from a snapshot of `since`, and sort",
+        ),
         threads_option(alloc),
     ]?)
 }

@@ -3,9 +3,9 @@ ghost use Rattle.std.specs.Prelude.{◌≡◌, [], codes, is_some, map, option_m
 ghost use Rattle.std.specs.List.{list_any};
 ghost use Rattle.clap.specs.Words.{found_of, rows_of, first_of};
 ghost use Rattle.program_parts.specs.Values.{has_value, is_named, values_in, texts_of};
-ghost use Rattle.seek_words.specs.Asks.{is_either_named, ChoosesOne, IsOn, chosen_case, IsCaseIn, IsColorIn, AreReadingsIn, roots_in, depths_by, AreDepthsIn, names_one, kinds_in, is_slash, AreResultsIn, Asks};
+ghost use Rattle.seek_words.specs.Asks.{is_either_named, ChoosesOne, IsOn, chosen_case, IsCaseIn, IsColorIn, AreReadingsIn, roots_in, depths_by, AreDepthsIn, names_one, sorts, kinds_in, is_slash, AreResultsIn, Asks};
 ghost use Rattle.seek_words.specs.AsksFor.{AskFor};
-ghost use Rattle.seek_words.specs.Conflict.{has_conflict};
+ghost use Rattle.seek_words.specs.Conflict.{has_conflict, has_depth_conflict, has_index_conflict};
 ghost use Rattle.seek_words.specs.Refusal.{IsRefusedFor, IsRefusedColor, IsRefusedSize, IsRefusedTime, IsRefusedValue};
 ghost use Rattle.seek_words.specs.Size.{size_in};
 ghost use Rattle.seek_words.specs.Time.{time_in};
@@ -251,6 +251,13 @@ fn kinds_named(alloc: Global, found: &ArgMatches<'_>) -> Result<Kinds, AllocErro
     Ok(kinds_of(names.as_slice()))
 }
 
+/// Returns whether entries are sorted: an index lists them so.
+fn sorts(found: &ArgMatches<'_>) -> bool
+    ensures { result ≡ sorts (rows_of (found_of found.now)) }
+{
+    is_named(found, "sort") || has_value(found, "index")
+}
+
 /// The owner and the times are left open, as the words alone don't set them.
 fn asked_of<'w>(alloc: Global, found: &ArgMatches<'w>) -> Result<Asked<'w>, Refusal<'w>>
     ensures asked { IfOk result (Asks (rows_of (found_of found.now))) }
@@ -280,7 +287,8 @@ fn asked_of<'w>(alloc: Global, found: &ArgMatches<'w>) -> Result<Asked<'w>, Refu
         no_parents: is_on(found, "no-ignore-parent", "ignore-parent"),
         follow: is_on(found, "follow", "no-follow"),
         one_file_system: is_named(found, "one-file-system"),
-        sort: is_named(found, "sort"),
+        sort: sorts(found),
+        index: value_of(found, "index"),
         depths: depths_of(found),
         kinds,
         extensions: values_of(alloc, found, "extension")?,
@@ -314,8 +322,8 @@ fn has_slash(text: &str) -> bool
     text.as_bytes().iter().any(|byte| *byte == b'/')
 }
 
-fn conflict_of(found: &ArgMatches<'_>) -> Option<(&'static str, &'static str)>
-    ensures { is_some result ≡ has_conflict (rows_of (found_of found.now)) }
+fn depth_conflict(found: &ArgMatches<'_>) -> Option<(&'static str, &'static str)>
+    ensures { is_some result ≡ has_depth_conflict (rows_of (found_of found.now)) }
 {
     if !has_value(found, "exact-depth") {
         return None;
@@ -327,6 +335,31 @@ fn conflict_of(found: &ArgMatches<'_>) -> Option<(&'static str, &'static str)>
         return Some(("exact-depth", "max-depth"));
     }
     None
+}
+
+/// Records have names and types alone: neither where a link leads nor what is on another file system.
+fn index_conflict(found: &ArgMatches<'_>) -> Option<(&'static str, &'static str)>
+    ensures { is_some result ≡ has_index_conflict (rows_of (found_of found.now)) }
+{
+    if !has_value(found, "index") {
+        return None;
+    }
+    if is_named(found, "follow") {
+        return Some(("index", "follow"));
+    }
+    if is_named(found, "one-file-system") {
+        return Some(("index", "one-file-system"));
+    }
+    None
+}
+
+fn conflict_of(found: &ArgMatches<'_>) -> Option<(&'static str, &'static str)>
+    ensures { is_some result ≡ has_conflict (rows_of (found_of found.now)) }
+{
+    match depth_conflict(found) {
+        Some(options) => Some(options),
+        None => index_conflict(found),
+    }
 }
 
 /// Reads the words of a call. The first word is the program's name.
