@@ -1,2 +1,3 @@
 pub mod CrewFacts
 pub mod FolderFacts
+pub mod YieldedFacts

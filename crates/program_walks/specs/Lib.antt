@@ -1,2 +1,3 @@
 pub mod Crew
 pub mod Folders
+pub mod Yielded

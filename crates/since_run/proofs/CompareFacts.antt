@@ -21,6 +21,7 @@ use Rattle.jwalk_indexed_fs.proofs.WalkFacts.{types_are_enough}
 use Rattle.jwalk_snapshot.specs.Text.{Call as SavedCall, Content, folder_of}
 use Rattle.jwalk_snapshot.specs.declared.block.Block.{Block}
 use Rattle.program_walks.specs.Crew.{CrewCallsOf}
+use Rattle.program_walks.specs.Yielded.{Honours, Walked}
 use Rattle.since_words.specs.declared.asked.Asked.{Asked}
 use Rattle.since_parts.specs.Differences.{Difference}
 use Rattle.since_parts.specs.Records.{IsIndexOf}
@@ -33,7 +34,7 @@ use Rattle.since_run.specs.Compared.{Compares, ComparesQuickly, IsTreeAt, IsTree
 use Rattle.since_run.specs.Finds.{Finds, FindsAll, FindsQuickly}
 use Rattle.since_run.specs.Run.{root_asked, text_asked, words_in, IsChoice}
 use Rattle.since_run.specs.Walks.{options_for, typed_below}
-use Rattle.since_run.specs.Yielded.{Honours, IsTyped, NoStates, OnlyRules, Walked, Walks}
+use Rattle.since_run.specs.Yielded.{IsTyped, NoStates, OnlyRules, Walks}
 use Rattle.since_run.proofs.FindFacts.{finds_as}
 use Rattle.since_run.specs.declared.call.Call.{Call}
 use Rattle.since_run.specs.declared.compare.Told.{Told}
@@ -43,7 +44,7 @@ pub written_at : {T X : Type 0} (call : Call T X) (before after : Option (List �
     → Appends before after (text_asked call these) → Appends before after (text_asked call others)
 written_at call before after these others same written = subst (λ l. Appends before after (text_asked call l)) same written
 
-module _ {T Z X : Type 0} (files : FileSystem.Ghosts Z) (texts : Texts.Ghosts X) (plain : CrewCallsOf T NoStates (Arc Z Global) Excluding Global (Unit {0}) (Unit {0})) (honouring : CrewCallsOf T OnlyRules (Arc Z Global) (Honours X) Global RulesState (Unit {0})) where
+module _ {T Z X : Type 0} (files : FileSystem.Ghosts Z) (texts : Texts.Ghosts X) (plain : CrewCallsOf T NoStates (Arc Z Global) Excluding Global (Unit {0}) (Unit {0})) (honouring : CrewCallsOf T OnlyRules (Arc Z Global) (Honours X Global) Global RulesState (Unit {0})) where
   -- a full comparison doesn't go by quick walks
   abbrev pub full : Walks T Z X
   full = record { files = files; texts = texts; plain = plain; honouring = honouring; quick = λ old answer new. Unit {0} }

@@ -25,6 +25,7 @@ use Rattle.jwalk_ignore.specs.declared.callback.excluding.Excluding.{Excluding}
 use Rattle.jwalk_ignore.specs.declared.callback.states.RulesState.{RulesState}
 use Rattle.jwalk_snapshot.specs.declared.block.Listing.{Listing}
 use Rattle.program_walks.specs.Crew.{CrewCallsOf}
+use Rattle.program_walks.specs.Yielded.{Honours, Walked}
 use Rattle.since_parts.specs.Facts.{Seen}
 use Rattle.since_parts.specs.Found.{HasAll, found_in, found_one, is_clean, is_read}
 use Rattle.since_parts.specs.Listing.{listed_in, listed_one}
@@ -34,7 +35,7 @@ use Rattle.since_parts.specs.declared.found.Found.{Found}
 use Rattle.since_parts.specs.declared.tree.Tree.{Tree}
 use Rattle.since_run.specs.Finds.{Finds, TakesWalk}
 use Rattle.since_run.specs.Walks.{all_below, chosen_below, kept_below}
-use Rattle.since_run.specs.Yielded.{Honours, IsHonouring, IsPlain, Walked}
+use Rattle.since_run.specs.Yielded.{IsHonouring, IsPlain}
 
 right_true : (a b : Bool) → (a && b) ≡ true → b ≡ true
 right_true true b is = is
@@ -111,21 +112,7 @@ finds_as always more is finds = record {
   has = finds.has;
 }
 
--- the answers of a walk with further facts
-pub yielded_so : {T C S P R E : Type 0} {calls : CrewCallsOf T C S P Global R E} {is be : WalkDirGeneric C S P Global (Crew T) R E → Type 0} → ((walk : WalkDirGeneric C S P Global (Crew T) R E) → is walk → be walk)
-    → (answers : List (Item Worth Worth)) → Walked calls is answers → Walked calls be answers
-yielded_so more answers y = record {
-  walk = y.walk;
-  is_so = more y.walk y.is_so;
-  it = y.it;
-  starts = y.starts;
-  yielded = y.yielded;
-  drains = y.drains;
-  given = y.given;
-  counted = y.counted;
-}
-
-module _ {T Z X C E G H F : Type 0} (plain : CrewCallsOf T G (Arc Z Global) Excluding Global H F) (honouring : CrewCallsOf T C (Arc Z Global) (Honours X) Global RulesState E) (disk : Z) (texts : X) (crew : Option (Arc (Crew T) Global)) (choice : Choice) (root : List ℕ) (answers : List (Item Worth Worth)) where
+module _ {T Z X C E G H F : Type 0} (plain : CrewCallsOf T G (Arc Z Global) Excluding Global H F) (honouring : CrewCallsOf T C (Arc Z Global) (Honours X Global) Global RulesState E) (disk : Z) (texts : X) (crew : Option (Arc (Crew T) Global)) (choice : Choice) (root : List ℕ) (answers : List (Item Worth Worth)) where
   abbrev By : Bool → Type 0
   By b = MatchBool b (Walked honouring (IsHonouring disk texts crew choice root) answers) (Walked plain (IsPlain disk crew choice root) answers)
 

@@ -32,12 +32,13 @@ use Rattle.jwalk_ignore.specs.declared.callback.states.RulesState.{RulesState}
 use Rattle.jwalk_indexed_fs.specs.Index.{Vouches}
 use Rattle.jwalk_indexed_fs.specs.declared.index.Index.{Index}
 use Rattle.program_walks.specs.Crew.{CrewCallsOf}
+use Rattle.program_walks.specs.Yielded.{Honours, Walked}
 use Rattle.since_parts.specs.Found.{HasAll}
 use Rattle.since_parts.specs.declared.choice.Choice.{Choice}
 use Rattle.since_parts.specs.declared.found.Found.{Found}
 use Rattle.since_parts.specs.declared.tree.Tree.{Tree}
 use Rattle.since_run.specs.Walks.{all_below, chosen_below, kept_below, typed_below}
-use Rattle.since_run.specs.Yielded.{Honours, IsHonouring, IsPlain, IsTyped, OnlyRules, Walked, Walks}
+use Rattle.since_run.specs.Yielded.{IsHonouring, IsPlain, IsTyped, OnlyRules, Walks}
 use Rattle.since_run.specs.declared.call.Call.{Call}
 
 -- A walk was begun and yielded answers until its end, and this is what is found of them. If all are clean, and what the walk goes over always returns the same, they are the whole walk.
@@ -69,7 +70,7 @@ module _ {T Z C N R E : Type 0} (files : FileSystem.Ghosts Z) (typed : CrewCalls
 
 module _ {T Z X : Type 0} (walks : Walks T Z X) where
   -- This is what a walk finds with these rules.
-  abbrev pub FindsRuled : {N : Type 0} → WalkDirGeneric OnlyRules (Arc Z Global) N Global (Crew T) RulesState (Unit {0}) → Honours X → Tree → Found → Type 0
+  abbrev pub FindsRuled : {N : Type 0} → WalkDirGeneric OnlyRules (Arc Z Global) N Global (Crew T) RulesState (Unit {0}) → Honours X Global → Tree → Found → Type 0
   FindsRuled walk rule tree =
       Finds (walks.files.IsFixed (arc_value (file_system_of walk)) × walks.texts.IsFixed (arc_value (texts_of rule)) × (rules_held (state_of walk) ≡ no_rules))
       (Walked walks.honouring (Sets (record (with_callback rule (described walk)) { options = with_skip_hidden false (options_of walk) })))

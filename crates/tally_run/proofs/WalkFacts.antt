@@ -39,13 +39,15 @@ use Rattle.jwalk_subtotals.specs.declared.iter.Subtotals.{Subtotals}
 use Rattle.jwalk_subtotals.proofs.StateFacts.{files_same, subtotals_same}
 use Rattle.jwalk_subtotals.proofs.WholeFacts.{all_yielded_beside}
 use Rattle.program_walks.specs.Crew.{CrewCallsOf}
+use Rattle.program_walks.specs.Yielded.{Honours}
+use Rattle.program_walks.proofs.YieldedFacts.{yielded_so}
 use Rattle.tally_run.specs.Counting.{TakesAll, is_clean}
 use Rattle.tally_words.specs.declared.asked.Asked.{Asked}
 use Rattle.tally_run.specs.OneDevice.{on_devices, root_before, root_of as device_of, source_of, staying, Stays}
 use Rattle.tally_run.specs.Results.{Row, Takes, row_of, rows_of}
 use Rattle.tally_run.specs.Shown.{shown_asked}
 use Rattle.tally_run.specs.Walks.{CountsAnswers, CountsBelow, CountsWalk, TakesSubtotals, all_below, counted_below, kept_below, subtotals_asked, subtotals_taken}
-use Rattle.tally_run.specs.Yielded.{Honours, IsHonouring, IsPlain, Walked, YieldedBy}
+use Rattle.tally_run.specs.Yielded.{IsHonouring, IsPlain, WalkedOn, YieldedBy}
 use Rattle.tally_run.specs.declared.counting.Counted.{Counted}
 use Rattle.tally_run.specs.declared.followed_root.FollowedRoot.{FollowedRoot}
 use Rattle.tally_run.specs.declared.one_device.OneDevice.{OneDevice}
@@ -74,23 +76,14 @@ module _ {R E V W : Type 0} (view : R → V) (mark : E → W) (root : List ℕ) 
   all_clean (y ∷ ys) = ap₂ (λ (a b : Bool). a && b) (one_clean y) (all_clean ys)
 
 -- the answers of a walk with further facts
-pub yielded_so : {T C S P A R E : Type 0} {calls : CrewCallsOf T C S P A R E} {is be : WalkDirGeneric C S P A (Crew T) R E → Type 0} {one : Bool} → ((walk : WalkDirGeneric C S P A (Crew T) R E) → is walk → be walk)
-    → (answers : List (Item Worth Worth)) → Walked calls is one answers → Walked calls be one answers
-yielded_so more answers y = record {
-  walk = y.walk;
-  is_so = more y.walk y.is_so;
-  it = y.it;
-  starts = y.starts;
-  yielded = y.yielded;
-  drains = y.drains;
-  given = y.given;
-  counted = y.counted;
-}
+pub walked_so : {T C S P A R E : Type 0} {calls : CrewCallsOf T C S P A R E} {is be : WalkDirGeneric C S P A (Crew T) R E → Type 0} {one : Bool} → ((walk : WalkDirGeneric C S P A (Crew T) R E) → is walk → be walk)
+    → (answers : List (Item Worth Worth)) → WalkedOn calls is one answers → WalkedOn calls be one answers
+walked_so more answers y = (y.0, yielded_so more y.0 y.1, y.2)
 
 -- what is counted of a walk is counted of what it yields by value
 pub below_counted : {T C S P A R E : Type 0} (files : FileSystem.Ghosts S) (process : ProcessReadDir.Ghosts P C A R E) (clone : Clone.Ghosts R) (defaults : Default.Ghosts E) (calls : CrewCallsOf T C S P A R E) (walk : WalkDirGeneric C S P A (Crew T) R E) (given : Given R E) (fixed : Type 0) (is_one : WalkDirGeneric C S P A (Crew T) R E → Type 0) (below : List (Item Worth Worth)) (asked : Asked) (root : List ℕ) (known : List Identity) (old new : Results) (before after : Option (List ℕ)) (counted : Counted)
     → is_one walk → (fixed → IsSteady files process clone defaults (file_system_of walk) (callback_of walk) given) → (fixed → whole_walk (job_for files given walk) (root_of walk) (given.read_dir_state (state_of walk)) ≡ below)
-    → CountsWalk files process clone defaults calls walk asked root known old before new after counted → CountsBelow fixed (Walked calls is_one asked.one_file_system) (on_devices asked.one_file_system below) asked root known old before new after counted
+    → CountsWalk files process clone defaults calls walk asked root known old before new after counted → CountsBelow fixed (WalkedOn calls is_one asked.one_file_system) (on_devices asked.one_file_system below) asked root known old before new after counted
 below_counted files process clone defaults calls walk given fixed is_one below asked root known old new before after counted so steady is counts =
     let o = subtotals_asked asked in
     let shown = shown_asked asked in
@@ -98,7 +91,7 @@ below_counted files process clone defaults calls walk given fixed is_one below a
     let left = on_devices one counts.answered in
     record {
       answered = map (counted_item given) left;
-      such = record {
+      such = (map (counted_item given) counts.answered, record {
         walk = walk;
         is_so = so;
         it = counts.walked.0;
@@ -106,8 +99,8 @@ below_counted files process clone defaults calls walk given fixed is_one below a
         yielded = counts.walked.2;
         drains = counts.walked.3;
         given = given;
-        counted = ap (λ (l : List (Item _ _)). on_devices one (map (counted_item given) l)) counts.walked.4 ∙ devices_same given.read_dir_state given.dir_entry_state one counts.answered;
-      };
+        counted = ap (map (counted_item given)) counts.walked.4;
+      }, devices_same given.read_dir_state given.dir_entry_state one counts.answered);
       whole = λ always clean. sym (devices_same given.read_dir_state given.dir_entry_state one counts.answered) ∙ ap (on_devices one) (counts.whole clean given (steady always) ∙ is always);
       takes = record {
         taken = subst (λ (rows : List Row). Takes rows old before new after)
@@ -133,13 +126,13 @@ below_as always more is counts = record {
 
 module _ {T Z X C E G H F : Type 0} (plain : CrewCallsOf T G (Arc (FollowedRoot Z) Global) Excluding Global H F) (honouring : CrewCallsOf T C (Arc (FollowedRoot Z) Global) (Honours X Global) Global RulesState E) (disk : Z) (texts : X) (crew : Option (Arc (Crew T) Global)) (asked : Asked) (root : List ℕ) (answers : List (Item Worth Worth)) where
   abbrev By : Bool → Type 0
-  By b = MatchBool b (Walked honouring (IsHonouring disk texts crew asked root) asked.one_file_system answers) (Walked plain (IsPlain disk crew asked root) asked.one_file_system answers)
+  By b = MatchBool b (WalkedOn honouring (IsHonouring disk texts crew asked root) asked.one_file_system answers) (WalkedOn plain (IsPlain disk crew asked root) asked.one_file_system answers)
 
   -- the answers below a root are those of one of two walks
-  pub by_rules : asked.ignore ≡ true → Walked honouring (IsHonouring disk texts crew asked root) asked.one_file_system answers → YieldedBy plain honouring disk texts crew asked root answers
+  pub by_rules : asked.ignore ≡ true → WalkedOn honouring (IsHonouring disk texts crew asked root) asked.one_file_system answers → YieldedBy plain honouring disk texts crew asked root answers
   by_rules is y = subst By (sym is) y
 
-  pub by_itself : asked.ignore ≡ false → Walked plain (IsPlain disk crew asked root) asked.one_file_system answers → YieldedBy plain honouring disk texts crew asked root answers
+  pub by_itself : asked.ignore ≡ false → WalkedOn plain (IsPlain disk crew asked root) asked.one_file_system answers → YieldedBy plain honouring disk texts crew asked root answers
   by_itself is y = subst By (sym is) y
 
 -- what is counted below a root, with ignore files and without

@@ -22,7 +22,8 @@ use Rattle.tally_run.specs.Roots.{CountsRoots}
 use Rattle.tally_run.specs.Run.{WritesAsked, roots_asked}
 use Rattle.tally_run.specs.Walks.{counted_below}
 use Rattle.tally_run.specs.Written.{AreNone, AreNoneIn, Finishes, FinishesAs, Writes, WritesAs, are_lines, style_asked, trees_text}
-use Rattle.tally_run.specs.Yielded.{Honours, YieldedBelow}
+use Rattle.program_walks.specs.Yielded.{Honours}
+use Rattle.tally_run.specs.Yielded.{YieldedBelow}
 use Rattle.tally_run.specs.declared.followed_root.FollowedRoot.{FollowedRoot}
 use Rattle.tally_run.specs.declared.walks.Walks.{Walks}
 use Rattle.tally_run.specs.declared.results.Results.{Results}

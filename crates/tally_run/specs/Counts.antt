@@ -21,11 +21,12 @@ use Rattle.jwalk_ignore.specs.declared.callback.excluding.Excluding.{Excluding}
 use Rattle.jwalk_ignore.specs.declared.callback.states.RulesState.{RulesState}
 use Rattle.jwalk_subtotals.specs.Files.{files_of}
 use Rattle.program_walks.specs.Crew.{CrewCallsOf}
+use Rattle.program_walks.specs.Yielded.{Honours}
 use Rattle.tally_words.specs.declared.asked.Asked.{Asked}
 use Rattle.tally_run.specs.OneDevice.{on_devices}
 use Rattle.tally_run.specs.Roots.{CountsMany, CountsRoot, CountsRoots}
 use Rattle.tally_run.specs.Walks.{CountsBelow, all_below, counted_below, kept_below}
-use Rattle.tally_run.specs.Yielded.{Honours, IsHonouring, IsPlain, Walked, YieldedBelow, YieldedBy}
+use Rattle.tally_run.specs.Yielded.{IsHonouring, IsPlain, WalkedOn, YieldedBelow, YieldedBy}
 use Rattle.tally_run.specs.declared.counting.Counted.{Counted}
 use Rattle.tally_run.specs.declared.followed_root.FollowedRoot.{FollowedRoot}
 use Rattle.tally_run.specs.declared.results.Results.{Results}
@@ -45,7 +46,7 @@ module _ {T Z X : Type 0} (files : FileSystem.Ghosts Z) (rules : Texts.Ghosts X)
   abbrev pub CountsRuled : {C N B A E : Type 0} → CrewCallsOf T C (Arc Z B) (Honours X B) A RulesState E → WalkDirGeneric C (Arc Z B) N A (Crew T) RulesState E → Honours X B → Asked → List ℕ → Step
   CountsRuled calls walk rule asked root =
       CountsBelow (files.IsFixed (arc_value (file_system_of walk)) × rules.IsFixed (arc_value (texts_of rule)) × (rules_held (state_of walk) ≡ no_rules))
-      (Walked calls (Sets (record (with_callback rule (described walk)) { options = with_skip_hidden false (options_of walk) })) asked.one_file_system)
+      (WalkedOn calls (Sets (record (with_callback rule (described walk)) { options = with_skip_hidden false (options_of walk) })) asked.one_file_system)
       (on_devices asked.one_file_system (ignoring_walk (files.functions (arc_value (file_system_of walk))) (rules.functions (arc_value (texts_of rule))) (settings_of rule) (excluded_of (next_of rule)) (options_of walk) (root_of walk)))
       asked root
 
@@ -63,13 +64,13 @@ module _ {T Z X C E G H F : Type 0} (files : FileSystem.Ghosts Z) (rules : Texts
   -- A root's walk without ignore files is counted. This crew reads for it, if there is one.
   abbrev pub CountsPlain : Option (Arc (Crew T) Global) → List ℕ → Step
   CountsPlain crew root =
-      CountsBelow (files.IsFixed (arc_value walks.disk)) (Walked plain (IsPlain (arc_value walks.disk) crew walks.asked.now root) walks.asked.now.one_file_system)
+      CountsBelow (files.IsFixed (arc_value walks.disk)) (WalkedOn plain (IsPlain (arc_value walks.disk) crew walks.asked.now root) walks.asked.now.one_file_system)
       (on_devices walks.asked.now.one_file_system (all_below (files.functions (arc_value walks.disk)) walks.asked.now root)) walks.asked.now root
 
   -- The same with ignore files.
   abbrev pub CountsKept : Option (Arc (Crew T) Global) → List ℕ → Step
   CountsKept crew root =
-      CountsBelow (files.IsFixed (arc_value walks.disk) × rules.IsFixed (arc_value walks.texts)) (Walked honouring (IsHonouring (arc_value walks.disk) (arc_value walks.texts) crew walks.asked.now root) walks.asked.now.one_file_system)
+      CountsBelow (files.IsFixed (arc_value walks.disk) × rules.IsFixed (arc_value walks.texts)) (WalkedOn honouring (IsHonouring (arc_value walks.disk) (arc_value walks.texts) crew walks.asked.now root) walks.asked.now.one_file_system)
       (on_devices walks.asked.now.one_file_system (kept_below (files.functions (arc_value walks.disk)) (rules.functions (arc_value walks.texts)) walks.asked.now root)) walks.asked.now root
 
   -- The walk that is asked for below a root is counted. This crew reads for it, if there is one.

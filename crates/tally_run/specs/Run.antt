@@ -13,6 +13,7 @@ use Rattle.jwalk_ignore.specs.declared.callback.excluding.Excluding.{Excluding}
 use Rattle.jwalk_ignore.specs.declared.callback.states.RulesState.{RulesState}
 use Rattle.program_parts.specs.Values.{texts_of}
 use Rattle.program_walks.specs.Crew.{CrewCallsOf, IsCrewOf, threads_in}
+use Rattle.program_walks.specs.Yielded.{Honours}
 use Rattle.tally_words.specs.AsksFor.{AskFor, AskForText}
 use Rattle.tally_words.specs.Refusal.{IsRefusedFor, status_of}
 use Rattle.tally_words.specs.declared.refusal.Refusal.{Refusal}
@@ -23,7 +24,7 @@ use Rattle.tally_run.specs.ExcludeFiles.{IncludesFiles}
 use Rattle.tally_run.specs.Roots.{AreSuch, KeepsFirst, all_rows, all_subtotals}
 use Rattle.tally_run.specs.Walks.{counted_below, subtotals_asked}
 use Rattle.tally_run.specs.Written.{Writes}
-use Rattle.tally_run.specs.Yielded.{Honours, YieldedBelow}
+use Rattle.tally_run.specs.Yielded.{YieldedBelow}
 use Rattle.tally_run.specs.declared.followed_root.FollowedRoot.{FollowedRoot}
 use Rattle.tally_run.specs.declared.screen.Screen.{Screen}
 

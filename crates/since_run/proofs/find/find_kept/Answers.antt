@@ -12,8 +12,9 @@ use Rattle.jwalk_ignore.specs.Callback.States.{rules_held}
 use Rattle.jwalk_ignore.proofs.KeptFacts.{ignoring_same}
 use Rattle.program_walks.specs.Crew.{ReadsBy, with_crew}
 use Rattle.program_walks.proofs.CrewFacts.{hidden_by_crew}
+use Rattle.program_walks.proofs.YieldedFacts.{yielded_so}
 use Rattle.since_run.specs.Walks.{excluded_for, options_for, settings_for}
-use Rattle.since_run.proofs.FindFacts.{finds_as, yielded_so}
+use Rattle.since_run.proofs.FindFacts.{finds_as}
 use Rattle.since_run.proofs.find.find_kept.Goals as goal
 
 pub returns : goal.returns
@@ -46,11 +47,11 @@ returns g c =
     (yielded_so (λ it is. record {
       over = ap arc_value is.file_system ∙ over;
       below = is.root ∙ root;
-      options = is.options ∙ ap (with_skip_hidden false) options;
+      with_options = is.options ∙ ap (with_skip_hidden false) options;
       by = subst (ReadsBy crew) (sym is.crew) built.crew;
       texts_read = ap (λ x. arc_value (texts_in x)) is.callback ∙ from;
-      settings = ap settings_of is.callback ∙ settings;
-      excluded = ap (λ x. excluded_of (next_of x)) is.callback ∙ lines;
+      with_settings = ap settings_of is.callback ∙ settings;
+      without = ap (λ x. excluded_of (next_of x)) is.callback ∙ lines;
       begins = ap rules_held is.state ∙ built.state;
     }))
     (ignoring_same (ap g.S.FileSystem.functions over) (ap g.X.Texts.functions from) settings lines options root

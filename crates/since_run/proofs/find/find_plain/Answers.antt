@@ -34,9 +34,9 @@ returns g c =
     let plain : IsPlain disk crew tree.choice at walk = record {
       over = over;
       below = root;
-      options = options;
+      with_options = options;
       by = subst (ReadsBy crew) (sym set.crew) built.crew;
-      excluded = lines;
+      without = lines;
     } in
     IfOk-weaker c.take_walk.result _ _
     (λ found takes.

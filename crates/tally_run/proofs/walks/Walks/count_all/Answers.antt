@@ -33,12 +33,11 @@ returns g c =
     = set.options ∙ built.options ∙ ap (with_crew (is_some c.args.crew.now)) c.options.ensures in
     let root : root_of walk ≡ c.args.root.now = set.root ∙ built.root ∙ c.in_ok-below.ensures.ok in
     let plain : IsPlain (arc_value self.disk) c.args.crew.now asked c.args.root.now walk = record {
-      over = over;
-      leads_on = from;
+      over = (over, from);
       below = root;
-      options = options;
+      with_options = options;
       by = subst (ReadsBy c.args.crew.now) (sym set.crew) built.crew;
-      excluded = lines;
+      without = lines;
     } in
     IfOk-weaker c.count_walk.result _ _
     (λ counted counts.

@@ -15,7 +15,7 @@ use Rattle.program_walks.proofs.CrewFacts.{hidden_by_crew}
 use Rattle.tally_run.specs.FollowedRoot.{disk_in, functions_from, root_in}
 use Rattle.tally_run.specs.OneDevice.{on_devices}
 use Rattle.tally_run.specs.Walks.{excluded_asked, options_asked, settings_asked}
-use Rattle.tally_run.proofs.WalkFacts.{below_as, yielded_so}
+use Rattle.tally_run.proofs.WalkFacts.{below_as, walked_so}
 use Rattle.tally_run.proofs.walks.Walks.count_kept.Goals as goal
 
 pub returns : goal.returns
@@ -43,15 +43,14 @@ returns g c =
     (λ counted counts.
     below_as
     (λ always. (subst g.S.FileSystem.IsFixed (sym over) always.0, subst g.X.Texts.IsFixed (sym from) always.1, built.state))
-    (yielded_so (λ it is. record {
-      over = ap disk_in is.file_system ∙ over;
-      leads_on = ap root_in is.file_system ∙ at_root;
+    (walked_so (λ it is. record {
+      over = (ap disk_in is.file_system ∙ over, ap root_in is.file_system ∙ at_root);
       below = is.root ∙ built.root ∙ c.in_ok-below.ensures.ok;
-      options = is.options ∙ ap (with_skip_hidden false) options;
+      with_options = is.options ∙ ap (with_skip_hidden false) options;
       by = subst (ReadsBy c.args.crew.now) (sym is.crew) built.crew;
       texts_read = ap (λ x. arc_value (texts_in x)) is.callback ∙ from;
-      settings = ap settings_of is.callback ∙ settings;
-      excluded = ap (λ x. excluded_of (next_of x)) is.callback ∙ lines;
+      with_settings = ap settings_of is.callback ∙ settings;
+      without = ap (λ x. excluded_of (next_of x)) is.callback ∙ lines;
       begins = ap rules_held is.state ∙ built.state;
     }))
     (ap (on_devices asked.one_file_system) (ignoring_same (ap₂ functions_from at_root (ap g.S.FileSystem.functions over)) (ap g.X.Texts.functions from) settings lines options (built.root ∙ c.in_ok-below.ensures.ok)
