@@ -4,6 +4,7 @@ import dataclasses
 import difflib
 import os
 import pty
+import select
 import signal
 import subprocess
 import threading
@@ -62,6 +63,10 @@ def taking_nothing(goal):
         return os.open("/dev/full", os.O_WRONLY)
     ours, end = os.pipe()
     os.close(ours)
+    # A process that another thread starts may hold the reader's end until it runs its program.
+    nobody = select.poll()
+    nobody.register(end, 0)
+    nobody.poll()
     return end
 
 
