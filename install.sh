@@ -41,8 +41,8 @@ wanted_of() { if [ "$1" = walk ]; then echo "0 d /"; else echo "$1 *"; fi; }
 
 build() {
     if [ ! -x "$(built "$1")" ]; then
-        echo "install.sh: $1 isn't built; to prove and build all programs takes about 30 to 45 minutes on four idle cores," >&2
-        echo "install.sh: 60 to 90 on two, and two minutes where the library is proved already" >&2
+        echo "install.sh: $1 isn't built; to prove and build all programs takes about 30 to 50 minutes on four idle cores," >&2
+        echo "install.sh: 60 to 100 on two, and two minutes where the library is proved already" >&2
         (cd "crates/$1" && rt run -- $(call_of "$1") </dev/null >&2)
     fi
 }

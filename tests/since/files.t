@@ -142,6 +142,30 @@ $ since --quick /keep/s
   - a/b/d/e
 = 1
 
+# another place with such a directory keeps the types of what it had below it
+tree
+  d /keep
+  f 1 /r/d/a
+  f 1 /t/d/a
+  f 1 /t/b
+  m 777 /keep
+  m 0 /t/d
+nobody
+$ since -j1 --save /keep/s /r
+$ since -j1 --save /keep/s /t
+  + b
+! since: /t/d: Permission denied (os error 13)
+= 2
+then
+  m 755 /t/d
+  f 5 /t/d/a
+$ since /keep/s
+then
+  - /t/d/a
+$ since /keep/s
+  - d/a
+= 1
+
 # a root that can't be read: the file is left as it is
 tree
   d /keep
